@@ -1,0 +1,4 @@
+pub mod Places
+pub mod Cell
+pub mod Chart
+pub mod Add

@@ -1,0 +1,2 @@
+pub mod Dim
+pub mod Rules

@@ -1,0 +1,3 @@
+pub mod Closure
+pub mod Pigeon
+pub mod Escape

@@ -1,0 +1,4 @@
+pub mod Side
+pub mod Partners
+pub mod Sew
+pub mod Pairing

@@ -1,0 +1,164 @@
+-- The calls: each gives "number, place, count", and the table, marks and journal as it leaves them.
+-- A call that takes no marks or no journal has [] for it.
+use Prim.Native.Nat.{ℕ, _+_, _*_, _-_}
+use mathlib.Core.Bool.{Bool, true, false, _&&_}
+use mathlib.Core.List.{List, [], _∷_}
+use lib.ListN.{length, getD, set}
+use lib.Dec.{leb}
+use Rattle.model.specs.Lists.{count, ones}
+use Rattle.model.specs.Table.{slots}
+use Rattle.model.specs.Map.{isMap}
+use Rattle.model.specs.Cell.{cellSize, isBlock}
+use Rattle.model.specs.Orbit.{orbit, orbitPlace}
+use Rattle.model.specs.Sheet.{sheet, sheetMarks}
+use Rattle.model.specs.Add.{addSlots, addTable}
+use Rattle.model.specs.Sew.{sewTable, unsewTable}
+use Rattle.model.specs.Remove.{removeTable}
+use Rattle.model.specs.Split.{splitSlots, splitTable}
+use Rattle.model.specs.Journal.{Change, cursor, end, changesFrom, recordOf, written, changesAt, put, unbroken}
+use Rattle.model.specs.Checks.{pass, refuse, inOrder, checkChecks, orbitChecks, sheetChecks, addChecks, sewChecks, unsewChecks}
+use Rattle.model.specs.Checks.{layerChecks, splitChecks, stepChecks, undoOk, redoOk}
+
+pub record Outcome : Type 0 where
+  pub number : ℕ
+  pub place : ℕ
+  pub count : ℕ
+  pub table : List ℕ
+  pub marks : List ℕ
+  pub journal : List ℕ
+
+-- "On a refusal count is 0", and table and journal stay
+unfoldable pub refused : ℕ → ℕ → List ℕ → List ℕ → List ℕ → Outcome
+refused k p t m j = record { number = k; place = p; count = 0; table = t; marks = m; journal = j }
+
+-- "An accepted add, sew, unsew, remove or split writes its record (every entry whose value changed) at the cursor";
+-- 15: "record longer than the words from cursor to length". u is the new table, p the place, size gives the count
+unfoldable pub commit : List ℕ → List ℕ → List ℕ → List ℕ → ℕ → (List Change → ℕ) → Outcome
+commit t u m j p size =
+    let cs = changesFrom 0 t u in
+    let r = recordOf cs in
+    elim (leb (length r) (length j - cursor j)) [
+      | true ↦ record { number = 0; place = p; count = size cs; table = u; marks = m; journal = written j r }
+      | false ↦ refused 15 0 t m j
+    ]
+
+-- ---- the calls that change nothing but marks
+
+-- "count 1 for a map, 2 for a block map"
+unfoldable pub checkCall : ℕ → List ℕ → Outcome
+checkCall n t =
+    elim (inOrder (checkChecks n t)) [
+      | pass ↦ record {
+        number = 0;
+        place = 0;
+        count = elim (isBlock n t) [ true ↦ 2 | false ↦ 1 ];
+        table = t;
+        marks = [];
+        journal = [];
+      }
+      | refuse k p ↦ refused k p t [] []
+    ]
+
+-- "Marks: 1 reached, 0 otherwise. Count: darts reached."
+unfoldable pub orbitCall : ℕ → List ℕ → List ℕ → ℕ → ℕ → Outcome
+orbitCall n t m mask d =
+    elim (inOrder (orbitChecks n t m mask d)) [
+      | pass ↦ (
+          let s = orbit n t mask d in
+          record { number = 0; place = orbitPlace n mask; count = count 1 s; table = t; marks = s; journal = [] })
+      | refuse k p ↦ refused k p t m []
+    ]
+
+-- "Count: size of S."
+unfoldable pub sheetCall : ℕ → List ℕ → List ℕ → ℕ → Outcome
+sheetCall n t m d =
+    elim (inOrder (sheetChecks n t m d)) [
+      | pass ↦ (
+          let s = sheet n t d in
+          record { number = 0; place = 0; count = count 1 s; table = t; marks = sheetMarks n t s; journal = [] })
+      | refuse k p ↦ refused k p t m []
+    ]
+
+-- ---- the operations
+
+-- "Place: first slot. Count: 8 or 48."
+unfoldable pub addCall : ℕ → List ℕ → List ℕ → Outcome
+addCall n t j =
+    elim (inOrder (addChecks n t j)) [
+      | pass ↦ commit t (addTable n t) [] j (getD (addSlots n t) 0 0) (λ cs. cellSize n)
+      | refuse k p ↦ refused k p t [] j
+    ]
+
+-- "Count: entries changed."
+unfoldable pub sewCall : ℕ → List ℕ → List ℕ → ℕ → ℕ → ℕ → Outcome
+sewCall n t j i d e =
+    elim (inOrder (sewChecks n t j i d e)) [
+      | pass ↦ commit t (sewTable n t i d e) [] j 0 (λ cs. length cs)
+      | refuse k p ↦ refused k p t [] j
+    ]
+
+-- "Count: entries changed."
+unfoldable pub unsewCall : ℕ → List ℕ → List ℕ → ℕ → ℕ → Outcome
+unsewCall n t j i d =
+    elim (inOrder (unsewChecks n t j i d)) [
+      | pass ↦ commit t (unsewTable n t i d) [] j 0 (λ cs. length cs)
+      | refuse k p ↦ refused k p t [] j
+    ]
+
+-- "Remove and split take marks too and leave them as sheet gives them before the change." "Count: darts removed."
+unfoldable pub removeCall : ℕ → List ℕ → List ℕ → List ℕ → ℕ → Outcome
+removeCall n t m j d =
+    elim (inOrder (layerChecks n t m j d)) [
+      | pass ↦ (
+          let marks = sheetMarks n t (sheet n t d) in
+          commit t (removeTable n t d) marks j 0 (λ cs. slots t - count 0 marks))
+      | refuse k p ↦ refused k p t m j
+    ]
+
+-- "Place: first new slot. Count: darts added."
+unfoldable pub splitCall : ℕ → List ℕ → List ℕ → List ℕ → ℕ → Outcome
+splitCall n t m j d =
+    elim (inOrder (layerChecks n t m j d)) [
+      | pass ↦ (
+          let s = sheet n t d in
+          let gs = ones s in
+          let marks = sheetMarks n t s in
+          elim (inOrder (splitChecks n t s gs)) [
+            | pass ↦ commit t (splitTable n t d) marks j (getD (splitSlots n t gs) 0 0) (λ cs. n * length gs)
+            | refuse k p ↦ refused k p t marks j
+          ])
+      | refuse k p ↦ refused k p t m j
+    ]
+
+-- ---- undo and redo
+
+-- the record of k changes at the word a is put back, and the cursor goes to c: "Undo and redo change only the cursor
+-- word"; 17: "record broken, or result no map". "Count: entries changed."
+unfoldable pub stepOutcome : Bool → ℕ → List ℕ → List ℕ → ℕ → ℕ → ℕ → Outcome
+stepOutcome redo n t j a k c =
+    let u = put redo (changesAt j a k) t in
+    elim (unbroken redo t j a k && isMap n u) [
+      | true ↦ record { number = 0; place = 0; count = k; table = u; marks = []; journal = set j 0 c }
+      | false ↦ refused 17 0 t [] j
+    ]
+
+-- the record before the cursor
+unfoldable pub undoCall : ℕ → List ℕ → List ℕ → Outcome
+undoCall n t j =
+    elim (inOrder (stepChecks n t j (undoOk j))) [
+      | pass ↦ (
+          let k = getD j (cursor j - 1) 0 in
+          let a = cursor j - (3 * k + 2) in
+          stepOutcome false n t j a k a)
+      | refuse k p ↦ refused k p t [] j
+    ]
+
+-- the record at the cursor
+unfoldable pub redoCall : ℕ → List ℕ → List ℕ → Outcome
+redoCall n t j =
+    elim (inOrder (stepChecks n t j (redoOk j))) [
+      | pass ↦ (
+          let k = getD j (cursor j) 0 in
+          stepOutcome true n t j (cursor j) k (cursor j + (3 * k + 2)))
+      | refuse k p ↦ refused k p t [] j
+    ]

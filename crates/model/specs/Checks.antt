@@ -1,0 +1,143 @@
+-- Numbers a call gives back: for each number the check that refuses by it, and for each call its checks,
+-- which "run in the order of the numbers". 15 and 17 ask what a call would write or put back: they stand with the calls.
+use Prim.Native.Nat.{ℕ, _+_, _*_, _%_, _^_}
+use mathlib.Core.Bool.{Bool, true, false, not, _&&_, _||_}
+use mathlib.Core.List.{List, [], _∷_}
+use lib.ListN.{length}
+use lib.Dec.{leb, ltb, eqb}
+use Rattle.model.specs.Table.{slots, link, live}
+use Rattle.model.specs.Map.{leastBreaking}
+use Rattle.model.specs.Reach.{inSet}
+use Rattle.model.specs.Cell.{cellSize, leastWrong}
+use Rattle.model.specs.Add.{addSlots}
+use Rattle.model.specs.Sew.{side, isPaired}
+use Rattle.model.specs.Split.{crosses, splitSlots}
+use Rattle.model.specs.Journal.{cursor, end}
+
+-- passed, or refused: the number and the place
+pub data Check : Type 0 where
+  pass : Check
+  refuse : ℕ → ℕ → Check
+
+unfoldable pub must : Bool → ℕ → Check
+must true k = pass
+must false k = refuse k 0
+
+unfoldable pub mustAt : Bool → ℕ → ℕ → Check
+mustAt true k p = pass
+mustAt false k p = refuse k p
+
+unfoldable pub andThen : Check → Check → Check
+andThen pass c = c
+andThen (refuse k p) c = refuse k p
+
+-- the first refusal, or passed
+unfoldable pub inOrder : List Check → Check
+inOrder [] = pass
+inOrder (c ∷ cs) = andThen c (inOrder cs)
+
+-- ---- the checks, by number
+
+-- 1: "n not 2 or 3"
+unfoldable pub dimOk : ℕ → Check
+dimOk n = must (eqb n 2 || eqb n 3) 1
+
+-- 2: "table length no multiple of 4, or above 262,144"
+unfoldable pub tableOk : List ℕ → Check
+tableOk t = must (eqb (length t % 4) 0 && leb (length t) 262144) 2
+
+-- 3: "marks length differs from slots"
+unfoldable pub marksOk : List ℕ → List ℕ → Check
+marksOk t m = must (eqb (length m) (slots t)) 3
+
+-- 4: "journal length or its two words out of rule"
+unfoldable pub journalOk : List ℕ → Check
+journalOk j =
+    must (leb 2 (length j) && leb (length j) 1048576 && leb 2 (cursor j) && leb (cursor j) (end j) && leb (end j) (length j)) 4
+
+-- 5: "not a map; place: least slot that breaks a rule"
+unfoldable pub mapOk : ℕ → List ℕ → Check
+mapOk n t = let b = leastBreaking n t in mustAt (eqb b (slots t)) 5 b
+
+-- 6: "i above n, or mask above 2^(n+1) - 1"
+unfoldable pub indexOk : ℕ → ℕ → Check
+indexOk n i = must (leb i n) 6
+
+unfoldable pub maskOk : ℕ → ℕ → Check
+maskOk n mask = must (ltb mask (2 ^ (n + 1))) 6
+
+-- 7: "d or e not a live slot"
+unfoldable pub dartOk : List ℕ → ℕ → Check
+dartOk t d = must (live t d) 7
+
+-- 8: "not a block map; place: least live slot in a wrong cell"
+unfoldable pub blockOk : ℕ → List ℕ → Check
+blockOk n t = let b = leastWrong n t in mustAt (eqb b (slots t)) 8 b
+
+-- 9: "e in d's side"
+unfoldable pub apartOk : ℕ → List ℕ → ℕ → ℕ → ℕ → Check
+apartOk n t i d e = must (not (inSet (side n t i d) e)) 9
+
+-- 10: "d or e not i-free"
+unfoldable pub freeOk : List ℕ → ℕ → ℕ → ℕ → Check
+freeOk t i d e = must (eqb (link t i d) d && eqb (link t i e) e) 10
+
+-- 11: "d is i-free"
+unfoldable pub sewnOk : List ℕ → ℕ → ℕ → Check
+sewnOk t i d = must (not (eqb (link t i d) d)) 11
+
+-- 12: "no pairing exists"
+unfoldable pub pairingOk : ℕ → List ℕ → ℕ → ℕ → ℕ → Check
+pairingOk n t i d e = must (isPaired n t i d e) 12
+
+-- 13: "some g in S has g.1 in S", where gs are the darts of S
+unfoldable pub crossingOk : List ℕ → List ℕ → List ℕ → Check
+crossingOk t s gs = must (not (crosses t s gs)) 13
+
+-- 14: "too few unused slots"
+unfoldable pub addRoomOk : ℕ → List ℕ → Check
+addRoomOk n t = must (eqb (length (addSlots n t)) (cellSize n)) 14
+
+unfoldable pub splitRoomOk : ℕ → List ℕ → List ℕ → Check
+splitRoomOk n t gs = must (eqb (length (splitSlots n t gs)) (n * length gs)) 14
+
+-- 16: "cursor 2 (undo); cursor = end (redo)"
+unfoldable pub undoOk : List ℕ → Check
+undoOk j = must (not (eqb (cursor j) 2)) 16
+
+unfoldable pub redoOk : List ℕ → Check
+redoOk j = must (not (eqb (cursor j) (end j))) 16
+
+-- ---- the checks, by call
+
+unfoldable pub checkChecks : ℕ → List ℕ → List Check
+checkChecks n t = dimOk n ∷ tableOk t ∷ mapOk n t ∷ []
+
+unfoldable pub orbitChecks : ℕ → List ℕ → List ℕ → ℕ → ℕ → List Check
+orbitChecks n t m mask d = dimOk n ∷ tableOk t ∷ marksOk t m ∷ mapOk n t ∷ maskOk n mask ∷ dartOk t d ∷ []
+
+unfoldable pub sheetChecks : ℕ → List ℕ → List ℕ → ℕ → List Check
+sheetChecks n t m d = dimOk n ∷ tableOk t ∷ marksOk t m ∷ mapOk n t ∷ dartOk t d ∷ blockOk n t ∷ []
+
+unfoldable pub addChecks : ℕ → List ℕ → List ℕ → List Check
+addChecks n t j = dimOk n ∷ tableOk t ∷ journalOk j ∷ mapOk n t ∷ addRoomOk n t ∷ []
+
+unfoldable pub sewChecks : ℕ → List ℕ → List ℕ → ℕ → ℕ → ℕ → List Check
+sewChecks n t j i d e =
+    dimOk n ∷ tableOk t ∷ journalOk j ∷ mapOk n t ∷ indexOk n i ∷ dartOk t d ∷ dartOk t e
+    ∷ apartOk n t i d e ∷ freeOk t i d e ∷ pairingOk n t i d e ∷ []
+
+unfoldable pub unsewChecks : ℕ → List ℕ → List ℕ → ℕ → ℕ → List Check
+unsewChecks n t j i d = dimOk n ∷ tableOk t ∷ journalOk j ∷ mapOk n t ∷ indexOk n i ∷ dartOk t d ∷ sewnOk t i d ∷ []
+
+-- of remove, and of split those that leave the marks as lent
+unfoldable pub layerChecks : ℕ → List ℕ → List ℕ → List ℕ → ℕ → List Check
+layerChecks n t m j d = dimOk n ∷ tableOk t ∷ marksOk t m ∷ journalOk j ∷ mapOk n t ∷ dartOk t d ∷ blockOk n t ∷ []
+
+-- of split those that leave the marks of the sheet s, whose darts are gs
+unfoldable pub splitChecks : ℕ → List ℕ → List ℕ → List ℕ → List Check
+splitChecks n t s gs = crossingOk t s gs ∷ splitRoomOk n t gs ∷ []
+
+-- of undo and redo, of which `there` says that there is a record
+unfoldable pub stepChecks : ℕ → List ℕ → List ℕ → Check → List Check
+stepChecks n t j there = dimOk n ∷ tableOk t ∷ journalOk j ∷ mapOk n t ∷ there ∷ []

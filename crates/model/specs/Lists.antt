@@ -1,0 +1,52 @@
+-- Lists of numbers: what the definitions of the calls are said with.
+-- A list by its rule, counting, the places of the ones, the least number that passes a test.
+use Prim.Native.Nat.{ℕ, zero, suc}
+use mathlib.Core.Bool.{Bool, true, false}
+use mathlib.Core.List.{List, [], _∷_}
+use lib.ListN.{length}
+use lib.Dec.{ltb, eqb}
+
+-- f a, f (a + 1), ..: k of them
+unfoldable pub tabulateFrom : ℕ → ℕ → (ℕ → ℕ) → List ℕ
+tabulateFrom zero a f = []
+tabulateFrom (suc k) a f = f a ∷ tabulateFrom k (suc a) f
+
+unfoldable pub tabulate : ℕ → (ℕ → ℕ) → List ℕ
+tabulate k f = tabulateFrom k 0 f
+
+-- how often v stands in a list
+unfoldable pub count : ℕ → List ℕ → ℕ
+count v [] = 0
+count v (x ∷ xs) = elim (eqb x v) [ true ↦ suc (count v xs) | false ↦ count v xs ]
+
+-- the places of the ones of a list, rising, counted from a
+unfoldable pub onesFrom : ℕ → List ℕ → List ℕ
+onesFrom a [] = []
+onesFrom a (x ∷ xs) = elim (eqb x 1) [ true ↦ a ∷ onesFrom (suc a) xs | false ↦ onesFrom (suc a) xs ]
+
+abbrev pub ones : List ℕ → List ℕ
+ones xs = onesFrom 0 xs
+
+-- the first place of x in a list, or the list's length
+unfoldable pub indexOf : ℕ → List ℕ → ℕ
+indexOf x [] = 0
+indexOf x (y ∷ ys) = elim (eqb x y) [ true ↦ 0 | false ↦ suc (indexOf x ys) ]
+
+unfoldable pub member : List ℕ → ℕ → Bool
+member xs x = ltb (indexOf x xs) (length xs)
+
+-- the least of a, a + 1, .. (k of them) that passes, or a + k
+unfoldable pub leastFrom : ℕ → ℕ → (ℕ → Bool) → ℕ
+leastFrom zero a p = a
+leastFrom (suc k) a p = elim (p a) [ true ↦ a | false ↦ leastFrom k (suc a) p ]
+
+unfoldable pub least : ℕ → (ℕ → Bool) → ℕ
+least k p = leastFrom k 0 p
+
+-- each of a, a + 1, .. (k of them) passes
+unfoldable pub allFrom : ℕ → ℕ → (ℕ → Bool) → Bool
+allFrom zero a p = true
+allFrom (suc k) a p = elim (p a) [ true ↦ allFrom k (suc a) p | false ↦ false ]
+
+unfoldable pub allBelow : ℕ → (ℕ → Bool) → Bool
+allBelow k p = allFrom k 0 p

@@ -1,0 +1,10 @@
+-- The words of the theorems: what they say of tables, sets of darts, pairings and runs, as properties and not as tests.
+-- No call cites these.
+pub mod Sets
+pub mod Maps
+pub mod Pairings
+pub mod Walks
+pub mod Places
+pub mod Sheets
+pub mod Ends
+pub mod Demand

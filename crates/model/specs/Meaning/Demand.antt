@@ -1,0 +1,52 @@
+-- What demand 3 asks of a run.
+use Prim.Native.Nat.{ℕ, _%_, _≤_}
+use mathlib.Core.Path.{_≡_}
+use mathlib.Core.Logic.{_≢_, _↔_}
+use mathlib.Core.Bool.{true}
+use mathlib.Core.List.{List, []}
+use lib.ListN.{length}
+use Rattle.model.specs.Map.{isMap}
+use Rattle.model.specs.Journal.{cursor, end}
+use Rattle.model.specs.Runs.{Call, State, Step, answer, replay}
+use Rattle.model.specs.Meaning.Maps.{Dim}
+
+-- an undo, a redo, with these marks lent
+abbrev pub undoing : List ℕ → Step
+undoing m = record { call = Call.undo; marks = m }
+
+abbrev pub redoing : List ℕ → Step
+redoing m = record { call = Call.redo; marks = m }
+
+-- a table that is a map, and a fresh journal, of lengths that are allowed
+pub record Fresh (n : ℕ) (t j : List ℕ) : Type 0 where
+  pub dim : Dim n
+  pub whole : length t % 4 ≡ 0
+  pub few : length t ≤ 262144
+  pub map : isMap n t ≡ true
+  pub low : 2 ≤ length j
+  pub high : length j ≤ 1048576
+  pub at-cursor : cursor j ≡ 2
+  pub at-end : end j ≡ 2
+
+-- the number given to a call
+unfoldable pub number : ℕ → State → Call → List ℕ → ℕ
+number n s c m = answer n s (record { call = c; marks = m }) .number
+
+-- of a state after a run that began with the table t; m are the marks lent to the next call
+pub record Stands (n : ℕ) (t : List ℕ) (s : State) : Type 0 where
+  pub table : s .outcome .table ≡ replay n t (s .history .standing)
+  pub map : isMap n (s .outcome .table) ≡ true
+  pub undo-16 : (m : List ℕ) → (number n s Call.undo m ≡ 16) ↔ (s .history .standing ≡ [])
+  pub redo-16 : (m : List ℕ) → (number n s Call.redo m ≡ 16) ↔ (s .history .undone ≡ [])
+  pub undo-0 : (m : List ℕ) → s .history .standing ≢ [] → number n s Call.undo m ≡ 0
+  pub redo-0 : (m : List ℕ) → s .history .undone ≢ [] → number n s Call.redo m ≡ 0
+  pub undo-17 : (m : List ℕ) → number n s Call.undo m ≢ 17
+  pub redo-17 : (m : List ℕ) → number n s Call.redo m ≢ 17
+  pub never-4 : (c : Call) (m : List ℕ) → number n s c m ≢ 4
+  pub never-5 : (c : Call) (m : List ℕ) → number n s c m ≢ 5
+
+-- two states with the same table, journal and history
+pub record Same (s r : State) : Type 0 where
+  pub table : s .outcome .table ≡ r .outcome .table
+  pub journal : s .outcome .journal ≡ r .outcome .journal
+  pub history : s .history ≡ r .history

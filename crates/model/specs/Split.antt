@@ -1,0 +1,63 @@
+-- split d: "each g in S, rising, gets new darts a, b (for n = 3 also c) in the lowest unused slots in that order.
+-- With the links as they were before: .." The links of a, b and c follow below, in the order of the links 0 to 3.
+use Prim.Native.Nat.{ℕ, zero, suc, _+_, _*_, _/_, _%_}
+use mathlib.Core.Bool.{Bool, true, false, _&&_, _||_}
+use mathlib.Core.List.{List, [], _∷_}
+use lib.ListN.{length, getD, take}
+use lib.Dec.{ltb, eqb}
+use Rattle.model.specs.Lists.{ones, indexOf}
+use Rattle.model.specs.Table.{unused, link, walk, unusedSlots, retable}
+use Rattle.model.specs.Reach.{inSet}
+use Rattle.model.specs.Sheet.{sheet}
+
+-- "some g in S has g.1 in S", of the darts gs
+unfoldable pub crosses : List ℕ → List ℕ → List ℕ → Bool
+crosses t s [] = false
+crosses t s (g ∷ gs) = inSet s (link t 1 g) || crosses t s gs
+
+-- of the darts gs of S, rising, and the new slots fs: the new dart of g, a where r is 0, b where it is 1, c where it is 2
+unfoldable pub newDart : ℕ → List ℕ → List ℕ → ℕ → ℕ → ℕ
+newDart n gs fs r g = getD fs (n * indexOf g gs + r) unused
+
+-- link j of x, which is the new dart r of g
+unfoldable pub newDartLink : ℕ → List ℕ → List ℕ → List ℕ → ℕ → ℕ → ℕ → ℕ → ℕ
+newDartLink n t gs fs x g zero j =
+    getD
+    (g
+    ∷ newDart n gs fs 1 g
+    ∷ newDart n gs fs 0 (link t 2 g)
+    ∷ elim (eqb n 3) [ true ↦ newDart n gs fs 0 (link t 3 g) | false ↦ x ]
+    ∷ []) j 0
+newDartLink n t gs fs x g (suc zero) j =
+    getD
+    (newDart n gs fs 1 (walk t (1 ∷ 0 ∷ 1 ∷ []) g)
+    ∷ newDart n gs fs 0 g
+    ∷ elim (eqb n 3) [ true ↦ newDart n gs fs 2 g | false ↦ newDart n gs fs 1 (link t 0 g) ]
+    ∷ elim (eqb n 3) [ true ↦ newDart n gs fs 1 (link t 3 g) | false ↦ x ]
+    ∷ []) j 0
+newDartLink n t gs fs x g (suc (suc r)) j =
+    getD
+    (newDart n gs fs 2 (walk t (1 ∷ 0 ∷ 1 ∷ []) g)
+    ∷ newDart n gs fs 2 (link t 2 g)
+    ∷ newDart n gs fs 1 g
+    ∷ newDart n gs fs 2 (link t 0 g)
+    ∷ []) j 0
+
+-- link j of x: a new dart's, "g.0 = a(g)" for the darts of S; "All else stays."
+unfoldable pub halvedLink : ℕ → List ℕ → List ℕ → List ℕ → ℕ → ℕ → ℕ
+halvedLink n t gs fs x j =
+    let k = indexOf x fs in
+    elim (ltb k (length fs)) [
+      | true ↦ newDartLink n t gs fs x (getD gs (k / n) 0) (k % n) j
+      | false ↦ (elim (eqb j 0 && ltb (indexOf x gs) (length gs)) [ true ↦ newDart n gs fs 0 x | false ↦ link t j x ])
+    ]
+
+unfoldable pub halved : ℕ → List ℕ → List ℕ → List ℕ → List ℕ
+halved n t gs fs = retable t (halvedLink n t gs fs)
+
+-- the lowest unused slots, as many as the darts gs need, or all where they are fewer
+unfoldable pub splitSlots : ℕ → List ℕ → List ℕ → List ℕ
+splitSlots n t gs = take (n * length gs) (unusedSlots t)
+
+unfoldable pub splitTable : ℕ → List ℕ → ℕ → List ℕ
+splitTable n t d = let gs = ones (sheet n t d) in halved n t gs (splitSlots n t gs)

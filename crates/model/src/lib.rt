@@ -1,0 +1,1 @@
+// The model: definitions in specs/, laws in proofs/, and no code.
