@@ -5,3 +5,5 @@ pub mod Sewing
 pub mod Cells
 pub mod Operations
 pub mod Layers
+pub mod Calls
+pub mod History

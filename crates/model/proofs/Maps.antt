@@ -1,2 +1,3 @@
 pub mod Dim
+pub mod Tables
 pub mod Rules

@@ -2,7 +2,7 @@
 -- which "run in the order of the numbers". 15 and 17 ask what a call would write or put back: they stand with the calls.
 use Prim.Native.Nat.{ℕ, _+_, _*_, _%_, _^_}
 use mathlib.Core.Bool.{Bool, true, false, not, _&&_, _||_}
-use mathlib.Core.List.{List, [], _∷_}
+use mathlib.Core.List.{List, [], _∷_, _++_}
 use lib.ListN.{length}
 use lib.Dec.{leb, ltb, eqb}
 use Rattle.model.specs.Table.{slots, link, live}
@@ -122,10 +122,13 @@ sheetChecks n t m d = dimOk n ∷ tableOk t ∷ marksOk t m ∷ mapOk n t ∷ da
 unfoldable pub addChecks : ℕ → List ℕ → List ℕ → List Check
 addChecks n t j = dimOk n ∷ tableOk t ∷ journalOk j ∷ mapOk n t ∷ addRoomOk n t ∷ []
 
+-- of sew those before 12
+unfoldable pub sidesChecks : ℕ → List ℕ → List ℕ → ℕ → ℕ → ℕ → List Check
+sidesChecks n t j i d e =
+    dimOk n ∷ tableOk t ∷ journalOk j ∷ mapOk n t ∷ indexOk n i ∷ dartOk t d ∷ dartOk t e ∷ apartOk n t i d e ∷ freeOk t i d e ∷ []
+
 unfoldable pub sewChecks : ℕ → List ℕ → List ℕ → ℕ → ℕ → ℕ → List Check
-sewChecks n t j i d e =
-    dimOk n ∷ tableOk t ∷ journalOk j ∷ mapOk n t ∷ indexOk n i ∷ dartOk t d ∷ dartOk t e
-    ∷ apartOk n t i d e ∷ freeOk t i d e ∷ pairingOk n t i d e ∷ []
+sewChecks n t j i d e = sidesChecks n t j i d e ++ (pairingOk n t i d e ∷ [])
 
 unfoldable pub unsewChecks : ℕ → List ℕ → List ℕ → ℕ → ℕ → List Check
 unsewChecks n t j i d = dimOk n ∷ tableOk t ∷ journalOk j ∷ mapOk n t ∷ indexOk n i ∷ dartOk t d ∷ sewnOk t i d ∷ []

@@ -1,5 +1,4 @@
 -- Add keeps a map, and a block map.
--- Assumes nothing.
 use Prim.Native.Nat.{ℕ, _+_, _*_, _/_, _%_, _≤_, _<_}
 use mathlib.Core.Path.{_≡_, refl, sym, ap, ap₂, _∙_}
 use mathlib.Core.Logic.{_⊎_, inl, inr, ⊎-elim}
@@ -15,14 +14,15 @@ use Rattle.model.specs.Cell.{cellSize}
 use Rattle.model.specs.Add.{addedLink, added}
 use Rattle.model.specs.Numbering.{cellLink}
 use Rattle.model.specs.Everything.{everything}
-use Rattle.model.specs.Meaning.Maps.{Block, Dim, Map, Rule}
+use Rattle.model.specs.Meaning.Maps.{Dim, Map, MapTable, BlockTable, Rule}
 use Rattle.model.specs.Meaning.Places.{place}
 use Rattle.model.proofs.Lists.Scan.{test, clash, length-tab, getD-tab}
 use Rattle.model.proofs.Maps.Rules.{map-of, live-in, live-by, link-retable, slots-retable, length-retable}
+use Rattle.model.proofs.Maps.Tables.{mapTable, live-below, rule-at}
 use Rattle.model.proofs.Cells.Cell.{rows-in}
 use Rattle.model.proofs.Lists.Ones.{Vacant, getD-in, index-getD, index-out, index-in, getD-index, in-or}
-use Rattle.model.proofs.Maps.Dim.{dim-large, two-cases, dim-small, size-some}
-use Rattle.model.proofs.Cells.Chart.{Ruled, map-by, of-live, live-of, live-same, Charted, block-by, place-chart, place-zero, place-live, chart-kept}
+use Rattle.model.proofs.Maps.Dim.{two-cases, size-some}
+use Rattle.model.proofs.Cells.Chart.{Ruled, map-by, ruled-table, of-live, live-of, live-same, Charted, block-by, place-chart, place-zero, place-live, chart-kept}
 
 -- ---- a new cell by itself is a map: computed
 
@@ -38,7 +38,7 @@ module _ (n : ℕ) (n23 : Dim n) where
   c = cellTable n
 
   alone : Map n c
-  alone = map-of n c (dim-small n n23) (alone-true n n23)
+  alone = map-of n c (n23 .1) (alone-true n n23)
 
   cell-length : length c ≡ 4 * cellSize n
   unfolding cellTable
@@ -63,7 +63,7 @@ module _ (n : ℕ) (n23 : Dim n) where
 
   cell-live : (k : ℕ) → k < cellSize n → live c k ≡ true
   cell-live k h = live-by c k (λ q. let e = cell-link 0 k (omega arith) h in let s = size-few in
-      let b = rows-in n 0 k n23 (let two = dim-large n n23 in omega arith) h in omega arith)
+      let b = rows-in n 0 k n23 (let two = n23 .0 in omega arith) h in omega arith)
 
   rule : (k : ℕ) → k < cellSize n → Rule n c k
   rule k h = let s = cell-slots in alone .rule k (omega arith) (cell-live k h)
@@ -76,7 +76,7 @@ module _ (n : ℕ) (n23 : Dim n) where
 
   row-cross : (i j k : ℕ) → i + 2 ≤ j → j ≤ n → k < cellSize n → cellLink n j (cellLink n i (cellLink n j (cellLink n i k))) ≡ k
   row-cross i j k ij jn h =
-      let s = dim-small n n23 in
+      let s = n23 .1 in
       let bi : i < 4 = omega arith in
       let bj : j < 4 = omega arith in
       let k₁ = cellLink n i k in
@@ -92,12 +92,12 @@ module _ (n : ℕ) (n23 : Dim n) where
 
 -- ---- add
 
-module _ (n : ℕ) (n23 : Dim n) (t fs : List ℕ) (fits : length t ≡ 4 * slots t) (few : slots t ≤ 65536) (m : Map n t) (fresh : Vacant t fs) (enough : length fs ≡ cellSize n) where
+module _ {n : ℕ} {t fs : List ℕ} (T : MapTable n t) (fresh : Vacant t fs) (enough : length fs ≡ cellSize n) where
   abbrev u : List ℕ
   u = added n t fs
 
   old : (x : ℕ) → live t x ≡ true → Rule n t x
-  old x l = m .rule x (live-in t x fits l) l
+  old x l = rule-at T x l
 
   new : ℕ → ℕ
   new k = getD fs k unused
@@ -108,37 +108,37 @@ module _ (n : ℕ) (n23 : Dim n) (t fs : List ℕ) (fits : length t ≡ 4 * slot
 
   pub add-slots : slots u ≡ slots t
   unfolding added
-  add-slots = slots-retable t (addedLink n t fs) fits
+  add-slots = slots-retable t (addedLink n t fs) (T .whole)
 
   pub add-fits : length u ≡ 4 * slots u
   unfolding added
-  add-fits = length-retable t (addedLink n t fs) fits ∙ fits ∙ ap (λ (k : ℕ). 4 * k) (sym add-slots)
+  add-fits = length-retable t (addedLink n t fs) (T .whole) ∙ (T .whole) ∙ ap (λ (k : ℕ). 4 * k) (sym add-slots)
 
   -- the links of the new darts, and of the others
   pub add-new : (j k : ℕ) → j < 4 → k < cellSize n → link u j (getD fs k unused) ≡ getD fs (cellLink n j k) unused
   unfolding added addedLink new
   add-new j k b h =
       let q = index-getD fs k unused (fresh .once) (omega arith) in
-      link-retable t (addedLink n t fs) fits (new k) j (fresh .inside (new k) (new-in k h)) b
+      link-retable t (addedLink n t fs) (T .whole) (new k) j (fresh .inside (new k) (new-in k h)) b
       ∙ rw (lt-ltb (indexOf (new k) fs) (length fs) (omega arith), addedLink) (ap (λ (i : ℕ). getD fs (cellLink n j i) unused) q)
 
   pub add-old : (j x : ℕ) → j < 4 → x < slots t → (In x fs → ⊥) → link u j x ≡ link t j x
   unfolding added addedLink
-  add-old j x b h i = link-retable t (addedLink n t fs) fits x j h b ∙ rw (le-ltb (indexOf x fs) (length fs) (index-out fs x i), addedLink)
+  add-old j x b h i = link-retable t (addedLink n t fs) (T .whole) x j h b ∙ rw (le-ltb (indexOf x fs) (length fs) (index-out fs x i), addedLink)
 
   data Live (x : ℕ) : Type 0 where
     was : live t x ≡ true → Live x
     is : (k : ℕ) → k < cellSize n → x ≡ getD fs k unused → Live x
 
   stays : (j x : ℕ) → j < 4 → live t x ≡ true → link u j x ≡ link t j x
-  stays j x b l = add-old j x b (live-in t x fits l) (λ i. clash l (fresh .dead x i))
+  stays j x b l = add-old j x b (live-in t x (T .whole) l) (λ i. clash l (fresh .dead x i))
 
   add-ruled : Ruled n u Live
   unfolding new
   add-ruled = record { few = let s = add-slots in omega arith; inside = inside; other = other; goes = goes; comes = comes; cross = cross; plane = plane }
     where
       inside : (x : ℕ) → Live x → x < slots u
-      inside x (was l) = rw add-slots (live-in t x fits l)
+      inside x (was l) = rw add-slots (live-in t x (T .whole) l)
       inside x (is k h e) = rw (add-slots, e) (fresh .inside (new k) (new-in k h))
 
       other : (x : ℕ) → x < slots u → Live x ⊎ (live u x ≡ false)
@@ -149,15 +149,14 @@ module _ (n : ℕ) (n23 : Dim n) (t fs : List ℕ) (fits : length t ≡ 4 * slot
 
       goes : (x j : ℕ) → j < 4 → Live x → Live (link u j x)
       goes x j b (was l) = was (rw (stays j x b l) (old x l .goes j b))
-      goes x j b (is k h e) = is (cellLink n j k) (row-in n n23 j k b h) (ap (link u j) e ∙ add-new j k b h)
+      goes x j b (is k h e) = is (cellLink n j k) (row-in n (T .dim) j k b h) (ap (link u j) e ∙ add-new j k b h)
 
       comes : (x j : ℕ) → j < 4 → Live x → link u j (link u j x) ≡ x
       comes x j b (was l) = rw (stays j x b l, stays j (link t j x) b (old x l .goes j b)) (old x l .comes j b)
-      comes x j b (is k h e) = rw (e, add-new j k b h, add-new j (cellLink n j k) b (row-in n n23 j k b h)) (ap new (row-comes n n23 j k b h))
+      comes x j b (is k h e) = rw (e, add-new j k b h, add-new j (cellLink n j k) b (row-in n (T .dim) j k b h)) (ap new (row-comes n (T .dim) j k b h))
 
       cross : (x i j : ℕ) → i + 2 ≤ j → j ≤ n → Live x → link u j (link u i (link u j (link u i x))) ≡ x
       cross x i j ij jn (was l) =
-          let s = dim-small n n23 in
           let bi : i < 4 = omega arith in
           let bj : j < 4 = omega arith in
           let l₁ = old x l .goes i bi in
@@ -165,47 +164,58 @@ module _ (n : ℕ) (n23 : Dim n) (t fs : List ℕ) (fits : length t ≡ 4 * slot
           let l₃ = old (link t j (link t i x)) l₂ .goes i bi in
           rw (stays i x bi l, stays j (link t i x) bj l₁, stays i (link t j (link t i x)) bi l₂, stays j (link t i (link t j (link t i x))) bj l₃) (old x l .cross i j ij jn)
       cross x i j ij jn (is k h e) =
-          let s = dim-small n n23 in
           let bi : i < 4 = omega arith in
           let bj : j < 4 = omega arith in
-          let h₁ = row-in n n23 i k bi h in
-          let h₂ = row-in n n23 j (cellLink n i k) bj h₁ in
-          let h₃ = row-in n n23 i (cellLink n j (cellLink n i k)) bi h₂ in
+          let h₁ = row-in n (T .dim) i k bi h in
+          let h₂ = row-in n (T .dim) j (cellLink n i k) bj h₁ in
+          let h₃ = row-in n (T .dim) i (cellLink n j (cellLink n i k)) bi h₂ in
           rw (e, add-new i k bi h, add-new j (cellLink n i k) bj h₁, add-new i (cellLink n j (cellLink n i k)) bi h₂, add-new j (cellLink n i (cellLink n j (cellLink n i k))) bj h₃)
-          (ap new (row-cross n n23 i j k ij jn h))
+          (ap new (row-cross n (T .dim) i j k ij jn h))
 
       plane : (x : ℕ) → n ≡ 2 → Live x → link u 3 x ≡ x
       plane x p (was l) = stays 3 x (omega arith) l ∙ old x l .plane p
-      plane x p (is k h e) = rw (e, add-new 3 k (omega arith) h) (ap new (row-plane n n23 k p h))
+      plane x p (is k h e) = rw (e, add-new 3 k (omega arith) h) (ap new (row-plane n (T .dim) k p h))
 
   pub add-map : Map n (added n t fs)
   add-map = map-by n u Live add-ruled
 
+  pub add-table : MapTable n (added n t fs)
+  add-table = ruled-table (T .dim) add-fits add-ruled
+
 -- and a block map
-pub add-block : (n : ℕ) (n23 : Dim n) (t fs : List ℕ) → Block n t → Vacant t fs → length fs ≡ cellSize n → Block n (added n t fs)
-add-block n n23 t fs B fresh enough = block-by n (added n t fs) n23 (add-fits n n23 t fs (B .fits) (B .few) (B .map) fresh enough) (ruled .few) (map-by n (added n t fs) L ruled)
-    (λ x l. charted x (of-live n (added n t fs) L ruled x (live-in (added n t fs) x (add-fits n n23 t fs (B .fits) (B .few) (B .map) fresh enough) l) l))
+pub add-block : {n : ℕ} {t fs : List ℕ} → BlockTable n t → Vacant t fs → length fs ≡ cellSize n → BlockTable n (added n t fs)
+add-block {n} {t} {fs} B fresh enough = block-by table (λ x l. charted x (of-live n u New ruled x (live-below table x l) l))
   where
-    L : ℕ → Type 0
-    L = Live n n23 t fs (B .fits) (B .few) (B .map) fresh enough
+    u : List ℕ
+    u = added n t fs
 
-    ruled : Ruled n (added n t fs) L
-    ruled = add-ruled n n23 t fs (B .fits) (B .few) (B .map) fresh enough
+    T : MapTable n t
+    T = mapTable B
 
-    charted : (x : ℕ) → L x → Charted n (added n t fs) x
+    New : ℕ → Type 0
+    New = Live T fresh enough
+
+    ruled : Ruled n u New
+    ruled = add-ruled T fresh enough
+
+    table : MapTable n u
+    table = add-table T fresh enough
+
+    charted : (x : ℕ) → New x → Charted n u x
     charted x (was l) = record {
       c = place n t x;
-      chart = chart-kept n t n23 B (added n t fs) (place n t x) (place-chart n t n23 B x l) (λ i k hi hk. let s = dim-small n n23 in
-          stays n n23 t fs (B .fits) (B .few) (B .map) fresh enough i (place n t x k) (omega arith) (place-live n t n23 B x k l hk));
-      base = live-of n (added n t fs) L ruled (place n t x 0) (was (place-live n t n23 B x 0 l (size-some n n23)));
+      chart = chart-kept B u (place n t x) (place-chart B x l) (λ i k hi hk.
+          let s = B .dim .1 in
+          stays T fresh enough i (place n t x k) (omega arith) (place-live B x k l hk));
+      base = live-of n u New ruled (place n t x 0) (was (place-live B x 0 l (size-some n (B .dim))));
       k = 0;
-      low = size-some n n23;
-      is = place-zero n t n23 B x l;
+      low = size-some n (B .dim);
+      is = place-zero B x l;
     }
     charted x (is k h e) = record {
       c = λ k. getD fs k unused;
-      chart = record { follow = λ i k hi hk. let s = dim-small n n23 in add-new n n23 t fs (B .fits) (B .few) (B .map) fresh enough i k (omega arith) hk; apart = λ a b ab hb e. apart a b ab hb e };
-      base = live-of n (added n t fs) L ruled (getD fs 0 unused) (is 0 (size-some n n23) refl);
+      chart = record { follow = λ i k hi hk. let s = B .dim .1 in add-new T fresh enough i k (omega arith) hk; apart = apart };
+      base = live-of n u New ruled (getD fs 0 unused) (is 0 (size-some n (B .dim)) refl);
       k = k;
       low = h;
       is = e;

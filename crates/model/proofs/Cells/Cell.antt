@@ -1,5 +1,4 @@
 -- A good cell: its darts are its places, each once, and the places follow the rows.
--- Assumes nothing.
 use Prim.Native.Nat.{ℕ, zero, suc, _+_, _*_, _-_, _≤_, _<_}
 use mathlib.Core.Path.{_≡_, refl, sym, ap, _∙_, subst}
 use mathlib.Core.Logic.{_⊎_, inl, inr, ⊎-elim}
@@ -18,14 +17,15 @@ use Rattle.model.specs.Reach.{steps, links}
 use Rattle.model.specs.Cell.{cellWords, cellSize, cellOf, turns, allTurn, goodCell}
 use Rattle.model.specs.Numbering.{cellLink}
 use Rattle.model.specs.Everything.{everything}
-use Rattle.model.specs.Meaning.Maps.{Dim, Map, Rule}
+use Rattle.model.specs.Meaning.Maps.{Dim, MapTable}
 use Rattle.model.specs.Meaning.Places.{path, paths2, paths3, place}
 use Rattle.model.specs.Meaning.Sets.{Least, Marked}
 use Rattle.model.proofs.Sewing.Partners.{ltb-or}
-use Rattle.model.proofs.Maps.Dim.{two-cases, dim-small, size-some}
+use Rattle.model.proofs.Maps.Dim.{dim-cases, two-cases, size-some}
 use Rattle.model.proofs.Lists.Scan.{test, bool-cases, clash, and-l, and-r, and-i, below-at, length-tabFrom}
 use Rattle.model.proofs.Sets.Closure.{closure-least}
 use Rattle.model.proofs.Maps.Rules.{live-in}
+use Rattle.model.proofs.Maps.Tables.{rule-at}
 use Rattle.model.proofs.Sewing.Side.{step-in, step-of}
 use Rattle.model.proofs.Cells.Places.{rest, Turning, places-follow}
 use Rattle.model.proofs.Sets.Pigeon.{cover, Distinct, none, more, distinct-le}
@@ -67,15 +67,9 @@ turn-at n t (y ∷ ys) a h x m = go (turn-at n t ys (suc a)) (bool-cases (eqb y 
     go rec (inr e) f zero m = absurd (eqb-false y 1 e m)
     go rec (inr e) f (suc z) m = ap (turns n t) (omega arith) ∙ rec (rw (e, allTurn) at h) z m
 
-module _ (n : ℕ) (t : List ℕ) (d : ℕ) (n23 : Dim n) (fits : length t ≡ 4 * slots t) (m : Map n t) (live-d : live t d ≡ true) where
+module _ {n : ℕ} {t : List ℕ} (T : MapTable n t) (d : ℕ) (live-d : live t d ≡ true) where
   abbrev cell : List ℕ
   cell = cellOf n t d
-
-  n3 : n ≤ 3
-  n3 = dim-small n n23
-
-  at : (y : ℕ) → live t y ≡ true → Rule n t y
-  at y h = m .rule y (live-in t y fits h) h
 
   pub cell-least : Least (steps t (cellWords n)) (slots t) (d ∷ []) cell
   unfolding cellOf
@@ -86,7 +80,7 @@ module _ (n : ℕ) (t : List ℕ) (d : ℕ) (n23 : Dim n) (fits : length t ≡ 4
   cell-step x y i = let r = step-of t x (λ j. ltb j n) (suc n) 0 y i in (r .0, ltb-true (r .0) n (r .2), r .3)
 
   pub cell-live : (x : ℕ) → Marked cell x → live t x ≡ true
-  cell-live = cell-least .within (λ x. live t x ≡ true) (λ x j _. seed x (in-cons j)) (λ x y _ h j _. let r = cell-step x y j in let l = r .1 in let k = n3 in rw (r .2) (at x h .goes (r .0) (omega arith)))
+  cell-live = cell-least .within (λ x. live t x ≡ true) (λ x j _. seed x (in-cons j)) (λ x y _ h j _. let r = cell-step x y j in let l = r .1 in rw (r .2) (rule-at T x h .goes (r .0) (omega arith)))
     where
       seed : (x : ℕ) → (x ≡ d) ⊎ In x [] → live t x ≡ true
       seed x (inl q) = rw q live-d
@@ -95,8 +89,7 @@ module _ (n : ℕ) (t : List ℕ) (d : ℕ) (n23 : Dim n) (fits : length t ≡ 4
   pub cell-goes : (x j : ℕ) → Marked cell x → j < n → Marked cell (link t j x)
   unfolding cellWords links
   cell-goes x j h l =
-      let k = n3 in
-      cell-least .closed x (link t j x) h (step-in t x (λ j. ltb j n) (suc n) 0 j (omega arith) (omega arith) (lt-ltb j n l)) (live-in t _ fits (at x (cell-live x h) .goes j (omega arith)))
+      cell-least .closed x (link t j x) h (step-in t x (λ j. ltb j n) (suc n) 0 j (omega arith) (omega arith) (lt-ltb j n l)) (live-in t _ (T .whole) (rule-at T x (cell-live x h) .goes j (omega arith)))
 
   module _ (good : goodCell n t cell ≡ true) where
     cell-turns : (x : ℕ) → Marked cell x → turns n t x ≡ true
@@ -108,7 +101,7 @@ module _ (n : ℕ) (t : List ℕ) (d : ℕ) (n23 : Dim n) (fits : length t ≡ 4
     cell-count = eqb-true _ _ (and-l (eqb (count 1 cell) (cellSize n)) (allTurn n t 0 cell) good)
 
     comes : (x i : ℕ) → i < n → Marked cell x → link t i (link t i x) ≡ x
-    comes x i l h = let k = n3 in at x (cell-live x h) .comes i (omega arith)
+    comes x i l h = rule-at T x (cell-live x h) .comes i (omega arith)
 
     -- a word that returns everywhere returns when it is begun one step later
     rotate : (a : ℕ) (w : List ℕ) → a < n → ((x : ℕ) → Marked cell x → walk t w (link t a x) ≡ x) → (x : ℕ) → Marked cell x → link t a (walk t w x) ≡ x
@@ -124,7 +117,7 @@ module _ (n : ℕ) (t : List ℕ) (d : ℕ) (n23 : Dim n) (fits : length t ≡ 4
 
     four : (x : ℕ) → n ≡ 3 → Marked cell x → walk t (0 ∷ 2 ∷ 0 ∷ 2 ∷ []) x ≡ x
     unfolding walk
-    four x e c = at x (cell-live x c) .cross 0 2 (omega arith) (omega arith)
+    four x e c = rule-at T x (cell-live x c) .cross 0 2 (omega arith) (omega arith)
 
     Back : ℕ → List ℕ → Type 0
     Back i w = (x : ℕ) → Marked cell x → link t i (walk t w x) ≡ x
@@ -145,32 +138,32 @@ module _ (n : ℕ) (t : List ℕ) (d : ℕ) (n23 : Dim n) (fits : length t ≡ 4
 
     turning : Turning n t (Marked cell)
     unfolding Back
-    turning = record { goes = λ x i l c. cell-goes x i c l; comes = comes; turn = λ x i w l j c. go n23 i w l j x c }
+    turning = record { goes = λ x i l c. cell-goes x i c l; comes = comes; turn = λ x i w l j c. go (dim-cases n (T .dim)) i w l j x c }
       where
         go : (n ≡ 2) ⊎ (n ≡ 3) → (i : ℕ) (w : List ℕ) → i < n → In w (rest n i) → Back i w
         go (inl e) i w l j = back-2 i w e (omega arith) (subst (λ (k : ℕ). In w (rest k i)) e j)
         go (inr e) i w l j = back-3 i w e (omega arith) (subst (λ (k : ℕ). In w (rest k i)) e j)
 
     d-in : Marked cell d
-    d-in = cell-least .holds d (here refl) (live-in t d fits live-d)
+    d-in = cell-least .holds d (here refl) (live-in t d (T .whole) live-d)
 
     pub follows : (i k : ℕ) → i < n → k < cellSize n → link t i (place n t d k) ≡ place n t d (cellLink n i k)
-    follows = places-follow n t d (Marked cell) n23 turning d-in
+    follows = places-follow n t d (Marked cell) (T .dim) turning d-in
 
     -- ---- the darts of the cell are its places
 
     pub d-place : d ≡ place n t d 0
-    d-place = place-0 n n23 t d
+    d-place = place-0 n (T .dim) t d
 
     pub all-places : (x : ℕ) → Marked cell x → (k : ℕ) × (k < cellSize n) × (x ≡ place n t d k)
     all-places = cell-least .within (λ x. (k : ℕ) × (k < cellSize n) × (x ≡ place n t d k)) (λ x j _. seed x (in-cons j)) (λ x y _ h j _. step x y h (cell-step x y j))
       where
         seed : (x : ℕ) → (x ≡ d) ⊎ In x [] → (k : ℕ) × (k < cellSize n) × (x ≡ place n t d k)
-        seed x (inl q) = (0, size-some n n23, q ∙ d-place)
+        seed x (inl q) = (0, size-some n (T .dim), q ∙ d-place)
         seed x (inr j) = absurd (not-nil j)
 
         step : (x y : ℕ) → (k : ℕ) × (k < cellSize n) × (x ≡ place n t d k) → (j : ℕ) × (j < n) × (y ≡ link t j x) → (k : ℕ) × (k < cellSize n) × (y ≡ place n t d k)
-        step x y h r = (cellLink n (r .0) (h .0), rows-in n (r .0) (h .0) n23 (r .1) (h .1), r .2 ∙ ap (link t (r .0)) (h .2) ∙ follows (r .0) (h .0) (r .1) (h .1))
+        step x y h r = (cellLink n (r .0) (h .0), rows-in n (r .0) (h .0) (T .dim) (r .1) (h .1), r .2 ∙ ap (link t (r .0)) (h .2) ∙ follows (r .0) (h .0) (r .1) (h .1))
 
     -- and no two of them are one dart
     pub distinct : (a b : ℕ) → a < b → b < cellSize n → place n t d a ≡ place n t d b → ⊥
@@ -231,13 +224,15 @@ row-walk-in n (i ∷ w) k n23 h l = let rec = row-walk-in n w (cellLink n i k) n
     test (ltb i n) (λ e. rec (rw (e, small) at h) (rows-in n i k n23 (ltb-true i n e) l)) (λ e. absurd (clash h (rw (e, small))))
 
 -- so two words that agree in the rows agree at each dart of a good cell
-pub cell-words : (n : ℕ) (t : List ℕ) (d : ℕ) → Dim n → length t ≡ 4 * slots t → Map n t → live t d ≡ true → goodCell n t (cellOf n t d) ≡ true
+pub cell-words : {n : ℕ} {t : List ℕ} → MapTable n t → (d : ℕ) → live t d ≡ true → goodCell n t (cellOf n t d) ≡ true
     → (v w : List ℕ) → small n v ≡ true → small n w ≡ true → rowWalk n v 0 ≡ rowWalk n w 0 → walk t v d ≡ walk t w d
-cell-words n t d n23 fits m live-d good v w hv hw e =
-    let f = follows n t d n23 fits m live-d good in
-    let p = d-place n t d n23 fits m live-d good in
-    let z = size-some n n23 in
-    ap (walk t v) p ∙ walk-rows n t (place n t d) n23 f v 0 hv z ∙ ap (place n t d) e ∙ sym (walk-rows n t (place n t d) n23 f w 0 hw z) ∙ ap (walk t w) (sym p)
+cell-words {n} {t} T d live-d good v w hv hw e =
+    let f = follows T d live-d good in
+    let p = d-place T d live-d good in
+    let z = size-some n (T .dim) in
+    ap (walk t v) p ∙ walk-rows n t (place n t d) (T .dim) f v 0 hv z
+    ∙ ap (place n t d) e
+    ∙ sym (walk-rows n t (place n t d) (T .dim) f w 0 hw z) ∙ ap (walk t w) (sym p)
 
 -- ---- the other way: a cell whose places follow the rows, and are distinct, is good
 
@@ -277,7 +272,7 @@ distinct-tab f zero a h = none
 distinct-tab f (suc n) a h = more (λ i. let r = in-tab f n (suc a) (f a) i in let p = r .1 in let q = r .2 in h a (r .0) (omega arith) (omega arith) (r .3))
     (distinct-tab f n (suc a) (λ k l kl b. h k l kl (omega arith)))
 
-module _ (n : ℕ) (t : List ℕ) (d : ℕ) (n23 : Dim n) (fits : length t ≡ 4 * slots t) (m : Map n t) (live-d : live t d ≡ true)
+module _ {n : ℕ} {t : List ℕ} (T : MapTable n t) (d : ℕ) (live-d : live t d ≡ true)
     (follow : (i k : ℕ) → i < n → k < cellSize n → link t i (place n t d k) ≡ place n t d (cellLink n i k))
     (apart : (a b : ℕ) → a < b → b < cellSize n → place n t d a ≡ place n t d b → ⊥) where
   abbrev cell′ : List ℕ
@@ -289,23 +284,23 @@ module _ (n : ℕ) (t : List ℕ) (d : ℕ) (n23 : Dim n) (fits : length t ≡ 4
   marked-walk (i ∷ w) x h c = go (marked-walk w (link t i x)) (bool-cases (ltb i n))
     where
       go : (small n w ≡ true → Marked cell′ (link t i x) → Marked cell′ (walk t w (link t i x))) → (ltb i n ≡ true) ⊎ (ltb i n ≡ false) → Marked cell′ (walk t w (link t i x))
-      go rec (inl e) = rec (rw (e, small) at h) (cell-goes n t d n23 fits m live-d x i c (ltb-true i n e))
+      go rec (inl e) = rec (rw (e, small) at h) (cell-goes T d live-d x i c (ltb-true i n e))
       go rec (inr e) = absurd (clash h (rw (e, small)))
 
   pub place-in : (k : ℕ) → k < cellSize n → Marked cell′ (place n t d k)
   unfolding place
-  place-in k l = marked-walk (path n k) d (below-at (λ k. small n (path n k)) (cellSize n) (path-small n n23) k l)
-      (cell-least n t d n23 fits m live-d .holds d (here refl) (live-in t d fits live-d))
+  place-in k l = marked-walk (path n k) d (below-at (λ k. small n (path n k)) (cellSize n) (path-small n (T .dim)) k l)
+      (cell-least T d live-d .holds d (here refl) (live-in t d (T .whole) live-d))
 
   places-all : (x : ℕ) → Marked cell′ x → (k : ℕ) × (k < cellSize n) × (x ≡ place n t d k)
-  places-all = cell-least n t d n23 fits m live-d .within (λ x. (k : ℕ) × (k < cellSize n) × (x ≡ place n t d k)) (λ x j _. seed x (in-cons j)) (λ x y _ h j _. step x y h (cell-step n t d n23 fits m live-d x y j))
+  places-all = cell-least T d live-d .within (λ x. (k : ℕ) × (k < cellSize n) × (x ≡ place n t d k)) (λ x j _. seed x (in-cons j)) (λ x y _ h j _. step x y h (cell-step T d live-d x y j))
     where
       seed : (x : ℕ) → (x ≡ d) ⊎ In x [] → (k : ℕ) × (k < cellSize n) × (x ≡ place n t d k)
-      seed x (inl q) = (0, size-some n n23, q ∙ place-0 n n23 t d)
+      seed x (inl q) = (0, size-some n (T .dim), q ∙ place-0 n (T .dim) t d)
       seed x (inr j) = absurd (not-nil j)
 
       step : (x y : ℕ) → (k : ℕ) × (k < cellSize n) × (x ≡ place n t d k) → (j : ℕ) × (j < n) × (y ≡ link t j x) → (k : ℕ) × (k < cellSize n) × (y ≡ place n t d k)
-      step x y h r = (cellLink n (r .0) (h .0), rows-in n (r .0) (h .0) n23 (r .1) (h .1), r .2 ∙ ap (link t (r .0)) (h .2) ∙ follow (r .0) (h .0) (r .1) (h .1))
+      step x y h r = (cellLink n (r .0) (h .0), rows-in n (r .0) (h .0) (T .dim) (r .1) (h .1), r .2 ∙ ap (link t (r .0)) (h .2) ∙ follow (r .0) (h .0) (r .1) (h .1))
 
   size-is : count 1 cell′ ≡ cellSize n
   size-is =
@@ -317,7 +312,7 @@ module _ (n : ℕ) (t : List ℕ) (d : ℕ) (n23 : Dim n) (fits : length t ≡ 4
 
   place-turns : (k : ℕ) → k < cellSize n → turns n t (place n t d k) ≡ true
   unfolding turns returns rows-turn small
-  place-turns k l = and-i (eq-eqb _ _ (walk-rows n t (place n t d) n23 follow w8 k (two-cases n n23 (λ n. small n w8 ≡ true) refl refl) l ∙ ap (place n t d) (eqb-true _ _ (and-l (eqb (rowWalk n w8 k) k) _ rt)))) (last (bool-cases (eqb n 3)))
+  place-turns k l = and-i (eq-eqb _ _ (walk-rows n t (place n t d) (T .dim) follow w8 k (two-cases n (T .dim) (λ n. small n w8 ≡ true) refl refl) l ∙ ap (place n t d) (eqb-true _ _ (and-l (eqb (rowWalk n w8 k) k) _ rt)))) (last (bool-cases (eqb n 3)))
     where
       w8 : List ℕ
       w8 = 0 ∷ 1 ∷ 0 ∷ 1 ∷ 0 ∷ 1 ∷ 0 ∷ 1 ∷ []
@@ -326,10 +321,10 @@ module _ (n : ℕ) (t : List ℕ) (d : ℕ) (n23 : Dim n) (fits : length t ≡ 4
       w6 = 1 ∷ 2 ∷ 1 ∷ 2 ∷ 1 ∷ 2 ∷ []
 
       rt : rows-turn n k ≡ true
-      rt = below-at (rows-turn n) (cellSize n) (rows-turn-true n n23) k l
+      rt = below-at (rows-turn n) (cellSize n) (rows-turn-true n (T .dim)) k l
 
       last : (eqb n 3 ≡ true) ⊎ (eqb n 3 ≡ false) → (elim (eqb n 3) [ true ↦ eqb (walk t w6 (place n t d k)) (place n t d k) | false ↦ true ]) ≡ true
-      last (inl e) = rw e (eq-eqb _ _ (walk-rows n t (place n t d) n23 follow w6 k (subst (λ (n : ℕ). small n w6 ≡ true) (sym (eqb-true n 3 e)) refl) l
+      last (inl e) = rw e (eq-eqb _ _ (walk-rows n t (place n t d) (T .dim) follow w6 k (subst (λ (n : ℕ). small n w6 ≡ true) (sym (eqb-true n 3 e)) refl) l
           ∙ ap (place n t d) (eqb-true _ _ (rw e at (and-r (eqb (rowWalk n w8 k) k) (elim (eqb n 3) [ true ↦ eqb (rowWalk n w6 k) k | false ↦ true ]) rt)))))
       last (inr e) = rw e
 

@@ -1,5 +1,4 @@
 -- In a cell whose words return, the places follow the rows: for n = 2 and n = 3 by one computed deduction.
--- Assumes nothing.
 use Prim.Native.Nat.{ℕ, zero, suc, _+_, _*_, _/_, _%_, _≤_, _<_}
 use mathlib.Core.Path.{_≡_, refl, sym, ap, ap₂, _∙_}
 use mathlib.Core.Logic.{_⊎_, inl, inr}
@@ -16,7 +15,7 @@ use Rattle.model.specs.Numbering.{cellLink}
 use Rattle.model.specs.Everything.{everything}
 use Rattle.model.specs.Meaning.Maps.{Dim}
 use Rattle.model.specs.Meaning.Places.{path, paths2, paths3, place}
-use Rattle.model.proofs.Maps.Dim.{two-cases, dim-small}
+use Rattle.model.proofs.Maps.Dim.{two-cases}
 use Rattle.model.proofs.Lists.Scan.{bool-cases, clash, and-l, and-r, below-at, getD-tab}
 
 -- ---- the deduction, over the rows alone
@@ -218,4 +217,4 @@ full-true n n23 = two-cases n n23 (λ n. full n (rounds n 9) ≡ true) refl refl
 
 pub places-follow : (n : ℕ) (t : List ℕ) (d : ℕ) (C : ℕ → Type 0) → Dim n → Turning n t C → C d
     → (i k : ℕ) → i < n → k < cellSize n → link t i (place n t d k) ≡ place n t d (cellLink n i k)
-places-follow n t d C n23 T c = follow n t d C (dim-small n n23) T c 9 (full-true n n23)
+places-follow n t d C n23 T c = follow n t d C (n23 .1) T c 9 (full-true n n23)

@@ -1,5 +1,4 @@
 -- Split keeps a block map: each half of a cell has a chart, that of a dart of the sheet.
--- Assumes nothing.
 use Prim.Native.Nat.{ℕ, zero, suc, _*_, _≤_, _<_}
 use mathlib.Core.Path.{_≡_, refl, sym, ap, ap₂, _∙_, subst}
 use mathlib.Core.Logic.{_⊎_, inl, inr, ⊎-elim}
@@ -15,7 +14,7 @@ use Rattle.model.specs.Cell.{cellSize}
 use Rattle.model.specs.Numbering.{cellLink}
 use Rattle.model.specs.Split.{newDart, halved}
 use Rattle.model.specs.Everything.{everything}
-use Rattle.model.specs.Meaning.Maps.{Block, Dim}
+use Rattle.model.specs.Meaning.Maps.{BlockTable, MapTable, Dim}
 use Rattle.model.specs.Meaning.Places.{path, paths2, paths3, place}
 use Rattle.model.specs.Meaning.Sheets.{half}
 use Rattle.model.proofs.Lists.Scan.{test, if-eq, if-lt, clash, and-l, and-r, and-i, below-at, below-not}
@@ -23,8 +22,9 @@ use Rattle.model.proofs.Maps.Rules.{live-in}
 use Rattle.model.proofs.Cells.Cell.{rowWalk, small, walk-rows, rows-in}
 use Rattle.model.proofs.Cells.Places.{or-cases}
 use Rattle.model.proofs.Lists.Ones.{Vacant, member-in, in-member}
-use Rattle.model.proofs.Maps.Dim.{dim-large, two-cases, dim-small, size-some}
-use Rattle.model.proofs.Cells.Chart.{of-live, live-of, Chart, Charted, block-by, place-chart, place-zero, place-live, place-back, place-one, chart-kept, path-small}
+use Rattle.model.proofs.Maps.Tables.{live-below}
+use Rattle.model.proofs.Maps.Dim.{two-cases, size-some}
+use Rattle.model.proofs.Cells.Chart.{Ruled, ruled-table, of-live, live-of, Chart, Charted, block-by, place-chart, place-zero, place-live, place-back, place-one, chart-kept, path-small}
 use Rattle.model.proofs.Layers.Sheet.{Sheet}
 use Rattle.model.proofs.Layers.Role.{roleTo, roleWord, dart, sheetly, sheet-rule, sheet-walk, split-fits, new-in, new-one, split-cut, role-link}
 use Rattle.model.proofs.Layers.Split.{Live, was, is, keeps, keeps-off, split-ruled, split-map}
@@ -170,37 +170,37 @@ module _ (n : ℕ) (n23 : Dim n) where
 
 -- ---- the sheet in a cell
 
-module _ (n : ℕ) (n23 : Dim n) (t : List ℕ) (B : Block n t) (gs : List ℕ) (sh : Sheet n t gs) where
+module _ {n : ℕ} {t : List ℕ} (B : BlockTable n t) (gs : List ℕ) (sh : Sheet n t gs) where
   places-link : (g i k : ℕ) → In g gs → i < n → k < cellSize n → link t i (place n t g k) ≡ place n t g (cellLink n i k)
-  places-link g i k h = place-chart n t n23 B g (sh .lives g h) .follow i k
+  places-link g i k h = place-chart B g (sh .lives g h) .follow i k
 
   pub in-half : (g p : ℕ) → In g gs → p < half n → In (place n t g p) gs
   unfolding place
-  in-half g p i h = sheet-walk n n23 t B gs sh (path n p) g (half-word n n23 p h) i
+  in-half g p i h = sheet-walk B gs sh (path n p) g (half-word n (B .dim) p h) i
 
   -- a dart of the sheet at another place: some dart of the sheet has its link 1 in it
   pub out-crosses : (g p : ℕ) → In g gs → half n ≤ p → p < cellSize n → In (place n t g p) gs → (x : ℕ) × In x gs × In (link t 1 x) gs
   out-crosses g p i l h k = ⊎-elim
-      (λ a. (place n t g p, k, subst (λ (z : ℕ). In z gs) (sym (places-link g 1 p i (dim-large n n23) h)) (in-half g (cellLink n 1 p) i a)))
+      (λ a. (place n t g p, k, subst (λ (z : ℕ). In z gs) (sym (places-link g 1 p i (B .dim .0) h)) (in-half g (cellLink n 1 p) i a)))
       (λ a. let e = a .0 in
       let y = place n t g (cellLink n 2 p) in
       let q = places-link g 2 p i (omega arith) h in
       let j : In y gs = subst (λ (z : ℕ). In z gs) q (sh .far (place n t g p) 2 (omega arith) (omega arith) k) in
-      (y, j, subst (λ (z : ℕ). In z gs) (sym (places-link g 1 (cellLink n 2 p) i (omega arith) (rows-in n 2 p n23 (omega arith) h))) (in-half g (cellLink n 1 (cellLink n 2 p)) i (a .1))))
-      (out-row n n23 p l h)
+      (y, j, subst (λ (z : ℕ). In z gs) (sym (places-link g 1 (cellLink n 2 p) i (omega arith) (rows-in n 2 p (B .dim) (omega arith) h))) (in-half g (cellLink n 1 (cellLink n 2 p)) i (a .1))))
+      (out-row n (B .dim) p l h)
 
 -- ---- the chart of a half
 
-module _ (n : ℕ) (n23 : Dim n) (t : List ℕ) (B : Block n t) (gs : List ℕ) (sh : Sheet n t gs) (fs : List ℕ) (fresh : Vacant t fs) (enough : length fs ≡ n * length gs)
+module _ {n : ℕ} {t : List ℕ} (B : BlockTable n t) (gs : List ℕ) (sh : Sheet n t gs) (fs : List ℕ) (fresh : Vacant t fs) (enough : length fs ≡ n * length gs)
     (parted : (x : ℕ) → In x gs → In (link t 1 x) gs → ⊥) where
   abbrev u : List ℕ
   u = halved n t gs fs
 
   abbrev L : ℕ → Type 0
-  L = Live n n23 t B gs sh fs fresh enough
+  L = Live B gs sh fs fresh enough
 
   pub out-half : (g p : ℕ) → In g gs → half n ≤ p → p < cellSize n → In (place n t g p) gs → ⊥
-  out-half g p i l h k = let r = out-crosses n n23 t B gs sh g p i l h k in parted (r .0) (r .1) (r .2)
+  out-half g p i l h k = let r = out-crosses B gs sh g p i l h k in parted (r .0) (r .1) (r .2)
 
   module _ (g : ℕ) (i : In g gs) where
     -- the dart at a spot
@@ -208,61 +208,61 @@ module _ (n : ℕ) (n23 : Dim n) (t : List ℕ) (B : Block n t) (gs : List ℕ) 
     on (spot r p) = dart n gs fs r (place n t g p)
 
     place-lives : (p : ℕ) → p < cellSize n → live t (place n t g p) ≡ true
-    place-lives p h = place-live n t n23 B g p (sh .lives g i) h
+    place-lives p h = place-live B g p (sh .lives g i) h
 
     on-link : (e : Spot) (j : ℕ) → valid n e ≡ true → j < n → link u j (on e) ≡ on (spotLink n j e)
     unfolding valid on spotLink dart
     on-link (spot zero p) j v b =
-        let s = dim-small n n23 in
+        let s = B .dim .1 in
         let h = ltb-true p (cellSize n) v in
-        let q = places-link n n23 t B gs sh g j p i b h in
+        let q = places-link B gs sh g j p i b h in
         if-eq j 0
         (λ e. if-lt p (half n)
-        (λ l. rw (eq-eqb j 0 e, lt-ltb p (half n) l, spotLink, e) (split-cut n n23 t B gs sh fs fresh enough (place n t g p) (in-half n n23 t B gs sh g p i l)))
-        (λ l. rw (eq-eqb j 0 e, le-ltb p (half n) l, spotLink) (keeps-off n n23 t B gs sh fs fresh enough (place n t g p) j (place-lives p h) (omega arith) (out-half g p i l h) ∙ q)))
-        (λ e. rw (ne-eqb j 0 e, spotLink) (keeps n n23 t B gs sh fs fresh enough (place n t g p) j (place-lives p h) (omega arith) e ∙ q))
+        (λ l. rw (eq-eqb j 0 e, lt-ltb p (half n) l, spotLink, e) (split-cut B gs sh fs fresh enough (place n t g p) (in-half B gs sh g p i l)))
+        (λ l. rw (eq-eqb j 0 e, le-ltb p (half n) l, spotLink) (keeps-off B gs sh fs fresh enough (place n t g p) j (place-lives p h) (omega arith) (out-half g p i l h) ∙ q)))
+        (λ e. rw (ne-eqb j 0 e, spotLink) (keeps B gs sh fs fresh enough (place n t g p) j (place-lives p h) (omega arith) e ∙ q))
     on-link (spot (suc r) p) j v b =
-        let s = dim-small n n23 in
+        let s = B .dim .1 in
         let hr = ltb-true r n (and-l (ltb r n) _ v) in
         let l = ltb-true p (half n) (and-r (ltb r n) _ v) in
-        role-link n n23 t B gs sh fs fresh enough (suc r) (place n t g p) j hr (in-half n n23 t B gs sh g p i l) (omega arith)
-        ∙ ap (dart n gs fs (roleTo n (suc r) j)) (walk-rows n t (place n t g) n23 (place-chart n t n23 B g (sh .lives g i) .follow) (roleWord n (suc r) j) p (word-small n n23 r j hr b) (half-size n n23 p l))
+        role-link B gs sh fs fresh enough (suc r) (place n t g p) j hr (in-half B gs sh g p i l) (omega arith)
+        ∙ ap (dart n gs fs (roleTo n (suc r) j)) (walk-rows n t (place n t g) (B .dim) (place-chart B g (sh .lives g i) .follow) (roleWord n (suc r) j) p (word-small n (B .dim) r j hr b) (half-size n (B .dim) p l))
 
     on-live : (e : Spot) → valid n e ≡ true → L (on e)
     unfolding valid on dart
     on-live (spot zero p) v = was (place-lives p (ltb-true _ _ v))
-    on-live (spot (suc r) p) v = is r (place n t g p) (ltb-true r n (and-l (ltb r n) _ v)) (in-half n n23 t B gs sh g p i (ltb-true p (half n) (and-r (ltb r n) _ v))) refl
+    on-live (spot (suc r) p) v = is r (place n t g p) (ltb-true r n (and-l (ltb r n) _ v)) (in-half B gs sh g p i (ltb-true p (half n) (and-r (ltb r n) _ v))) refl
 
     on-one : (e f : Spot) → valid n e ≡ true → valid n f ≡ true → on e ≡ on f → e ≡ f
     unfolding valid on dart
-    on-one (spot zero p) (spot zero q) v w e = ap (spot 0) (place-one n t n23 B g p q (sh .lives g i) (ltb-true _ _ v) (ltb-true _ _ w) e)
+    on-one (spot zero p) (spot zero q) v w e = ap (spot 0) (place-one B g p q (sh .lives g i) (ltb-true _ _ v) (ltb-true _ _ w) e)
     on-one (spot zero p) (spot (suc s) q) v w e = absurd (mixed p s q v w e)
       where
         mixed : (p s q : ℕ) → ltb p (cellSize n) ≡ true → (ltb s n && ltb q (half n)) ≡ true → place n t g p ≡ newDart n gs fs s (place n t g q) → ⊥
         mixed p s q v w e = clash (place-lives p (ltb-true _ _ v)) (fresh .dead _ (subst (λ (z : ℕ). In z fs) (sym e)
-            (new-in n n23 t B gs sh fs fresh enough s (place n t g q) (ltb-true s n (and-l (ltb s n) _ w)) (in-half n n23 t B gs sh g q i (ltb-true q (half n) (and-r (ltb s n) _ w))))))
+            (new-in B gs sh fs fresh enough s (place n t g q) (ltb-true s n (and-l (ltb s n) _ w)) (in-half B gs sh g q i (ltb-true q (half n) (and-r (ltb s n) _ w))))))
     on-one (spot (suc r) p) (spot zero q) v w e = absurd (clash (place-lives q (ltb-true _ _ w)) (fresh .dead _ (subst (λ (z : ℕ). In z fs) e
-        (new-in n n23 t B gs sh fs fresh enough r (place n t g p) (ltb-true r n (and-l (ltb r n) _ v)) (in-half n n23 t B gs sh g p i (ltb-true p (half n) (and-r (ltb r n) _ v)))))))
+        (new-in B gs sh fs fresh enough r (place n t g p) (ltb-true r n (and-l (ltb r n) _ v)) (in-half B gs sh g p i (ltb-true p (half n) (and-r (ltb r n) _ v)))))))
     on-one (spot (suc r) p) (spot (suc s) q) v w e =
         let hp = ltb-true p (half n) (and-r (ltb r n) _ v) in
         let hq = ltb-true q (half n) (and-r (ltb s n) _ w) in
-        let o = new-one n n23 t B gs sh fs fresh enough r s (place n t g p) (place n t g q) (ltb-true r n (and-l (ltb r n) _ v)) (ltb-true s n (and-l (ltb s n) _ w))
-        (in-half n n23 t B gs sh g p i hp) (in-half n n23 t B gs sh g q i hq) e in
-        ap₂ spot (ap suc (o .0)) (place-one n t n23 B g p q (sh .lives g i) (half-size n n23 p hp) (half-size n n23 q hq) (o .1))
+        let o = new-one B gs sh fs fresh enough r s (place n t g p) (place n t g q) (ltb-true r n (and-l (ltb r n) _ v)) (ltb-true s n (and-l (ltb s n) _ w))
+        (in-half B gs sh g p i hp) (in-half B gs sh g q i hq) e in
+        ap₂ spot (ap suc (o .0)) (place-one B g p q (sh .lives g i) (half-size n (B .dim) p hp) (half-size n (B .dim) q hq) (o .1))
 
     half-chart : Chart n u (λ k. on (spotAt n k))
     half-chart = record {
-      follow = λ j k hj hk. on-link (spotAt n k) j (spot-valid n n23 k hk) hj ∙ ap on (spot-link n n23 j k hj hk);
-      apart = λ a b ab hb e. spot-apart n n23 a b ab hb (on-one (spotAt n a) (spotAt n b) (spot-valid n n23 a (omega arith)) (spot-valid n n23 b hb) e);
+      follow = λ j k hj hk. on-link (spotAt n k) j (spot-valid n (B .dim) k hk) hj ∙ ap on (spot-link n (B .dim) j k hj hk);
+      apart = λ a b ab hb e. spot-apart n (B .dim) a b ab hb (on-one (spotAt n a) (spotAt n b) (spot-valid n (B .dim) a (omega arith)) (spot-valid n (B .dim) b hb) e);
     }
 
     half-charted : (x : ℕ) (e : Spot) → has n e ≡ true → x ≡ on e → Charted n u x
     half-charted x e h q =
-        let r = has-at n n23 e h in
+        let r = has-at n (B .dim) e h in
         record {
           c = λ k. on (spotAt n k);
           chart = half-chart;
-          base = live-of n u L (split-ruled n n23 t B gs sh fs fresh enough) (on (spotAt n 0)) (on-live (spotAt n 0) (spot-valid n n23 0 (size-some n n23)));
+          base = live-of n u L (split-ruled B gs sh fs fresh enough) (on (spotAt n 0)) (on-live (spotAt n 0) (spot-valid n (B .dim) 0 (size-some n (B .dim))));
           k = r .0;
           low = r .1;
           is = q ∙ ap on (sym (r .2));
@@ -274,47 +274,49 @@ module _ (n : ℕ) (n23 : Dim n) (t : List ℕ) (B : Block n t) (gs : List ℕ) 
   whole-charted : (x : ℕ) → live t x ≡ true → ((k : ℕ) → k < cellSize n → In (place n t x k) gs → ⊥) → Charted n u x
   whole-charted x l none = record {
     c = place n t x;
-    chart = chart-kept n t n23 B u (place n t x) (place-chart n t n23 B x l) (λ j k hj hk. let s = dim-small n n23 in
-        keeps-off n n23 t B gs sh fs fresh enough (place n t x k) j (place-live n t n23 B x k l hk) (omega arith) (none k hk));
-    base = live-of n u L (split-ruled n n23 t B gs sh fs fresh enough) (place n t x 0) (was (place-live n t n23 B x 0 l (size-some n n23)));
+    chart = chart-kept B u (place n t x) (place-chart B x l) (λ j k hj hk. let s = B .dim .1 in
+        keeps-off B gs sh fs fresh enough (place n t x k) j (place-live B x k l hk) (omega arith) (none k hk));
+    base = live-of n u L (split-ruled B gs sh fs fresh enough) (place n t x 0) (was (place-live B x 0 l (size-some n (B .dim))));
     k = 0;
-    low = size-some n n23;
-    is = place-zero n t n23 B x l;
+    low = size-some n (B .dim);
+    is = place-zero B x l;
   }
 
   -- a place of a dart of the sheet: in its half, or in the other
   place-charted : (g p : ℕ) → In g gs → p < cellSize n → Charted n u (place n t g p)
   unfolding on dart across place
   place-charted g p i h = ⊎-elim (λ a. half-charted g i (place n t g p) (spot 0 p) a refl)
-      (λ a. half-charted (link t 0 g) i₀ (place n t g p) (spot 0 (across n p)) (a .1) seen) (place-has n n23 p h)
+      (λ a. half-charted (link t 0 g) i₀ (place n t g p) (spot 0 (across n p)) (a .1) seen) (place-has n (B .dim) p h)
     where
       i₀ : In (link t 0 g) gs
       i₀ = sh .along g i
 
       ch : Chart n t (place n t (link t 0 g))
-      ch = place-chart n t n23 B (link t 0 g) (sh .lives _ i₀)
+      ch = place-chart B (link t 0 g) (sh .lives _ i₀)
 
       zero-in : 0 < n
-      zero-in = let two = dim-large n n23 in omega arith
+      zero-in = let two = B .dim .0 in omega arith
 
       here : g ≡ place n t (link t 0 g) (cellLink n 0 0)
-      here = sym (sheet-rule n n23 t B gs sh g i .comes 0 (omega arith)) ∙ ap (link t 0) (place-zero n t n23 B (link t 0 g) (sh .lives _ i₀)) ∙ ch .follow 0 0 zero-in (size-some n n23)
+      here = sym (sheet-rule B gs sh g i .comes 0 (omega arith)) ∙ ap (link t 0) (place-zero B (link t 0 g) (sh .lives _ i₀)) ∙ ch .follow 0 0 zero-in (size-some n (B .dim))
 
       seen : place n t g p ≡ place n t (link t 0 g) (across n p)
-      seen = ap (walk t (path n p)) here ∙ walk-rows n t (place n t (link t 0 g)) n23 (ch .follow) (path n p) (cellLink n 0 0) (path-small n p n23 h) (rows-in n 0 0 n23 zero-in (size-some n n23))
+      seen = ap (walk t (path n p)) here ∙ walk-rows n t (place n t (link t 0 g)) (B .dim) (ch .follow) (path n p) (cellLink n 0 0) (path-small n p (B .dim) h) (rows-in n 0 0 (B .dim) zero-in (size-some n (B .dim)))
 
   charted : (x : ℕ) → L x → Charted n u x
   unfolding on dart
-  charted x (is r g b i e) = half-charted g i x (spot (suc r) 0) (role-has n n23 r b) (e ∙ ap (newDart n gs fs r) (place-zero n t n23 B g (sh .lives g i)))
+  charted x (is r g b i e) = half-charted g i x (spot (suc r) 0) (role-has n (B .dim) r b) (e ∙ ap (newDart n gs fs r) (place-zero B g (sh .lives g i)))
   charted x (was l) = test (allBelow (cellSize n) (λ k. not (member gs (place n t x k))))
       (λ h. whole-charted x l (λ k hk j. clash (in-member gs _ j) (not-true _ (below-at (λ k. not (member gs (place n t x k))) (cellSize n) h k hk))))
       (λ h. let r = below-not (λ k. not (member gs (place n t x k))) (cellSize n) h in
-      let q = place-back n t n23 B x (r .0) l (r .1) in
+      let q = place-back B x (r .0) l (r .1) in
       subst (Charted n u) (sym (q .2)) (place-charted (place n t x (r .0)) (q .0) (member-in gs _ (not-false _ (r .2))) (q .1)))
 
-  pub split-block : Block n (halved n t gs fs)
-  split-block = block-by n u n23 fits (split-ruled n n23 t B gs sh fs fresh enough .few) (split-map n n23 t B gs sh fs fresh enough)
-      (λ x l. charted x (of-live n u L (split-ruled n n23 t B gs sh fs fresh enough) x (live-in u x fits l) l))
+  pub split-block : BlockTable n (halved n t gs fs)
+  split-block = block-by table (λ x l. charted x (of-live n u L ruled x (live-below table x l) l))
     where
-      fits : length u ≡ 4 * slots u
-      fits = split-fits n n23 t B gs sh fs fresh enough
+      ruled : Ruled n u L
+      ruled = split-ruled B gs sh fs fresh enough
+
+      table : MapTable n u
+      table = ruled-table (B .dim) (split-fits B gs sh fs fresh enough) ruled

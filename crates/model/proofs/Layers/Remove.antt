@@ -1,5 +1,4 @@
 -- Remove keeps a map, and a block map.
--- Assumes nothing.
 use Prim.Native.Nat.{ℕ, zero, suc, _+_, _*_, _-_, _≤_, _<_}
 use mathlib.Core.Path.{_≡_, refl, sym, ap, _∙_, subst}
 use mathlib.Core.Logic.{_⊎_, inl, inr}
@@ -16,15 +15,16 @@ use Rattle.model.specs.Table.{unused, slots, link, walk, live, relink, r
 use Rattle.model.specs.Cell.{cellSize}
 use Rattle.model.specs.Remove.{opposite, marked, outside, removedLink, removed}
 use Rattle.model.specs.Everything.{everything}
-use Rattle.model.specs.Meaning.Maps.{Block, Dim, Map, Rule}
+use Rattle.model.specs.Meaning.Maps.{Dim, Map, MapTable, BlockTable, Rule}
 use Rattle.model.specs.Meaning.Pairings.{Far}
 use Rattle.model.specs.Meaning.Places.{place}
 use Rattle.model.specs.Meaning.Walks.{hop, FirstOutside, stop, onward}
 use Rattle.model.proofs.Lists.Scan.{bool-cases, clash, and-l, and-r, below-at}
-use Rattle.model.proofs.Maps.Rules.{Change, relink-map, relink-link, relink-slots, relink-live, live-in, live-by, dead-by, dead-link, slots-retable, length-retable, link-retable, relink-fits, at-same, at-other}
+use Rattle.model.proofs.Maps.Rules.{Relinking, relink-table, relink-link, relink-slots, relink-live, live-in, live-by, dead-by, dead-link, slots-retable, length-retable, link-retable, relink-fits, at-same, at-other}
 use Rattle.model.proofs.Sewing.Side.{past}
 use Rattle.model.proofs.Cells.Cell.{cell-words, rowWalk, small}
-use Rattle.model.proofs.Maps.Dim.{dim-small, dim-large, two-cases, size-some}
+use Rattle.model.proofs.Maps.Tables.{mapTable, rule-at}
+use Rattle.model.proofs.Maps.Dim.{two-cases, size-some}
 use Rattle.model.proofs.Cells.Chart.{keep, block-by, Charted, place-chart, place-zero, place-live, place-keep, chart-kept}
 use Rattle.model.proofs.Sets.Escape.{out, escapes}
 use Rattle.model.proofs.Sewing.Partners.{ltb-or}
@@ -38,13 +38,13 @@ pub record Cleared (t u : List ℕ) (R : ℕ → Bool) : Type 0 where
   pub kept : (x j : ℕ) → x < slots t → j < 4 → R x ≡ false → link u j x ≡ link t j x
   pub shut : (x j : ℕ) → j < 4 → live t x ≡ true → R x ≡ false → R (link t j x) ≡ false
 
-module _ (n : ℕ) (t u : List ℕ) (R : ℕ → Bool) (n3 : n ≤ 3) (fits : length t ≡ 4 * slots t) (few : slots t ≤ 65536) (m : Map n t) (c : Cleared t u R) where
+module _ {n : ℕ} {t u : List ℕ} {R : ℕ → Bool} (T : MapTable n t) (c : Cleared t u R) where
   rule : (y : ℕ) → live t y ≡ true → Rule n t y
-  rule y h = m .rule y (live-in t y fits h) h
+  rule y h = rule-at T y h
 
   stays : (x : ℕ) → x < slots t → R x ≡ false → live t x ≡ true → live u x ≡ true
   stays x l r h = live-by u x (λ q.
-      let a = live-in t (link t 0 x) fits (rule x h .goes 0 (omega arith)) in
+      let a = live-in t (link t 0 x) (T .whole) (rule x h .goes 0 (omega arith)) in
       let b = c .kept x 0 l (omega arith) r in
       omega arith)
 
@@ -74,7 +74,7 @@ module _ (n : ℕ) (t u : List ℕ) (R : ℕ → Bool) (n3 : n ≤ 3) (fits : le
           hop x j l′ b r′ e′ = c .kept x j l′ b r′
 
           inn : (x j : ℕ) → j < 4 → live t x ≡ true → link t j x < slots t
-          inn x j b e′ = live-in t (link t j x) fits (rule x e′ .goes j b)
+          inn x j b e′ = live-in t (link t j x) (T .whole) (rule x e′ .goes j b)
 
           four : (a b : ℕ) → a < 4 → b < 4 → link u b (link u a (link u b (link u a d))) ≡ link t b (link t a (link t b (link t a d)))
           four a b ha hb =
@@ -86,9 +86,9 @@ module _ (n : ℕ) (t u : List ℕ) (R : ℕ → Bool) (n3 : n ≤ 3) (fits : le
               let r₃ = c .shut (link t b (link t a d)) a ha e₂ r₂ in
               rw (
                 c .kept d a l ha r,
-                c .kept (link t a d) b (live-in t _ fits e₁) hb r₁,
-                c .kept (link t b (link t a d)) a (live-in t _ fits e₂) ha r₂,
-                c .kept (link t a (link t b (link t a d))) b (live-in t _ fits e₃) hb r₃,
+                c .kept (link t a d) b (live-in t _ (T .whole) e₁) hb r₁,
+                c .kept (link t b (link t a d)) a (live-in t _ (T .whole) e₂) ha r₂,
+                c .kept (link t a (link t b (link t a d))) b (live-in t _ (T .whole) e₃) hb r₃,
               )
 
 -- ---- the opposite side, in a block map
@@ -111,21 +111,21 @@ opp-rows-true : (n : ℕ) → Dim n → opp-rows n ≡ true
 unfolding everything opp-rows rowWalk small
 opp-rows-true n n23 = two-cases n n23 (λ n. opp-rows n ≡ true) refl refl
 
-module _ (n : ℕ) (n23 : Dim n) (t : List ℕ) (B : Block n t) where
+module _ {n : ℕ} {t : List ℕ} (B : BlockTable n t) where
   o : List ℕ
   o = opposite n
 
   rows : opp-rows n ≡ true
-  rows = opp-rows-true n n23
+  rows = opp-rows-true n (B .dim)
 
   n3 : n ≤ 3
-  n3 = dim-small n n23
+  n3 = B .dim .1
 
   rule′ : (y : ℕ) → live t y ≡ true → Rule n t y
-  rule′ y h = B .map .rule y (live-in t y (B .fits) h) h
+  rule′ y h = rule-at (mapTable B) y h
 
   agree : (d : ℕ) → live t d ≡ true → (v w : List ℕ) → small n v ≡ true → small n w ≡ true → rowWalk n v 0 ≡ rowWalk n w 0 → walk t v d ≡ walk t w d
-  agree d l = cell-words n t d n23 (B .fits) (B .map) l (B .good d l)
+  agree d l = cell-words (mapTable B) d l (B .good d l)
 
   opp-opp : (d : ℕ) → live t d ≡ true → opp n t (opp n t d) ≡ d
   unfolding opp-rows small walk
@@ -174,7 +174,7 @@ module _ (n : ℕ) (n23 : Dim n) (t : List ℕ) (B : Block n t) where
   opp-small = and-l (small n (opposite n)) (small n (opposite n ++ opposite n)) (and-l (small n (opposite n) && small n (opposite n ++ opposite n)) _ (and-l (small n (opposite n) && small n (opposite n ++ opposite n) && eqb (rowWalk n (opposite n ++ opposite n) 0) (rowWalk n [] 0)) _ rows))
 
   opp-live : (x : ℕ) → live t x ≡ true → live t (opp n t x) ≡ true
-  opp-live x l = keep n t n23 B (λ _. Unit {0}) (λ x j b l _. tt) (opposite n) opp-small x l tt .0
+  opp-live x l = keep B (λ _. Unit {0}) (λ x j b l _. tt) (opposite n) opp-small x l tt .0
 
   -- ---- the walk across the removed cells
 
@@ -196,7 +196,7 @@ module _ (n : ℕ) (n23 : Dim n) (t : List ℕ) (B : Block n t) where
         go (inr e) = e
 
     R-opp : (x : ℕ) → R x ≡ true → R (opp n t x) ≡ true
-    R-opp x r = keep n t n23 B (λ y. marked mk y ≡ true) (λ y j b l p. R-cell y j b l p) (opposite n) opp-small x (R-live x r) r .1
+    R-opp x r = keep B (λ y. marked mk y ≡ true) (λ y j b l p. R-cell y j b l p) (opposite n) opp-small x (R-live x r) r .1
 
     h-live : (y : ℕ) → live t y ≡ true → live t (h y) ≡ true
     unfolding hop
@@ -231,7 +231,7 @@ module _ (n : ℕ) (n23 : Dim n) (t : List ℕ) (B : Block n t) where
 
     beside : (y j : ℕ) → live t y ≡ true → j + 2 ≤ n → h (link t j y) ≡ link t j (h y)
     unfolding hop
-    beside y j l f = ap (link t n) (opp-far y j l f) ∙ past n t (opp n t y) n3 (B .fits) (B .map) (opp-live y l) n j (le-refl n) (omega arith) (inr f)
+    beside y j l f = ap (link t n) (opp-far y j l f) ∙ past n t (opp n t y) n3 (B .whole) (B .map) (opp-live y l) n j (le-refl n) (omega arith) (inr f)
 
     run-far : (z y j : ℕ) → live t y ≡ true → j + 2 ≤ n → Run z y → Run (link t j z) (link t j y)
     run-far z y j l f (stop r e) = stop (R-off y j (omega arith) l r) (ap (link t j) e)
@@ -258,20 +258,20 @@ module _ (n : ℕ) (n23 : Dim n) (t : List ℕ) (B : Block n t) where
         go rec (inr e) = stop e (sym (out-stop (suc k) y e))
 
     out-same : (one : (y z : ℕ) → R y ≡ true → R z ≡ true → h y ≡ h z → y ≡ z) (y₀ : ℕ) (fresh : (y : ℕ) → R y ≡ true → h y ≡ y₀ → ⊥)
-        → (k y : ℕ) → outside n t mk k y ≡ out (slots t) R h y₀ (λ y r. live-in t y (B .fits) (R-live y r)) one fresh k y
+        → (k y : ℕ) → outside n t mk k y ≡ out (slots t) R h y₀ (λ y r. live-in t y (B .whole) (R-live y r)) one fresh k y
     unfolding outside out
     out-same one y₀ fresh zero y = refl
     out-same one y₀ fresh (suc k) y = go (out-same one y₀ fresh k (h y)) (bool-cases (R y))
       where
         ins : (y : ℕ) → R y ≡ true → y < slots t
-        ins y r = live-in t y (B .fits) (R-live y r)
+        ins y r = live-in t y (B .whole) (R-live y r)
 
         go : outside n t mk k (h y) ≡ out (slots t) R h y₀ ins one fresh k (h y) → (R y ≡ true) ⊎ (R y ≡ false) → outside n t mk (suc k) y ≡ out (slots t) R h y₀ ins one fresh (suc k) y
         go rec (inl e) = out-step k y e ∙ rec ∙ rw (e, out)
         go rec (inr e) = out-stop (suc k) y e ∙ rw (e, out)
 
     leaves : (x : ℕ) → live t x ≡ true → R x ≡ false → R (outside n t mk (slots t) (link t n x)) ≡ false
-    leaves x l r = ap R (out-same one (link t n x) fresh (slots t) (link t n x)) ∙ escapes (slots t) R h (link t n x) (λ y q. live-in t y (B .fits) (R-live y q)) one fresh
+    leaves x l r = ap R (out-same one (link t n x) fresh (slots t) (link t n x)) ∙ escapes (slots t) R h (link t n x) (λ y q. live-in t y (B .whole) (R-live y q)) one fresh
       where
         one : (y z : ℕ) → R y ≡ true → R z ≡ true → h y ≡ h z → y ≡ z
         one y z a b e = sym (opp-opp y (R-live y a)) ∙ ap (opp n t) (sym (h-back y (R-live y a)) ∙ ap (link t n) e ∙ h-back z (R-live z b)) ∙ opp-opp z (R-live z b)
@@ -296,7 +296,7 @@ module _ (n : ℕ) (n23 : Dim n) (t : List ℕ) (B : Block n t) where
     n-live : (x : ℕ) → live t x ≡ true → live t (link t n x) ≡ true
     n-live x l = let c = n3 in rule′ x l .goes n (omega arith)
 
-    remove-change : Change n t n g
+    remove-change : Relinking n t n g
     remove-change = record {
       goes = λ x l. goes x l (bool-cases (R x));
       comes = λ x l. comes x l (bool-cases (R x));
@@ -326,7 +326,7 @@ module _ (n : ℕ) (n23 : Dim n) (t : List ℕ) (B : Block n t) where
             let c = n3 in
             let b = rule′ x l .goes j (omega arith) in
             run-one (g (link t j x)) (link t j (g x)) (link t n (link t j x)) (g-run (link t j x) b (R-off x j (omega arith) l e))
-            (subst (Run (link t j (g x))) (sym (past n t x n3 (B .fits) (B .map) l n j (le-refl n) (omega arith) (inr f))) (run-far (g x) (link t n x) j (n-live x l) f (g-run x l e)))
+            (subst (Run (link t j (g x))) (sym (past n t x n3 (B .whole) (B .map) l n j (le-refl n) (omega arith) (inr f))) (run-far (g x) (link t n x) j (n-live x l) f (g-run x l e)))
 
         dead : (x : ℕ) → live t x ≡ false → g x ≡ unused
         dead x e = g-stays x (not-live x e) ∙ ap (outside n t mk (slots t)) q ∙ out-stop (slots t) unused far-off
@@ -345,7 +345,7 @@ module _ (n : ℕ) (n23 : Dim n) (t : List ℕ) (B : Block n t) where
             far-off = go (bool-cases (R unused))
               where
                 go : (R unused ≡ true) ⊎ (R unused ≡ false) → R unused ≡ false
-                go (inl r) = let a = live-in t unused (B .fits) (R-live unused r) in let b = B .few in absurd (omega arith)
+                go (inl r) = let a = live-in t unused (B .whole) (R-live unused r) in let b = B .few in absurd (omega arith)
                 go (inr r) = r
 
     -- ---- and the removed table
@@ -362,18 +362,21 @@ module _ (n : ℕ) (n23 : Dim n) (t : List ℕ) (B : Block n t) where
         go (inl q) = rw (e, q, removedLink, relinkAt) (sym (g-stays x e))
         go (inr q) = rw (e, q, removedLink, relinkAt)
 
+    relinked : MapTable n (relink t n g)
+    relinked = relink-table (mapTable B) (le-refl n) remove-change
+
     same-slots : slots (relink t n g) ≡ slots t
-    same-slots = relink-slots n t n g n3 (le-refl n) (B .fits) (B .few) (B .map) remove-change
+    same-slots = relink-slots (mapTable B) (le-refl n) remove-change
 
     new-link : (x j : ℕ) → x < slots t → j < 4 → link (relink t n g) j x ≡ relinkAt t n g x j
-    new-link = relink-link n t n g n3 (le-refl n) (B .fits) (B .few) (B .map) remove-change
+    new-link = relink-link (mapTable B) (le-refl n) remove-change
 
     cleared : Cleared (relink t n g) (removed n t mk) R
     unfolding removed
     cleared = record {
-      slots-same = slots-retable t (removedLink n t mk) (B .fits) ∙ sym same-slots;
-      gone = λ x j l b e. link-retable t (removedLink n t mk) (B .fits) x j (rw same-slots at l) b ∙ gone-at x j e;
-      kept = λ x j l b e. link-retable t (removedLink n t mk) (B .fits) x j (rw same-slots at l) b ∙ stays-at x j e ∙ sym (new-link x j (rw same-slots at l) b);
+      slots-same = slots-retable t (removedLink n t mk) (B .whole) ∙ sym same-slots;
+      gone = λ x j l b e. link-retable t (removedLink n t mk) (B .whole) x j (rw same-slots at l) b ∙ gone-at x j e;
+      kept = λ x j l b e. link-retable t (removedLink n t mk) (B .whole) x j (rw same-slots at l) b ∙ stays-at x j e ∙ sym (new-link x j (rw same-slots at l) b);
       shut = λ x j b l e. shut x j b l e;
     }
       where
@@ -381,81 +384,81 @@ module _ (n : ℕ) (n23 : Dim n) (t : List ℕ) (B : Block n t) where
         shut x j b l e = ap R (new-link x j hx b) ∙ go (ℕ-discrete j n) (ltb-or j n)
           where
             hx : x < slots t
-            hx = rw same-slots at (live-in (relink t n g) x (relink-fits t n g (B .fits)) l)
+            hx = rw same-slots at (live-in (relink t n g) x (relink-fits t n g (B .whole)) l)
 
             lx : live t x ≡ true
-            lx = sym (relink-live n t n g n3 (le-refl n) (B .fits) (B .few) (B .map) remove-change x hx) ∙ l
+            lx = sym (relink-live (mapTable B) (le-refl n) remove-change x hx) ∙ l
 
             go : Dec (j ≡ n) → (j < n) ⊎ (n ≤ j) → R (relinkAt t n g x j) ≡ false
             go (yes q) z = ap (λ (k : ℕ). R (relinkAt t n g x k)) q ∙ ap R (at-same t n g x) ∙ run-live (g x) (link t n x) (n-live x lx) (g-run x lx e) .1
             go (no q) (inl z) = ap R (at-other t n g x j q) ∙ R-off x j z lx e
             go (no q) (inr z) =
                 let c = n3 in
-                let two : n ≡ 2 = two-cases n n23 (λ k. k < j → k ≡ 2) (λ _. refl) (λ w. absurd (omega arith)) (omega arith) in
+                let two : n ≡ 2 = two-cases n (B .dim) (λ k. k < j → k ≡ 2) (λ _. refl) (λ w. absurd (omega arith)) (omega arith) in
                 let j3 : j ≡ 3 = omega arith in
                 ap R (at-other t n g x j q ∙ ap (λ (k : ℕ). link t k x) j3 ∙ rule′ x lx .plane two) ∙ e
 
     pub remove-map : Map n (removed n t mk)
-    remove-map =
-        clear-map n (relink t n g) (removed n t mk) R n3 (relink-fits t n g (B .fits)) (let a = same-slots in let b = B .few in omega arith)
-        (relink-map n t n g n3 (le-refl n) (B .fits) (B .few) (B .map) remove-change) cleared
+    remove-map = clear-map relinked cleared
 
     abbrev v : List ℕ
     v = removed n t mk
 
     v-slots : slots v ≡ slots t
     unfolding removed
-    v-slots = slots-retable t (removedLink n t mk) (B .fits)
+    v-slots = slots-retable t (removedLink n t mk) (B .whole)
 
     v-fits : length v ≡ 4 * slots v
     unfolding removed
-    v-fits = length-retable t (removedLink n t mk) (B .fits) ∙ B .fits ∙ ap (λ (k : ℕ). 4 * k) (sym v-slots)
+    v-fits = length-retable t (removedLink n t mk) (B .whole) ∙ B .whole ∙ ap (λ (k : ℕ). 4 * k) (sym v-slots)
 
     -- a dart that is not removed keeps its links below n
     pub remove-stays : (x j : ℕ) → j < n → live t x ≡ true → R x ≡ false → link v j x ≡ link t j x
     unfolding removed
-    remove-stays x j b l e = let c = n3 in link-retable t (removedLink n t mk) (B .fits) x j (live-in t x (B .fits) l) (omega arith) ∙ stays-at x j e ∙ at-other t n g x j (omega arith)
+    remove-stays x j b l e = let c = n3 in link-retable t (removedLink n t mk) (B .whole) x j (live-in t x (B .whole) l) (omega arith) ∙ stays-at x j e ∙ at-other t n g x j (omega arith)
 
     -- its link n leads to the first dart outside on the walk
     pub remove-walk : (x : ℕ) → live t x ≡ true → R x ≡ false → FirstOutside n t mk (link v n x) (link t n x)
     unfolding removed
     remove-walk x l e = let c = n3 in
-        subst (λ (z : ℕ). Run z (link t n x)) (sym (link-retable t (removedLink n t mk) (B .fits) x n (live-in t x (B .fits) l) (omega arith) ∙ stays-at x n e ∙ at-same t n g x)) (g-run x l e)
+        subst (λ (z : ℕ). Run z (link t n x)) (sym (link-retable t (removedLink n t mk) (B .whole) x n (live-in t x (B .whole) l) (omega arith) ∙ stays-at x n e ∙ at-same t n g x)) (g-run x l e)
 
     -- and a removed dart is unused
     pub remove-gone : (x j : ℕ) → j < 4 → R x ≡ true → link v j x ≡ unused
     unfolding removed
-    remove-gone x j b e = link-retable t (removedLink n t mk) (B .fits) x j (live-in t x (B .fits) (R-live x e)) b ∙ gone-at x j e
+    remove-gone x j b e = link-retable t (removedLink n t mk) (B .whole) x j (live-in t x (B .whole) (R-live x e)) b ∙ gone-at x j e
 
     pub remove-live : (x : ℕ) → live v x ≡ true → (R x ≡ false) × (live t x ≡ true)
     remove-live x l =
         let b : x < slots t = rw v-slots at (live-in v x v-fits l) in
         let c = same-slots in
-        let w = was n (relink t n g) v R n3 (relink-fits t n g (B .fits)) (let a = same-slots in let b = B .few in omega arith)
-        (relink-map n t n g n3 (le-refl n) (B .fits) (B .few) (B .map) remove-change) cleared x (omega arith) l in
-        (w .0, sym (relink-live n t n g n3 (le-refl n) (B .fits) (B .few) (B .map) remove-change x b) ∙ w .1)
+        let w = was relinked cleared x (omega arith) l in
+        (w .0, sym (relink-live (mapTable B) (le-refl n) remove-change x b) ∙ w .1)
 
     live-stays : (x : ℕ) → live t x ≡ true → R x ≡ false → live v x ≡ true
     live-stays x l e = live-by v x (λ q.
         let c = n3 in
-        let p : 0 < n = let two = dim-large n n23 in omega arith in
+        let p : 0 < n = let two = B .dim .0 in omega arith in
         let a = remove-stays x 0 p l e in
-        let h = live-in t (link t 0 x) (B .fits) (rule′ x l .goes 0 (omega arith)) in
+        let h = live-in t (link t 0 x) (B .whole) (rule′ x l .goes 0 (omega arith)) in
         let f = B .few in
         omega arith)
 
-    pub remove-block : Block n (removed n t mk)
-    remove-block = block-by n v n23 v-fits (let a = v-slots in let b = B .few in omega arith) remove-map (λ x l. charted x (remove-live x l))
+    remove-table : MapTable n v
+    remove-table = record { dim = B .dim; whole = v-fits; few = let a = v-slots in let b = B .few in omega arith; map = remove-map }
+
+    pub remove-block : BlockTable n (removed n t mk)
+    remove-block = block-by remove-table (λ x l. charted x (remove-live x l))
       where
         stays : (x k : ℕ) → live t x ≡ true → R x ≡ false → k < cellSize n → R (place n t x k) ≡ false
-        stays x k l e h = place-keep n t n23 B (λ y. R y ≡ false) (λ y j b ly p. R-off y j b ly p) x k l h e
+        stays x k l e h = place-keep B (λ y. R y ≡ false) (λ y j b ly p. R-off y j b ly p) x k l h e
 
         charted : (x : ℕ) → (R x ≡ false) × (live t x ≡ true) → Charted n v x
         charted x w = record {
           c = place n t x;
-          chart = chart-kept n t n23 B v (place n t x) (place-chart n t n23 B x (w .1)) (λ i k hi hk. remove-stays (place n t x k) i hi (place-live n t n23 B x k (w .1) hk) (stays x k (w .1) (w .0) hk));
-          base = live-stays (place n t x 0) (place-live n t n23 B x 0 (w .1) (size-some n n23)) (stays x 0 (w .1) (w .0) (size-some n n23));
+          chart = chart-kept B v (place n t x) (place-chart B x (w .1)) (λ i k hi hk. remove-stays (place n t x k) i hi (place-live B x k (w .1) hk) (stays x k (w .1) (w .0) hk));
+          base = live-stays (place n t x 0) (place-live B x 0 (w .1) (size-some n (B .dim))) (stays x 0 (w .1) (w .0) (size-some n (B .dim)));
           k = 0;
-          low = size-some n n23;
-          is = place-zero n t n23 B x (w .1);
+          low = size-some n (B .dim);
+          is = place-zero B x (w .1);
         }

@@ -1,5 +1,4 @@
 -- Split by roles: the darts of a sheet and its new darts, each the role of a dart of the sheet; a link leads from role to role, by a word of the old links.
--- Assumes nothing.
 use Prim.Native.Nat.{ℕ, zero, suc, _+_, _*_, _/_, _%_, _≤_, _<_}
 use mathlib.Core.Path.{_≡_, refl, sym, ap, ap₂, _∙_, subst}
 use mathlib.Core.Logic.{_≢_}
@@ -12,7 +11,7 @@ use borrow.Author.Tests.{eqb-true, eq-eqb, ne-eqb, ltb-true, lt-ltb, le-ltb}
 use Rattle.model.specs.Lists.{indexOf}
 use Rattle.model.specs.Table.{unused, slots, link, walk}
 use Rattle.model.specs.Split.{newDart, newDartLink, halvedLink, halved}
-use Rattle.model.specs.Meaning.Maps.{Block, Dim, Rule}
+use Rattle.model.specs.Meaning.Maps.{BlockTable, Dim, Rule}
 use Rattle.model.proofs.Lists.Scan.{test, if-eq, if-lt, clash}
 use Rattle.model.proofs.Maps.Rules.{live-in, link-retable, slots-retable, length-retable}
 use Rattle.model.proofs.Lists.Ones.{Vacant, getD-in, index-getD, index-out, index-in, getD-index}
@@ -79,15 +78,15 @@ sheetly zero (i ∷ w) = elim (eqb i 1) [ true ↦ sheetly 1 w | false ↦ (elim
 sheetly (suc zero) (i ∷ w) = elim (eqb i 0) [ true ↦ sheetly 2 w | false ↦ false ]
 sheetly (suc (suc s)) (i ∷ w) = elim (eqb i 1) [ true ↦ sheetly 0 w | false ↦ false ]
 
-module _ (n : ℕ) (n23 : Dim n) (t : List ℕ) (B : Block n t) (gs : List ℕ) (sh : Sheet n t gs) where
+module _ {n : ℕ} {t : List ℕ} (B : BlockTable n t) (gs : List ℕ) (sh : Sheet n t gs) where
   pub sheet-rule : (x : ℕ) → In x gs → Rule n t x
-  sheet-rule x i = B .map .rule x (live-in t x (B .fits) (sh .lives x i)) (sh .lives x i)
+  sheet-rule x i = B .map .rule x (live-in t x (B .whole) (sh .lives x i)) (sh .lives x i)
 
   sheet-link : (x j : ℕ) → j ≢ 1 → j < 4 → In x gs → In (link t j x) gs
   sheet-link x j e b i = below4 (λ j. j ≢ 1 → In (link t j x) gs) (λ _. sh .along x i) (λ q. absurd (q refl)) (λ _. far 2 (omega arith) (omega arith)) (λ _. far 3 (omega arith) (omega arith)) j b e
     where
       far : (j : ℕ) → 2 ≤ j → j ≤ 3 → In (link t j x) gs
-      far j a b = if-lt n j (λ l. let two : n ≡ 2 = two-cases n n23 (λ n. n < j → n ≡ 2) (λ _. refl) (λ q. absurd (omega arith)) l in
+      far j a b = if-lt n j (λ l. let two : n ≡ 2 = two-cases n (B .dim) (λ n. n < j → n ≡ 2) (λ _. refl) (λ q. absurd (omega arith)) l in
           let q : j ≡ 3 = omega arith in subst (λ (z : ℕ). In z gs) (sym (ap (λ (k : ℕ). link t k x) q ∙ sheet-rule x i .plane two)) i) (λ l. sh .far x j a l i)
 
   At : ℕ → ℕ → Type 0
@@ -123,25 +122,25 @@ spread n n23 = two-cases n n23 (λ n. (i l r : ℕ) → i < l → r < n → n * 
 which : (n : ℕ) → Dim n → (i r : ℕ) → r < n → ((n * i + r) / n ≡ i) × ((n * i + r) % n ≡ r)
 which n n23 = two-cases n n23 (λ n. (i r : ℕ) → r < n → ((n * i + r) / n ≡ i) × ((n * i + r) % n ≡ r)) (λ i r b. (omega arith, omega arith)) (λ i r b. (omega arith, omega arith))
 
-module _ (n : ℕ) (n23 : Dim n) (t : List ℕ) (B : Block n t) (gs : List ℕ) (sh : Sheet n t gs) (fs : List ℕ) (fresh : Vacant t fs) (enough : length fs ≡ n * length gs) where
+module _ {n : ℕ} {t : List ℕ} (B : BlockTable n t) (gs : List ℕ) (sh : Sheet n t gs) (fs : List ℕ) (fresh : Vacant t fs) (enough : length fs ≡ n * length gs) where
   abbrev u : List ℕ
   u = halved n t gs fs
 
   pub split-slots : slots u ≡ slots t
   unfolding halved
-  split-slots = slots-retable t (halvedLink n t gs fs) (B .fits)
+  split-slots = slots-retable t (halvedLink n t gs fs) (B .whole)
 
   pub split-fits : length u ≡ 4 * slots u
   unfolding halved
-  split-fits = length-retable t (halvedLink n t gs fs) (B .fits) ∙ B .fits ∙ ap (λ (k : ℕ). 4 * k) (sym split-slots)
+  split-fits = length-retable t (halvedLink n t gs fs) (B .whole) ∙ B .whole ∙ ap (λ (k : ℕ). 4 * k) (sym split-slots)
 
   u-link : (x j : ℕ) → x < slots t → j < 4 → link u j x ≡ halvedLink n t gs fs x j
   unfolding halved
-  u-link = link-retable t (halvedLink n t gs fs) (B .fits)
+  u-link = link-retable t (halvedLink n t gs fs) (B .whole)
 
   -- the place of a new dart among the new slots
   slot : (r g : ℕ) → r < n → In g gs → n * indexOf g gs + r < length fs
-  slot r g b i = let a = spread n n23 (indexOf g gs) (length gs) r (index-in gs g i) b in omega arith
+  slot r g b i = let a = spread n (B .dim) (indexOf g gs) (length gs) r (index-in gs g i) b in omega arith
 
   pub new-in : (r g : ℕ) → r < n → In g gs → In (newDart n gs fs r g) fs
   unfolding newDart
@@ -158,13 +157,13 @@ module _ (n : ℕ) (n23 : Dim n) (t : List ℕ) (B : Block n t) (gs : List ℕ) 
       (k % n, getD gs (k / n) 0, q .0, getD-in gs (k / n) 0 (q .1), sym (ap (λ (z : ℕ). getD fs z unused) (ap (λ (z : ℕ). n * z + k % n) (index-getD gs (k / n) 0 (sh .once) (q .1)) ∙ q .2) ∙ getD-index fs x unused i))
     where
       cut : (k : ℕ) → k < n * length gs → (k % n < n) × (k / n < length gs) × (n * (k / n) + k % n ≡ k)
-      cut = two-cases n n23 (λ n. (k : ℕ) → k < n * length gs → (k % n < n) × (k / n < length gs) × (n * (k / n) + k % n ≡ k)) (λ k h. (omega arith, omega arith, omega arith)) (λ k h. (omega arith, omega arith, omega arith))
+      cut = two-cases n (B .dim) (λ n. (k : ℕ) → k < n * length gs → (k % n < n) × (k / n < length gs) × (n * (k / n) + k % n ≡ k)) (λ k h. (omega arith, omega arith, omega arith)) (λ k h. (omega arith, omega arith, omega arith))
 
   pub new-one : (r r′ g g′ : ℕ) → r < n → r′ < n → In g gs → In g′ gs → newDart n gs fs r g ≡ newDart n gs fs r′ g′ → (r ≡ r′) × (g ≡ g′)
   new-one r r′ g g′ b b′ i i′ e =
       let q = sym (new-index r g b i) ∙ ap (λ (z : ℕ). indexOf z fs) e ∙ new-index r′ g′ b′ i′ in
-      let w = which n n23 (indexOf g gs) r b in
-      let w′ = which n n23 (indexOf g′ gs) r′ b′ in (
+      let w = which n (B .dim) (indexOf g gs) r b in
+      let w′ = which n (B .dim) (indexOf g′ gs) r′ b′ in (
         sym (w .1) ∙ ap (λ (z : ℕ). z % n) q ∙ w′ .1,
         sym (getD-index gs g 0 i) ∙ ap (λ (z : ℕ). getD gs z 0) (sym (w .0) ∙ ap (λ (z : ℕ). z / n) q ∙ w′ .0) ∙ getD-index gs g′ 0 i′,
       )
@@ -173,7 +172,7 @@ module _ (n : ℕ) (n23 : Dim n) (t : List ℕ) (B : Block n t) (gs : List ℕ) 
   unfolding halvedLink
   new-at r g j b i =
       let q = new-index r g b i in
-      let w = which n n23 (indexOf g gs) r b in
+      let w = which n (B .dim) (indexOf g gs) r b in
       let a = slot r g b i in
       rw (lt-ltb (indexOf (newDart n gs fs r g) fs) (length fs) (omega arith), halvedLink)
       (ap₂ (λ (y s : ℕ). newDartLink n t gs fs (newDart n gs fs r g) y s j) (ap (λ (z : ℕ). getD gs z 0) (ap (λ (z : ℕ). z / n) q ∙ w .0) ∙ getD-index gs g 0 i) (ap (λ (z : ℕ). z % n) q ∙ w .1))
@@ -184,7 +183,7 @@ module _ (n : ℕ) (n23 : Dim n) (t : List ℕ) (B : Block n t) (gs : List ℕ) 
   other-at x j i = rw (le-ltb (indexOf x fs) (length fs) (index-out fs x i), halvedLink)
 
   pub split-cut : (x : ℕ) → In x gs → link u 0 x ≡ newDart n gs fs 0 x
-  split-cut x i = u-link x 0 (live-in t x (B .fits) (sh .lives x i)) (omega arith) ∙ other-at x 0 (λ k. clash (sh .lives x i) (fresh .dead x k)) ∙ rw (lt-ltb (indexOf x gs) (length gs) (index-in gs x i))
+  split-cut x i = u-link x 0 (live-in t x (B .whole) (sh .lives x i)) (omega arith) ∙ other-at x 0 (λ k. clash (sh .lives x i) (fresh .dead x k)) ∙ rw (lt-ltb (indexOf x gs) (length gs) (index-in gs x i))
 
   pub split-other : (x j : ℕ) → x < slots t → j < 4 → (In x fs → ⊥) → j ≢ 0 → link u j x ≡ link t j x
   split-other x j h b k e = u-link x j h b ∙ other-at x j k ∙ rw (ne-eqb j 0 e)
@@ -201,10 +200,10 @@ module _ (n : ℕ) (n23 : Dim n) (t : List ℕ) (B : Block n t) (gs : List ℕ) 
 
   pub role-link : (r g j : ℕ) → r ≤ n → In g gs → j < 4 → link u j (dart n gs fs r g) ≡ dart n gs fs (roleTo n r j) (walk t (roleWord n r j) g)
   unfolding dart roleTo roleWord walk
-  role-link zero g j b i h = two-cases n n23 (λ n′. link u j g ≡ dart n gs fs (roleTo n′ 0 j) (walk t (roleWord n′ 0 j) g)) (old2 j h) (old3 j h)
+  role-link zero g j b i h = two-cases n (B .dim) (λ n′. link u j g ≡ dart n gs fs (roleTo n′ 0 j) (walk t (roleWord n′ 0 j) g)) (old2 j h) (old3 j h)
     where
       keep : (j : ℕ) → j ≢ 0 → j < 4 → link u j g ≡ link t j g
-      keep j e h = split-other g j (live-in t g (B .fits) (sh .lives g i)) h (λ k. clash (sh .lives g i) (fresh .dead g k)) e
+      keep j e h = split-other g j (live-in t g (B .whole) (sh .lives g i)) h (λ k. clash (sh .lives g i) (fresh .dead g k)) e
 
       old2 : (j : ℕ) → j < 4 → link u j g ≡ dart n gs fs (roleTo 2 0 j) (walk t (roleWord 2 0 j) g)
       old2 = below4 (λ j. link u j g ≡ dart n gs fs (roleTo 2 0 j) (walk t (roleWord 2 0 j) g)) (split-cut g i) (keep 1 (omega arith) (omega arith)) (keep 2 (omega arith) (omega arith)) (keep 3 (omega arith) (omega arith))
@@ -213,5 +212,5 @@ module _ (n : ℕ) (n23 : Dim n) (t : List ℕ) (B : Block n t) (gs : List ℕ) 
       old3 = below4 (λ j. link u j g ≡ dart n gs fs (roleTo 3 0 j) (walk t (roleWord 3 0 j) g)) (split-cut g i) (keep 1 (omega arith) (omega arith)) (keep 2 (omega arith) (omega arith)) (keep 3 (omega arith) (omega arith))
   role-link (suc r) g j b i h =
       u-link (newDart n gs fs r g) j (fresh .inside _ (new-in r g b i)) h ∙ new-at r g j b i
-      ∙ two-cases n n23 (λ n. r < n → (n ≡ 2 → link t 3 g ≡ g) → newDartLink n t gs fs (newDart n gs fs r g) g r j ≡ dart n gs fs (roleTo n (suc r) j) (walk t (roleWord n (suc r) j) g))
-      (λ b p. leads2 t gs fs (newDart 2 gs fs r g) g r b (p refl) refl j h) (λ b p. leads3 t gs fs (newDart 3 gs fs r g) g r b j h) b (λ e. sheet-rule n n23 t B gs sh g i .plane e)
+      ∙ two-cases n (B .dim) (λ n. r < n → (n ≡ 2 → link t 3 g ≡ g) → newDartLink n t gs fs (newDart n gs fs r g) g r j ≡ dart n gs fs (roleTo n (suc r) j) (walk t (roleWord n (suc r) j) g))
+      (λ b p. leads2 t gs fs (newDart 2 gs fs r g) g r b (p refl) refl j h) (λ b p. leads3 t gs fs (newDart 3 gs fs r g) g r b j h) b (λ e. sheet-rule B gs sh g i .plane e)

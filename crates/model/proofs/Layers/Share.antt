@@ -1,5 +1,4 @@
 -- A sheet whose darts do not cross meets each cell in no dart, or in 4 (n = 2) or 16 (n = 3).
--- Assumes nothing.
 use Prim.Native.Nat.{ℕ, _<_}
 use mathlib.Core.Path.{_≡_, sym, ap, _∙_, subst}
 use mathlib.Core.Logic.{_⊎_, inl, inr}
@@ -10,7 +9,7 @@ use borrow.Author.Tests.{not-true, not-false}
 use Rattle.model.specs.Lists.{allBelow, count, tabulateFrom}
 use Rattle.model.specs.Table.{link, live, walk}
 use Rattle.model.specs.Cell.{cellSize}
-use Rattle.model.specs.Meaning.Maps.{Block, Dim}
+use Rattle.model.specs.Meaning.Maps.{BlockTable, Dim}
 use Rattle.model.specs.Meaning.Places.{path, place}
 use Rattle.model.specs.Meaning.Sets.{Marked}
 use Rattle.model.specs.Meaning.Sheets.{half, inSheet, hit, shared}
@@ -23,7 +22,7 @@ use Rattle.model.proofs.Cells.Chart.{path-small, place-chart, place-liv
 use Rattle.model.proofs.Layers.Sheet.{Sheet}
 use Rattle.model.proofs.Layers.Half.{half-size, in-half, out-crosses}
 
-module _ (n : ℕ) (n23 : Dim n) (t : List ℕ) (B : Block n t) (gs : List ℕ) (sh : Sheet n t gs) (parted : (x : ℕ) → In x gs → In (link t 1 x) gs → ⊥) (x : ℕ) (l : live t x ≡ true) where
+module _ {n : ℕ} {t : List ℕ} (B : BlockTable n t) (gs : List ℕ) (sh : Sheet n t gs) (parted : (x : ℕ) → In x gs → In (link t 1 x) gs → ⊥) (x : ℕ) (l : live t x ≡ true) where
   abbrev hits : List ℕ
   hits = shared n t gs x
 
@@ -52,19 +51,19 @@ module _ (n : ℕ) (n23 : Dim n) (t : List ℕ) (B : Block n t) (gs : List ℕ) 
 
     seen-in : (p : ℕ) → p < cellSize n → seen p < cellSize n
     unfolding seen
-    seen-in p h = row-walk-in n (path n p) k₀ n23 (path-small n p n23 h) b₀
+    seen-in p h = row-walk-in n (path n p) k₀ (B .dim) (path-small n p (B .dim) h) b₀
 
     seen-is : (p : ℕ) → p < cellSize n → place n t g p ≡ place n t x (seen p)
     unfolding seen place
-    seen-is p h = walk-rows n t (place n t x) n23 (place-chart n t n23 B x l .follow) (path n p) k₀ (path-small n p n23 h) b₀
+    seen-is p h = walk-rows n t (place n t x) (B .dim) (place-chart B x l .follow) (path n p) k₀ (path-small n p (B .dim) h) b₀
 
     all-seen : (k : ℕ) → k < cellSize n → (p : ℕ) × (p < cellSize n) × (place n t x k ≡ place n t g p)
     unfolding place
     all-seen k h =
-        let r = place-back n t n23 B x k₀ l b₀ in (
+        let r = place-back B x k₀ l b₀ in (
           rowWalk n (path n k) (r .0),
-          row-walk-in n (path n k) (r .0) n23 (path-small n k n23 h) (r .1),
-          ap (walk t (path n k)) (r .2) ∙ walk-rows n t (place n t g) n23 (place-chart n t n23 B g (place-live n t n23 B x k₀ l b₀) .follow) (path n k) (r .0) (path-small n k n23 h) (r .1),
+          row-walk-in n (path n k) (r .0) (B .dim) (path-small n k (B .dim) h) (r .1),
+          ap (walk t (path n k)) (r .2) ∙ walk-rows n t (place n t g) (B .dim) (place-chart B g (place-live B x k₀ l b₀) .follow) (path n k) (r .0) (path-small n k (B .dim) h) (r .1),
         )
 
     seen-half : (k : ℕ) → Marked hits k → In k (tabulateFrom (half n) 0 seen)
@@ -72,18 +71,18 @@ module _ (n : ℕ) (n23 : Dim n) (t : List ℕ) (B : Block n t) (gs : List ℕ) 
         let h = hit-in k m in
         let r = all-seen k (h .0) in
         if-lt (r .0) (half n)
-        (λ a. in-cast (place-one n t n23 B x k (seen (r .0)) l (h .0) (seen-in (r .0) (r .1)) (r .2 ∙ seen-is (r .0) (r .1))) (tab-in seen (half n) 0 (r .0) (omega arith) (omega arith)))
-        (λ a. let c = out-crosses n n23 t B gs sh g (r .0) i₀ a (r .1) (subst (λ (z : ℕ). In z gs) (r .2) (h .1)) in absurd (parted (c .0) (c .1) (c .2)))
+        (λ a. in-cast (place-one B x k (seen (r .0)) l (h .0) (seen-in (r .0) (r .1)) (r .2 ∙ seen-is (r .0) (r .1))) (tab-in seen (half n) 0 (r .0) (omega arith) (omega arith)))
+        (λ a. let c = out-crosses B gs sh g (r .0) i₀ a (r .1) (subst (λ (z : ℕ). In z gs) (r .2) (h .1)) in absurd (parted (c .0) (c .1) (c .2)))
 
     share : count 1 hits ≡ half n
     share =
         let ls = tabulateFrom (half n) 0 seen in
         let a = cover ls hits seen-half in
         let b = distinct-le ls hits
-        (distinct-tab seen (half n) 0 (λ k j kj h e. let hk = half-size n n23 k (omega arith) in let hj = half-size n n23 j (omega arith) in
-        let q = place-one n t n23 B g k j (place-live n t n23 B x k₀ l b₀) hk hj (seen-is k hk ∙ ap (place n t x) e ∙ sym (seen-is j hj)) in omega arith))
-        (λ y i. let r = in-tab seen (half n) 0 y i in let c = r .2 in let h : r .0 < half n = omega arith in let z = half-size n n23 (r .0) h in
-        subst (Marked hits) (sym (r .3)) (in-hit (seen (r .0)) (seen-in (r .0) z) (subst (λ (w : ℕ). In w gs) (seen-is (r .0) z) (in-half n n23 t B gs sh g (r .0) i₀ h)))) in
+        (distinct-tab seen (half n) 0 (λ k j kj h e. let hk = half-size n (B .dim) k (omega arith) in let hj = half-size n (B .dim) j (omega arith) in
+        let q = place-one B g k j (place-live B x k₀ l b₀) hk hj (seen-is k hk ∙ ap (place n t x) e ∙ sym (seen-is j hj)) in omega arith))
+        (λ y i. let r = in-tab seen (half n) 0 y i in let c = r .2 in let h : r .0 < half n = omega arith in let z = half-size n (B .dim) (r .0) h in
+        subst (Marked hits) (sym (r .3)) (in-hit (seen (r .0)) (seen-in (r .0) z) (subst (λ (w : ℕ). In w gs) (seen-is (r .0) z) (in-half B gs sh g (r .0) i₀ h)))) in
         let e = length-tabFrom seen (half n) 0 in
         omega arith
 

@@ -1,5 +1,4 @@
 -- The sheet of a dart, and the marks it leaves.
--- Assumes nothing.
 use Prim.Native.Nat.{ℕ, zero, suc, _+_, _≤_, _<_}
 use mathlib.Core.Path.{_≡_, refl, sym, _∙_, subst}
 use mathlib.Core.Logic.{_⊎_, inl, inr, ⊎-elim}
@@ -16,7 +15,7 @@ use Rattle.model.specs.Cell.{cellWords}
 use Rattle.model.specs.Sheet.{sheetWords, sheet, sheetMarks, overlay}
 use Rattle.model.specs.Remove.{marked, removed}
 use Rattle.model.specs.Split.{crosses}
-use Rattle.model.specs.Meaning.Maps.{Block, Dim, Rule}
+use Rattle.model.specs.Meaning.Maps.{BlockTable, Rule}
 use Rattle.model.specs.Meaning.Sets.{Least, Marked}
 use Rattle.model.proofs.Lists.Scan.{test, clash}
 use Rattle.model.proofs.Sets.Closure.{marked-in, closure-least}
@@ -24,7 +23,7 @@ use Rattle.model.proofs.Maps.Rules.{live-in}
 use Rattle.model.proofs.Sewing.Side.{step-in, step-of}
 use Rattle.model.proofs.Sets.Pigeon.{Distinct}
 use Rattle.model.proofs.Lists.Ones.{ones-of, ones-in, ones-distinct}
-use Rattle.model.proofs.Maps.Dim.{dim-small}
+use Rattle.model.proofs.Maps.Tables.{mapTable, rule-at}
 use Rattle.model.proofs.Layers.Remove.{remove-block}
 
 -- distinct live darts, closed as a sheet is
@@ -35,22 +34,22 @@ pub record Sheet (n : ℕ) (t gs : List ℕ) : Type 0 where
   pub over : (x : ℕ) → In x gs → In (walk t (1 ∷ 0 ∷ 1 ∷ []) x) gs
   pub far : (x j : ℕ) → 2 ≤ j → j ≤ n → In x gs → In (link t j x) gs
 
-module _ (n : ℕ) (n23 : Dim n) (t : List ℕ) (B : Block n t) (d : ℕ) (live-d : live t d ≡ true) where
+module _ {n : ℕ} {t : List ℕ} (B : BlockTable n t) (d : ℕ) (live-d : live t d ≡ true) where
   abbrev s : List ℕ
   s = sheet n t d
 
   at : (x : ℕ) → live t x ≡ true → Rule n t x
-  at x l = B .map .rule x (live-in t x (B .fits) l) l
+  at x l = rule-at (mapTable B) x l
 
   pub sheet-least : Least (steps t (sheetWords n)) (slots t) (d ∷ []) s
   unfolding sheet
   sheet-least = closure-least t (sheetWords n) (d ∷ [])
 
   pub sheet-own : Marked s d
-  sheet-own = sheet-least .holds d (here refl) (live-in t d (B .fits) live-d)
+  sheet-own = sheet-least .holds d (here refl) (live-in t d (B .whole) live-d)
 
   goes : (x j : ℕ) → j ≤ n → live t x ≡ true → live t (link t j x) ≡ true
-  goes x j b l = let e = dim-small n n23 in at x l .goes j (omega arith)
+  goes x j b l = let e = B .dim .1 in at x l .goes j (omega arith)
 
   turn-live : (x : ℕ) → live t x ≡ true → live t (walk t (1 ∷ 0 ∷ 1 ∷ []) x) ≡ true
   unfolding walk
@@ -68,7 +67,7 @@ module _ (n : ℕ) (n23 : Dim n) (t : List ℕ) (B : Block n t) (d : ℕ) (live-
       step x y l (inr i) = ⊎-elim (λ (e : y ≡ walk t (1 ∷ 0 ∷ 1 ∷ []) x). rw e (turn-live x l)) (λ (i : In y (steps t (links n (λ j. leb 2 j)) x)). far x y l (step-of t x (λ j. leb 2 j) (suc n) 0 y i)) (in-cons i)
 
   closed : (x y : ℕ) → Marked s x → In y (steps t (sheetWords n) x) → live t y ≡ true → Marked s y
-  closed x y h i l = sheet-least .closed x y h i (live-in t y (B .fits) l)
+  closed x y h i l = sheet-least .closed x y h i (live-in t y (B .whole) l)
 
   pub sheet-of : Sheet n t (onesFrom 0 s)
   unfolding sheetWords steps links walk
@@ -121,7 +120,7 @@ module _ (n : ℕ) (n23 : Dim n) (t : List ℕ) (B : Block n t) (d : ℕ) (live-
 
   cells-goes : (x j : ℕ) → j < n → Marked c x → Marked c (link t j x)
   unfolding cellWords links
-  cells-goes x j b h = cells .closed x (link t j x) h (step-in t x (λ j. ltb j n) (suc n) 0 j (omega arith) (omega arith) (lt-ltb j n b)) (live-in t _ (B .fits) (goes x j (omega arith) (cells-live x h)))
+  cells-goes x j b h = cells .closed x (link t j x) h (step-in t x (λ j. ltb j n) (suc n) 0 j (omega arith) (omega arith) (lt-ltb j n b)) (live-in t _ (B .whole) (goes x j (omega arith) (cells-live x h)))
 
 marked-layer : (a b : List ℕ) (x : ℕ) → length a ≡ length b → marked (overlay a b) x ≡ true → Marked a x ⊎ Marked b x
 unfolding marked overlay
@@ -137,31 +136,31 @@ layer-marked (y ∷ a) [] x l h = absurd (omega arith)
 layer-marked (y ∷ a) (z ∷ b) zero l h = test (eqb y 1) (λ e. rw e) (λ e. rw (e, eq-eqb z 1 h))
 layer-marked (y ∷ a) (z ∷ b) (suc x) l h = layer-marked a b x (omega arith) h
 
-module _ (n : ℕ) (n23 : Dim n) (t : List ℕ) (B : Block n t) (d : ℕ) (live-d : live t d ≡ true) where
+module _ {n : ℕ} {t : List ℕ} (B : BlockTable n t) (d : ℕ) (live-d : live t d ≡ true) where
   abbrev mk : List ℕ
   mk = sheetMarks n t (sheet n t d)
 
-  long : length (sheet n t d) ≡ length (c n n23 t B d live-d)
-  long = sheet-least n n23 t B d live-d .long ∙ sym (cells n n23 t B d live-d .long)
+  long : length (sheet n t d) ≡ length (c B d live-d)
+  long = sheet-least B d live-d .long ∙ sym (cells B d live-d .long)
 
-  pub in-cells : (x : ℕ) → marked mk x ≡ true → Marked (c n n23 t B d live-d) x
+  pub in-cells : (x : ℕ) → marked mk x ≡ true → Marked (c B d live-d) x
   unfolding sheetMarks
-  in-cells x h = ⊎-elim (λ p. cells n n23 t B d live-d .holds x (ones-in _ x p) (live-in t x (B .fits) (sheet-live n n23 t B d live-d x p))) (λ p. p)
-      (marked-layer (sheet n t d) (c n n23 t B d live-d) x long h)
+  in-cells x h = ⊎-elim (λ p. cells B d live-d .holds x (ones-in _ x p) (live-in t x (B .whole) (sheet-live B d live-d x p))) (λ p. p)
+      (marked-layer (sheet n t d) (c B d live-d) x long h)
 
-  of-cells : (x : ℕ) → Marked (c n n23 t B d live-d) x → marked mk x ≡ true
+  of-cells : (x : ℕ) → Marked (c B d live-d) x → marked mk x ≡ true
   unfolding sheetMarks
-  of-cells x h = layer-marked (sheet n t d) (c n n23 t B d live-d) x long h
+  of-cells x h = layer-marked (sheet n t d) (c B d live-d) x long h
 
   pub marks-live : (x : ℕ) → marked mk x ≡ true → live t x ≡ true
-  marks-live x h = cells-live n n23 t B d live-d x (in-cells x h)
+  marks-live x h = cells-live B d live-d x (in-cells x h)
 
   pub marks-cell : (x j : ℕ) → j < n → live t x ≡ true → marked mk x ≡ true → marked mk (link t j x) ≡ true
-  marks-cell x j b _ h = of-cells (link t j x) (cells-goes n n23 t B d live-d x j b (in-cells x h))
+  marks-cell x j b _ h = of-cells (link t j x) (cells-goes B d live-d x j b (in-cells x h))
 
   pub marks-own : marked mk d ≡ true
-  marks-own = of-cells d (cells n n23 t B d live-d .holds d (ones-in (sheet n t d) d (sheet-own n n23 t B d live-d)) (live-in t d (B .fits) live-d))
+  marks-own = of-cells d (cells B d live-d .holds d (ones-in (sheet n t d) d (sheet-own B d live-d)) (live-in t d (B .whole) live-d))
 
   -- so remove, with the sheet's marks, keeps a block map
-  pub remove-sheet : Block n (removed n t (sheetMarks n t (sheet n t d)))
-  remove-sheet = remove-block n n23 t B mk marks-live marks-cell
+  pub remove-sheet : BlockTable n (removed n t (sheetMarks n t (sheet n t d)))
+  remove-sheet = remove-block B mk marks-live marks-cell

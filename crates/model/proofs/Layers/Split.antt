@@ -1,5 +1,4 @@
 -- Split keeps a map.
--- Assumes nothing.
 use Prim.Native.Nat.{ℕ, zero, suc, _+_, _*_, _≤_, _<_}
 use mathlib.Core.Path.{_≡_, refl, sym, ap, ap₂, _∙_, subst}
 use mathlib.Core.Logic.{_⊎_, inl, inr, _≢_, ⊎-elim}
@@ -13,14 +12,15 @@ use Rattle.model.specs.Lists.{allBelow}
 use Rattle.model.specs.Table.{slots, link, walk, live}
 use Rattle.model.specs.Split.{newDart, halved}
 use Rattle.model.specs.Everything.{everything}
-use Rattle.model.specs.Meaning.Maps.{Block, Dim, Map, Rule}
+use Rattle.model.specs.Meaning.Maps.{BlockTable, Dim, Map, Rule}
 use Rattle.model.proofs.Lists.Scan.{test, if-eq, clash, and-l, and-r, below-at}
 use Rattle.model.proofs.Maps.Rules.{live-in}
 use Rattle.model.proofs.Sewing.Side.{past}
 use Rattle.model.proofs.Cells.Cell.{rowWalk, small, cell-words}
 use Rattle.model.proofs.Cells.Places.{same, same-eq, or-cases}
 use Rattle.model.proofs.Lists.Ones.{Vacant, in-or}
-use Rattle.model.proofs.Maps.Dim.{two-cases, dim-small}
+use Rattle.model.proofs.Maps.Tables.{mapTable}
+use Rattle.model.proofs.Maps.Dim.{two-cases}
 use Rattle.model.proofs.Cells.Chart.{Ruled, map-by, live-same}
 use Rattle.model.proofs.Layers.Remove.{walk-append}
 use Rattle.model.proofs.Layers.Sheet.{Sheet}
@@ -79,14 +79,14 @@ roleRules-true n n23 = two-cases n n23 (λ n. roleRules n ≡ true) refl refl
 
 -- ---- the words return
 
-module _ (n : ℕ) (n23 : Dim n) (t : List ℕ) (B : Block n t) where
+module _ {n : ℕ} {t : List ℕ} (B : BlockTable n t) where
   at : (x : ℕ) → live t x ≡ true → Rule n t x
-  at x l = B .map .rule x (live-in t x (B .fits) l) l
+  at x l = B .map .rule x (live-in t x (B .whole) l) l
 
   around-back : n ≡ 3 → (g : ℕ) → live t g ≡ true → walk t around g ≡ g
   unfolding walk
   around-back e g l =
-      let n3 = dim-small n n23 in
+      let n3 = B .dim .1 in
       let l₁ = at g l .goes 1 (omega arith) in
       let l₂ = at (link t 1 g) l₁ .goes 0 (omega arith) in
       let y = link t 1 (link t 0 (link t 1 g)) in
@@ -94,7 +94,7 @@ module _ (n : ℕ) (n23 : Dim n) (t : List ℕ) (B : Block n t) where
       let m₁ = at y ly .goes 1 (omega arith) in
       let m₂ = at (link t 1 y) m₁ .goes 0 (omega arith) in
       let m₃ = at (link t 0 (link t 1 y)) m₂ .goes 1 (omega arith) in
-      let c : (x : ℕ) → live t x ≡ true → (i : ℕ) → i + 2 ≤ 3 → link t i (link t 3 x) ≡ link t 3 (link t i x) = λ x lx i b. past n t x n3 (B .fits) (B .map) lx i 3 (omega arith) (omega arith) (inl b) in
+      let c : (x : ℕ) → live t x ≡ true → (i : ℕ) → i + 2 ≤ 3 → link t i (link t 3 x) ≡ link t 3 (link t i x) = λ x lx i b. past n t x n3 (B .whole) (B .map) lx i 3 (omega arith) (omega arith) (inl b) in
       rw (c y ly 1 (omega arith), c (link t 1 y) m₁ 0 (omega arith), c (link t 0 (link t 1 y)) m₂ 1 (omega arith), at (link t 1 (link t 0 (link t 1 y))) m₃ .comes 3 (omega arith))
       (rw (at (link t 0 (link t 1 g)) l₂ .comes 1 (omega arith), at (link t 1 g) l₁ .comes 0 (omega arith)) (at g l .comes 1 (omega arith)))
 
@@ -103,7 +103,7 @@ module _ (n : ℕ) (n23 : Dim n) (t : List ℕ) (B : Block n t) where
   returns-back w g h l = ⊎-elim rows (λ r. ⊎-elim two past3 (or-cases (twice w) _ r)) (or-cases (small n w && eqb (rowWalk n w 0) 0) _ h)
     where
       rows : (small n w && eqb (rowWalk n w 0) 0) ≡ true → walk t w g ≡ g
-      rows p = cell-words n t g n23 (B .fits) (B .map) l (B .good g l) w [] (and-l (small n w) _ p) refl (eqb-true _ _ (and-r (small n w) _ p))
+      rows p = cell-words (mapTable B) g l (B .good g l) w [] (and-l (small n w) _ p) refl (eqb-true _ _ (and-r (small n w) _ p))
 
       two : twice w ≡ true → walk t w g ≡ g
       two p = let i = getD w 0 0 in ap (λ (v : List ℕ). walk t v g) (same-eq w (i ∷ i ∷ []) (and-l (same w (i ∷ i ∷ [])) _ p)) ∙ at g l .comes i (ltb-true i 4 (and-r (same w (i ∷ i ∷ [])) (ltb i 4) p))
@@ -111,7 +111,7 @@ module _ (n : ℕ) (n23 : Dim n) (t : List ℕ) (B : Block n t) where
       past3 : (eqb n 3 && same w around) ≡ true → walk t w g ≡ g
       past3 p = ap (λ (v : List ℕ). walk t v g) (same-eq w around (and-r (eqb n 3) (same w around) p)) ∙ around-back (eqb-true n 3 (and-l (eqb n 3) _ p)) g l
 
-module _ (n : ℕ) (n23 : Dim n) (t : List ℕ) (B : Block n t) (gs : List ℕ) (sh : Sheet n t gs) (fs : List ℕ) (fresh : Vacant t fs) (enough : length fs ≡ n * length gs) where
+module _ {n : ℕ} {t : List ℕ} (B : BlockTable n t) (gs : List ℕ) (sh : Sheet n t gs) (fs : List ℕ) (fresh : Vacant t fs) (enough : length fs ≡ n * length gs) where
   abbrev u : List ℕ
   u = halved n t gs fs
 
@@ -119,7 +119,7 @@ module _ (n : ℕ) (n23 : Dim n) (t : List ℕ) (B : Block n t) (gs : List ℕ) 
   D r g = dart n gs fs r g
 
   step : (r g j : ℕ) → r ≤ n → In g gs → j < 4 → link u j (D r g) ≡ D (roleTo n r j) (walk t (roleWord n r j) g)
-  step = role-link n n23 t B gs sh fs fresh enough
+  step = role-link B gs sh fs fresh enough
 
   role-walk : (v : List ℕ) (r g : ℕ) → staying n v r ≡ true → In g gs → walk u v (D r g) ≡ D (roleEnd n v r) (walk t (rolePath n v r) g)
   unfolding staying roleEnd rolePath walk
@@ -131,7 +131,7 @@ module _ (n : ℕ) (n23 : Dim n) (t : List ℕ) (B : Block n t) (gs : List ℕ) 
       let p : (a && (b && c)) ≡ true = and-l (a && (b && c)) _ h in
       let q = and-r a (b && c) p in
       ap (walk u v) (step r g j (leb-true r n (and-l a _ p)) i (ltb-true j 4 (and-l b c q)))
-      ∙ role-walk v (roleTo n r j) (walk t (roleWord n r j) g) (and-r (a && (b && c)) _ h) (sheet-walk n n23 t B gs sh (roleWord n r j) g (and-r b c q) i)
+      ∙ role-walk v (roleTo n r j) (walk t (roleWord n r j) g) (and-r (a && (b && c)) _ h) (sheet-walk B gs sh (roleWord n r j) g (and-r b c q) i)
       ∙ ap (D (roleEnd n v (roleTo n r j))) (sym (walk-append t (roleWord n r j) (rolePath n v (roleTo n r j)) g))
 
   -- a word that is fine returns
@@ -142,7 +142,7 @@ module _ (n : ℕ) (n23 : Dim n) (t : List ℕ) (B : Block n t) (gs : List ℕ) 
       let b = eqb (roleEnd n v r) r in
       let c = returns n (rolePath n v r) in
       let p : (b && c) ≡ true = and-r a (b && c) h in
-      role-walk v r g (and-l a _ h) i ∙ ap₂ D (eqb-true _ _ (and-l b c p)) (returns-back n n23 t B (rolePath n v r) g (and-r b c p) (sh .lives g i))
+      role-walk v r g (and-l a _ h) i ∙ ap₂ D (eqb-true _ _ (and-l b c p)) (returns-back B (rolePath n v r) g (and-r b c p) (sh .lives g i))
 
   -- and its first step leads to a role of a dart of the sheet
   fine-step : (j k r g : ℕ) → fine n r (j ∷ k ∷ []) ≡ true → In g gs → (q : ℕ) × (y : ℕ) × (q ≤ n) × In y gs × (link u j (D r g) ≡ D q y)
@@ -159,12 +159,12 @@ module _ (n : ℕ) (n23 : Dim n) (t : List ℕ) (B : Block n t) (gs : List ℕ) 
         roleTo n r j,
         walk t (roleWord n r j) g,
         leb-true _ _ (and-l (leb (roleTo n r j) n) d (and-l (leb (roleTo n r j) n && d) _ z)),
-        sheet-walk n n23 t B gs sh (roleWord n r j) g (and-r b c q) i,
+        sheet-walk B gs sh (roleWord n r j) g (and-r b c q) i,
         step r g j (leb-true r n (and-l a _ p)) i (ltb-true j 4 (and-l b c q)),
       )
 
   rules : roleRules n ≡ true
-  rules = roleRules-true n n23
+  rules = roleRules-true n (B .dim)
 
   new-twice : (r j : ℕ) → r < n → j < 4 → fine n (suc r) (j ∷ j ∷ []) ≡ true
   unfolding roleRules newTwice
@@ -176,7 +176,7 @@ module _ (n : ℕ) (n23 : Dim n) (t : List ℕ) (B : Block n t) (gs : List ℕ) 
 
   new-cross : (r i j : ℕ) → r < n → i + 2 ≤ j → j ≤ n → fine n (suc r) (i ∷ j ∷ i ∷ j ∷ []) ≡ true
   unfolding roleRules newCross
-  new-cross r i j b ij jn = let s = dim-small n n23 in
+  new-cross r i j b ij jn = let s = B .dim .1 in
       far-cross (suc r) i j ij (below-at (crossOk n (suc r) i) (suc n) (below-at (λ i. allBelow (suc n) (crossOk n (suc r) i)) 2 (below-at (λ r. allBelow 2 (λ i. allBelow (suc n) (crossOk n (suc r) i))) n
       (and-r (newTwice n) (newCross n) (and-l (newTwice n && newCross n) _ rules)) r b) i (omega arith)) j (omega arith))
 
@@ -216,36 +216,36 @@ module _ (n : ℕ) (n23 : Dim n) (t : List ℕ) (B : Block n t) (gs : List ℕ) 
 
   -- an old dart keeps its links but for link 0, and that too outside of the sheet
   pub keeps : (x j : ℕ) → live t x ≡ true → j < 4 → j ≢ 0 → link u j x ≡ link t j x
-  keeps x j l b e = split-other n n23 t B gs sh fs fresh enough x j (live-in t x (B .fits) l) b (not-new x l) e
+  keeps x j l b e = split-other B gs sh fs fresh enough x j (live-in t x (B .whole) l) b (not-new x l) e
 
   pub keeps-off : (x j : ℕ) → live t x ≡ true → j < 4 → (In x gs → ⊥) → link u j x ≡ link t j x
-  keeps-off x j l b i = split-off n n23 t B gs sh fs fresh enough x j (live-in t x (B .fits) l) b (not-new x l) i
+  keeps-off x j l b i = split-off B gs sh fs fresh enough x j (live-in t x (B .whole) l) b (not-new x l) i
 
   off-along : (x : ℕ) → live t x ≡ true → (In x gs → ⊥) → In (link t 0 x) gs → ⊥
-  off-along x l k i = k (subst (λ (z : ℕ). In z gs) (at n n23 t B x l .comes 0 (omega arith)) (sh .along (link t 0 x) i))
+  off-along x l k i = k (subst (λ (z : ℕ). In z gs) (at B x l .comes 0 (omega arith)) (sh .along (link t 0 x) i))
 
   off-far : (x j : ℕ) → 2 ≤ j → j ≤ n → live t x ≡ true → (In x gs → ⊥) → In (link t j x) gs → ⊥
-  off-far x j a b l k i = let s = dim-small n n23 in k (subst (λ (z : ℕ). In z gs) (at n n23 t B x l .comes j (omega arith)) (sh .far (link t j x) j a b i))
+  off-far x j a b l k i = let s = B .dim .1 in k (subst (λ (z : ℕ). In z gs) (at B x l .comes j (omega arith)) (sh .far (link t j x) j a b i))
 
   pub split-ruled : Ruled n u Live
   unfolding walk dart
   split-ruled = record { few = let s = slots-same in let b = B .few in omega arith; inside = inside; other = other; goes = goes; comes = comes; cross = cross; plane = plane }
     where
       slots-same : slots u ≡ slots t
-      slots-same = split-slots n n23 t B gs sh fs fresh enough
+      slots-same = split-slots B gs sh fs fresh enough
 
       old : (x : ℕ) → live t x ≡ true → Rule n t x
-      old = at n n23 t B
+      old = at B
 
       inside : (x : ℕ) → Live x → x < slots u
-      inside x (was l) = rw slots-same (live-in t x (B .fits) l)
-      inside x (is r g b i e) = rw (slots-same, e) (fresh .inside _ (new-in n n23 t B gs sh fs fresh enough r g b i))
+      inside x (was l) = rw slots-same (live-in t x (B .whole) l)
+      inside x (is r g b i e) = rw (slots-same, e) (fresh .inside _ (new-in B gs sh fs fresh enough r g b i))
 
       other : (x : ℕ) → x < slots u → Live x ⊎ (live u x ≡ false)
       other x h =
           let h′ : x < slots t = rw slots-same at h in
-          ⊎-elim (λ k. let q = new-of n n23 t B gs sh fs fresh enough x k in inl (is (q .0) (q .1) (q .2) (q .3) (q .4)))
-          (λ k. test (live t x) (λ l. inl (was l)) (λ l. inr (live-same t u x (λ j b. split-off n n23 t B gs sh fs fresh enough x j h′ b k (λ i. clash (sh .lives x i) l)) ∙ l))) (in-or fs x)
+          ⊎-elim (λ k. let q = new-of B gs sh fs fresh enough x k in inl (is (q .0) (q .1) (q .2) (q .3) (q .4)))
+          (λ k. test (live t x) (λ l. inl (was l)) (λ l. inr (live-same t u x (λ j b. split-off B gs sh fs fresh enough x j h′ b k (λ i. clash (sh .lives x i) l)) ∙ l))) (in-or fs x)
 
       goes : (x j : ℕ) → j < 4 → Live x → Live (link u j x)
       goes x j b (was l) = if-eq j 0
@@ -280,10 +280,10 @@ module _ (n : ℕ) (n23 : Dim n) (t : List ℕ) (B : Block n t) (gs : List ℕ) 
           rw (keeps x i l bi e, keeps (link t i x) j l₁ bj f, keeps y i l₂ bi e, keeps (link t i y) j (old y l₂ .goes i bi) bj f) (old x l .cross i j ij jn))
         where
           bi : i < 4
-          bi = let s = dim-small n n23 in omega arith
+          bi = let s = B .dim .1 in omega arith
 
           bj : j < 4
-          bj = let s = dim-small n n23 in omega arith
+          bj = let s = B .dim .1 in omega arith
 
       plane : (x : ℕ) → n ≡ 2 → Live x → link u 3 x ≡ x
       plane x p (was l) = keeps x 3 l (omega arith) (omega arith) ∙ old x l .plane p

@@ -1,22 +1,18 @@
 -- The two dimensions: what holds of 2 and of 3 holds of each.
--- Assumes nothing.
-use Prim.Native.Nat.{ℕ, _≤_, _<_}
-use mathlib.Core.Path.{sym, subst}
-use mathlib.Core.Logic.{inl, inr}
+use Prim.Native.Nat.{ℕ, _<_}
+use mathlib.Core.Path.{_≡_, sym, subst}
+use mathlib.Core.Logic.{_⊎_, inl, inr, _≢_, ⊎-elim}
 use native.Mathlib.Omega.{arith}
 use Rattle.model.specs.Cell.{cellSize}
 use Rattle.model.specs.Meaning.Maps.{Dim}
+use Rattle.model.proofs.Lists.Scan.{if-eq}
+
+pub dim-cases : (n : ℕ) → Dim n → (n ≡ 2) ⊎ (n ≡ 3)
+dim-cases n dim = if-eq n 2 (λ e. inl e) (λ (e : n ≢ 2). inr (omega arith))
 
 pub two-cases : (n : ℕ) → Dim n → (P : ℕ → Type 0) → P 2 → P 3 → P n
-two-cases n (inl e) P a b = subst P (sym e) a
-two-cases n (inr e) P a b = subst P (sym e) b
-
-pub dim-small : (n : ℕ) → Dim n → n ≤ 3
-dim-small n d = two-cases n d (λ n. n ≤ 3) (omega arith) (omega arith)
-
-pub dim-large : (n : ℕ) → Dim n → 2 ≤ n
-dim-large n d = two-cases n d (λ n. 2 ≤ n) (omega arith) (omega arith)
+two-cases n dim P two three = ⊎-elim (λ e. subst P (sym e) two) (λ e. subst P (sym e) three) (dim-cases n dim)
 
 pub size-some : (n : ℕ) → Dim n → 0 < cellSize n
 unfolding cellSize
-size-some n d = two-cases n d (λ n. 0 < cellSize n) (omega arith) (omega arith)
+size-some n dim = two-cases n dim (λ n. 0 < cellSize n) (omega arith) (omega arith)

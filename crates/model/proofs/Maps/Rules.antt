@@ -1,5 +1,4 @@
 -- Maps as a property, and: a table whose links of one index are replaced by an involution that goes with the far links stays a map.
--- Assumes nothing.
 use Prim.Native.Nat.{ℕ, zero, suc, _+_, _*_, _/_, _%_, _≤_, _<_}
 use mathlib.Core.Path.{_≡_, refl, sym, ap, ap₂, _∙_}
 use mathlib.Core.Logic.{_⊎_, inl, inr, _≢_}
@@ -13,7 +12,7 @@ use borrow.Author.Tests.{eqb-true, eq-eqb, ne-eqb, ltb-true, ltb-false, leb-true
 use Rattle.model.specs.Lists.{least, allBelow}
 use Rattle.model.specs.Table.{unused, slots, link, walk, live, retable, relinkAt, relink}
 use Rattle.model.specs.Map.{returns, linked, crossed, keepsRules, breaksRule, leastBreaking, isMap}
-use Rattle.model.specs.Meaning.Maps.{Map, Rule}
+use Rattle.model.specs.Meaning.Maps.{Map, MapTable, Rule}
 use Rattle.model.specs.Meaning.Pairings.{Far}
 use Rattle.model.proofs.Lists.Scan.{and-l, and-r, and-i, bool-cases, clash, below-at, below-of, least-end, least-all, length-tab, getD-tab}
 
@@ -169,21 +168,21 @@ unfolding relink
 relink-fits t i g fits = length-retable t (relinkAt t i g) fits ∙ fits ∙ ap (λ (k : ℕ). 4 * k) (sym (slots-retable t (relinkAt t i g) fits))
 
 -- what makes g a change of link i that keeps a map
-pub record Change (n : ℕ) (t : List ℕ) (i : ℕ) (g : ℕ → ℕ) : Type 0 where
+pub record Relinking (n : ℕ) (t : List ℕ) (i : ℕ) (g : ℕ → ℕ) : Type 0 where
   pub goes : (x : ℕ) → live t x ≡ true → live t (g x) ≡ true
   pub comes : (x : ℕ) → live t x ≡ true → g (g x) ≡ x
   pub far : (x j : ℕ) → live t x ≡ true → Far i j → j ≤ n → g (link t j x) ≡ link t j (g x)
   pub dead : (x : ℕ) → live t x ≡ false → g x ≡ unused
 
-module _ (n : ℕ) (t : List ℕ) (i : ℕ) (g : ℕ → ℕ) (n3 : n ≤ 3) (i≤n : i ≤ n) (fits : length t ≡ 4 * slots t) (few : slots t ≤ 65536) (m : Map n t) (c : Change n t i g) where
-  u : List ℕ
+module _ {n : ℕ} {t : List ℕ} {i : ℕ} {g : ℕ → ℕ} (T : MapTable n t) (i≤n : i ≤ n) (c : Relinking n t i g) where
+  abbrev u : List ℕ
   u = relink t i g
 
   G : ℕ → ℕ → ℕ
   G j x = relinkAt t i g x j
 
   old : (x : ℕ) → live t x ≡ true → Rule n t x
-  old x e = m .rule x (live-in t x fits e) e
+  old x e = T .map .rule x (live-in t x (T .whole) e) e
 
   G-live : (x j : ℕ) → j < 4 → live t x ≡ true → live t (G j x) ≡ true
   unfolding G
@@ -215,11 +214,11 @@ module _ (n : ℕ) (t : List ℕ) (i : ℕ) (g : ℕ → ℕ) (n3 : n ≤ 3) (i�
 
   u-link : (x j : ℕ) → x < slots t → j < 4 → link u j x ≡ G j x
   unfolding u G relink
-  u-link x j hx hj = link-retable t (relinkAt t i g) fits x j hx hj
+  u-link x j hx hj = link-retable t (relinkAt t i g) (T .whole) x j hx hj
 
   u-slots : slots u ≡ slots t
   unfolding u relink
-  u-slots = slots-retable t (relinkAt t i g) fits
+  u-slots = slots-retable t (relinkAt t i g) (T .whole)
 
   G-dead : (x j : ℕ) → j < 4 → live t x ≡ false → G j x ≡ unused
   unfolding G
@@ -233,7 +232,7 @@ module _ (n : ℕ) (t : List ℕ) (i : ℕ) (g : ℕ → ℕ) (n3 : n ≤ 3) (i�
   u-live x hx = go (bool-cases (live t x))
     where
       in-slots : live t x ≡ true → G 0 x ≢ unused
-      in-slots e q = let l = live-in t (G 0 x) fits (G-live x 0 (omega arith) e) in omega arith
+      in-slots e q = let l = live-in t (G 0 x) (T .whole) (G-live x 0 (omega arith) e) in omega arith
 
       off : live t x ≡ false → (j : ℕ) → j < 4 → link u j x ≡ unused
       off e j l = u-link x j hx l ∙ G-dead x j l e
@@ -251,18 +250,18 @@ module _ (n : ℕ) (t : List ℕ) (i : ℕ) (g : ℕ → ℕ) (n3 : n ≤ 3) (i�
         goes = λ j h. rw (u-link d j l h) (u-live (G j d) (hop j h) ∙ G-live d j h e);
         comes = λ j h. rw (u-link d j l h, u-link (G j d) j (hop j h) h) (G-back d j h e);
         cross = λ a b ab bn. walked a b (omega arith) (omega arith) ∙ G-cross d a b ab bn e;
-        plane = λ p. u-link d 3 l (omega arith) ∙ flat (omega arith) ∙ m .rule d l e .plane p;
+        plane = λ p. u-link d 3 l (omega arith) ∙ flat (omega arith) ∙ T .map .rule d l e .plane p;
       }
         where
           hop : (j : ℕ) → j < 4 → G j d < slots t
-          hop j h = live-in t (G j d) fits (G-live d j h e)
+          hop j h = live-in t (G j d) (T .whole) (G-live d j h e)
 
           walked : (a b : ℕ) → a < 4 → b < 4 → link u b (link u a (link u b (link u a d))) ≡ G b (G a (G b (G a d)))
           walked a b ha hb =
               let e₁ = G-live d a ha e in
               let e₂ = G-live (G a d) b hb e₁ in
               let e₃ = G-live (G b (G a d)) a ha e₂ in
-              rw (u-link d a l ha, u-link (G a d) b (hop a ha) hb, u-link (G b (G a d)) a (live-in t _ fits e₂) ha, u-link (G a (G b (G a d))) b (live-in t _ fits e₃) hb)
+              rw (u-link d a l ha, u-link (G a d) b (hop a ha) hb, u-link (G b (G a d)) a (live-in t _ (T .whole) e₂) ha, u-link (G a (G b (G a d))) b (live-in t _ (T .whole) e₃) hb)
 
           flat : 3 ≢ i → G 3 d ≡ link t 3 d
           flat h = at-other t i g d 3 h
@@ -278,3 +277,11 @@ module _ (n : ℕ) (t : List ℕ) (i : ℕ) (g : ℕ → ℕ) (n3 : n ≤ 3) (i�
   pub relink-live : (x : ℕ) → x < slots t → live (relink t i g) x ≡ live t x
   unfolding u
   relink-live = u-live
+
+  pub relink-table : MapTable n (relink t i g)
+  relink-table = record {
+    dim = T .dim;
+    whole = relink-fits t i g (T .whole);
+    few = let s = u-slots in omega arith;
+    map = relink-map;
+  }

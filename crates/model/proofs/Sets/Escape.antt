@@ -1,5 +1,4 @@
 -- A walk by a step that can be undone leaves a set of slots, if it begins where no step of the set leads.
--- Assumes nothing.
 use Prim.Native.Nat.{ℕ, zero, suc, _+_, _≤_, _<_}
 use mathlib.Core.Path.{_≡_, refl, ap, _∙_}
 use mathlib.Core.Logic.{_⊎_, inl, inr}

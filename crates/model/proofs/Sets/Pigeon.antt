@@ -1,5 +1,4 @@
 -- Pigeonholes over lists of marks: a list that has every marked slot is at least as long as their number, and one of distinct marked slots at most.
--- Assumes nothing.
 use Prim.Native.Nat.{ℕ, zero, suc, _≤_, _<_}
 use mathlib.Core.Path.{_≡_, refl, sym, ap, _∙_, subst}
 use mathlib.Core.Logic.{_⊎_, inl, inr}

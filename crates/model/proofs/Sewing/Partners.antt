@@ -1,5 +1,4 @@
 -- The walk of both sides: what it finds is the least relation that holds the two darts and goes with the words.
--- Assumes nothing.
 use Prim.Native.Nat.{ℕ, zero, suc, _+_, _*_, _≤_, _<_}
 use mathlib.Core.Path.{_≡_, refl, sym, ap, _∙_, subst, subst₂}
 use mathlib.Core.Logic.{_⊎_, inl, inr, _≢_}

@@ -1,10 +1,9 @@
 -- Sew keeps a map.
--- Assumes nothing.
 use Prim.Native.Nat.{ℕ, zero, suc, _+_, _*_, _≤_, _<_}
 use mathlib.Core.Path.{_≡_, refl, sym, ap, _∙_, subst, subst₂}
 use mathlib.Core.Logic.{_⊎_, inl, inr, _≢_}
-use mathlib.Core.Bool.{true, false}
-use mathlib.Core.Option.{some}
+use mathlib.Core.Bool.{Bool, true, false}
+use mathlib.Core.Option.{Option, none, some}
 use mathlib.Core.List.{List, [], _∷_, List·Memᴰ as In, List·Memᴰ·not-nil as not-nil, List·Memᴰ·cases-cons as in-cons, List·Memᴰ·head as here}
 use native.Mathlib.Nat.{le-refl}
 use native.Mathlib.Omega.{arith}
@@ -14,12 +13,12 @@ use borrow.Author.Tests.{eqb-true, eqb-false, eq-eqb, ne-eqb}
 use Rattle.model.specs.Lists.{count}
 use Rattle.model.specs.Table.{unused, slots, link, walk, live}
 use Rattle.model.specs.Reach.{steps}
-use Rattle.model.specs.Sew.{sideWords, couple, partners, sewnLink, sewn, side}
+use Rattle.model.specs.Sew.{sideWords, couple, partners, isPaired, sewnLink, sewn, sewTable, side}
 use Rattle.model.specs.Meaning.Maps.{Map, Rule}
 use Rattle.model.specs.Meaning.Pairings.{Far}
 use Rattle.model.specs.Meaning.Sets.{Marked}
 use Rattle.model.proofs.Lists.Scan.{bool-cases, clash}
-use Rattle.model.proofs.Maps.Rules.{Change, relink-map, live-in, dead-link}
+use Rattle.model.proofs.Maps.Rules.{Relinking, live-in, dead-link}
 use Rattle.model.proofs.Sewing.Side.{side-least, side-far, side-word, word-side, past, side-steps}
 use Rattle.model.proofs.Sewing.Partners.{Has, mate-within, Mated, mate-done}
 
@@ -188,7 +187,7 @@ module _ (n : ℕ) (t : List ℕ) (i : ℕ) (n3 : n ≤ 3) (i≤n : i ≤ n) (fi
         → (x j : ℕ) → live t x ≡ true → Far i j → j ≤ n → getD r x unused ≡ unused → getD r (link t j x) unused ≡ unused
     aside r far x j lx f l a = lone r (link t j x) (λ y h. has-none r x (link t j y) a (subst (λ (z : ℕ). Has r z (link t j y)) (at x lx .comes j (omega arith)) (far (link t j x) y j h f l)))
 
-    pub sew-change : Change n t i (sewnLink t i p q)
+    pub sew-change : Relinking n t i (sewnLink t i p q)
     sew-change = record {
       goes = λ x lx. goes x lx (kind x);
       comes = λ x lx. comes x lx (kind x);
@@ -213,6 +212,26 @@ module _ (n : ℕ) (t : List ℕ) (i : ℕ) (n3 : n ≤ 3) (i≤n : i ≤ n) (fi
             g-neither (link t j x) (aside p (walk-far d e live-d live-e p there′) x j lx f l a) (aside q (walk-far e d live-e live-d q back) x j lx f l b)
             ∙ past n t x n3 fits m lx i j i≤n l f ∙ ap (link t j) (sym (g-neither x a b))
 
-    pub sew-map : Map n (sewn t i p q)
-    unfolding sewn
-    sew-map = relink-map n t i g n3 i≤n fits few m sew-change
+-- ---- the table that sew makes, where both walks succeed
+
+pub record Found (n : ℕ) (t : List ℕ) (i d e : ℕ) : Type 0 where
+  pub p : List ℕ
+  pub q : List ℕ
+  pub there : partners n t i d e ≡ some p
+  pub back : partners n t i e d ≡ some q
+  pub table : sewTable n t i d e ≡ sewn t i p q
+
+pub paired-found : (n : ℕ) (t : List ℕ) (i d e : ℕ) → isPaired n t i d e ≡ true → Found n t i d e
+unfolding isPaired sewTable
+paired-found n t i d e h = go (partners n t i d e) (partners n t i e d) refl refl h
+  where
+    go : (a b : Option (List ℕ)) → partners n t i d e ≡ a → partners n t i e d ≡ b
+        → (elim a as (λ _. Bool) [ none ↦ false | some p ↦ (elim b [ none ↦ false | some q ↦ true ]) ]) ≡ true → Found n t i d e
+    go none b x y k = absurd (clash k refl)
+    go (some p) none x y k = absurd (clash k refl)
+    go (some p) (some q) x y k = record { p = p; q = q; there = x; back = y; table = rw (x, sewTable, y) }
+
+pub found-paired : (n : ℕ) (t : List ℕ) (i d e : ℕ) (p q : List ℕ)
+    → partners n t i d e ≡ some p → partners n t i e d ≡ some q → isPaired n t i d e ≡ true
+unfolding isPaired
+found-paired n t i d e p q x y = rw (x, isPaired, y)

@@ -1,5 +1,4 @@
 -- The side of a dart, and: unsew keeps a map.
--- Assumes nothing.
 use Prim.Native.Nat.{ℕ, zero, suc, _+_, _*_, _≤_, _<_}
 use mathlib.Core.Path.{_≡_, refl, sym, ap, _∙_}
 use mathlib.Core.Logic.{_⊎_, inl, inr}
@@ -18,7 +17,7 @@ use Rattle.model.specs.Meaning.Pairings.{Far}
 use Rattle.model.specs.Meaning.Sets.{Least, Marked}
 use Rattle.model.proofs.Lists.Scan.{bool-cases, clash}
 use Rattle.model.proofs.Sets.Closure.{closure-least}
-use Rattle.model.proofs.Maps.Rules.{Change, relink-map, live-in, dead-link, link-retable, at-same}
+use Rattle.model.proofs.Maps.Rules.{Relinking, live-in, dead-link, link-retable, at-same}
 
 -- ---- steps by single links
 
@@ -238,7 +237,7 @@ module _ (n : ℕ) (t : List ℕ) (i d : ℕ) (n3 : n ≤ 3) (i≤n : i ≤ n) (
       go (inl h) = yes (cut-of x h)
       go (inr h) = no (λ c. clash (of-cut x c) h)
 
-  pub unsew-change : Change n t i (unsewnLink t i s)
+  pub unsew-change : Relinking n t i (unsewnLink t i s)
   unsew-change = record {
     goes = λ x e. goes x e (cut-or x);
     comes = λ x e. comes x e (cut-or x);
@@ -273,7 +272,3 @@ module _ (n : ℕ) (t : List ℕ) (i d : ℕ) (n3 : n ≤ 3) (i≤n : i ≤ n) (
       to : Marked s x ⊎ Marked s (link t i x) → Cut x
       to (inl a) = own a
       to (inr a) = other a
-
-  pub unsew-map : Map n (unsewn t i (side n t i d))
-  unfolding unsewn
-  unsew-map = relink-map n t i g n3 i≤n fits few m unsew-change

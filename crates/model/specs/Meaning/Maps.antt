@@ -1,17 +1,17 @@
 -- Maps and block maps, as properties and not as tests.
 use Prim.Native.Nat.{ℕ, _+_, _*_, _≤_, _<_}
 use mathlib.Core.Path.{_≡_}
-use mathlib.Core.Logic.{_⊎_}
 use mathlib.Core.Bool.{true}
-use mathlib.Core.List.{List}
+use mathlib.Core.List.{List, [], _∷_}
 use lib.ListN.{length}
-use Rattle.model.specs.Table.{slots, link, live}
+use Rattle.model.specs.Lists.{count}
+use Rattle.model.specs.Table.{slots, link, live, walk}
 use Rattle.model.specs.Map.{isMap}
-use Rattle.model.specs.Cell.{cellOf, goodCell, isBlock}
+use Rattle.model.specs.Cell.{cellSize, cellOf, goodCell, isBlock}
 
--- the dimensions
+-- n is 2 or 3
 abbrev pub Dim : ℕ → Type 0
-Dim n = (n ≡ 2) ⊎ (n ≡ 3)
+Dim n = (2 ≤ n) × (n ≤ 3)
 
 -- the rules at a live slot
 pub record Rule (n : ℕ) (t : List ℕ) (d : ℕ) : Type 0 where
@@ -23,12 +23,31 @@ pub record Rule (n : ℕ) (t : List ℕ) (d : ℕ) : Type 0 where
 pub record Map (n : ℕ) (t : List ℕ) : Type 0 where
   pub rule : (d : ℕ) → d < slots t → live t d ≡ true → Rule n t d
 
--- a block map, of a length that is allowed
+-- of a map, that it is a block map: "each cell has exactly 8 darts (n = 2) or 48 (n = 3), and from each dart going
+-- 0, 1 four times returns, and for n = 3 going 1, 2 three times returns"
 pub record Block (n : ℕ) (t : List ℕ) : Type 0 where
-  pub fits : length t ≡ 4 * slots t
+  pub size : (d : ℕ) → live t d ≡ true → count 1 (cellOf n t d) ≡ cellSize n
+  pub square : (d : ℕ) → live t d ≡ true → walk t (0 ∷ 1 ∷ 0 ∷ 1 ∷ 0 ∷ 1 ∷ 0 ∷ 1 ∷ []) d ≡ d
+  pub corner : n ≡ 3 → (d : ℕ) → live t d ≡ true → walk t (1 ∷ 2 ∷ 1 ∷ 2 ∷ 1 ∷ 2 ∷ []) d ≡ d
+
+-- ---- what the passed checks of a call say of a table
+
+-- 1, 2 and 5: a table of a length that is allowed, and a map
+pub record MapTable (n : ℕ) (t : List ℕ) : Type 0 where
+  pub dim : Dim n
+  pub whole : length t ≡ 4 * slots t
+  pub few : slots t ≤ 65536
+  pub map : Map n t
+
+-- and 8: a block map
+pub record BlockTable (n : ℕ) (t : List ℕ) : Type 0 where
+  pub dim : Dim n
+  pub whole : length t ≡ 4 * slots t
   pub few : slots t ≤ 65536
   pub map : Map n t
   pub good : (d : ℕ) → live t d ≡ true → goodCell n t (cellOf n t d) ≡ true
+
+-- ---- what an operation keeps
 
 -- u is a block map, by the tests
 abbrev pub BlockMap : ℕ → List ℕ → Type 0

@@ -1,0 +1,4 @@
+pub mod Record
+pub mod Log
+pub mod Ops
+pub mod Demand
