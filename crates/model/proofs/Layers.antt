@@ -2,6 +2,9 @@ pub mod Sheet
 pub mod Axes
 pub mod Share
 pub mod Remove
+pub mod Cut
 pub mod Role
 pub mod Split
 pub mod Half
+pub mod Spot
+pub mod Halves

@@ -4,7 +4,7 @@ use mathlib.Core.Path.{_≡_, refl, sym, _∙_, subst}
 use mathlib.Core.Bool.{Bool, true, false, _&&_}
 use mathlib.Core.List.{List, [], _∷_}
 use native.Mathlib.Omega.{arith}
-use lib.ListN.{length, getD}
+use lib.ListN.{getD}
 use Rattle.model.specs.Lists.{ones, indexOf, member}
 use Rattle.model.specs.Table.{relink}
 use Rattle.model.specs.Map.{isMap}
@@ -14,7 +14,7 @@ use Rattle.model.specs.Sheet.{sheet}
 use Rattle.model.specs.Add.{addSlots, addTable}
 use Rattle.model.specs.Sew.{isPaired, sewn, sewTable, unsewn, unsewTable}
 use Rattle.model.specs.Remove.{removeTable}
-use Rattle.model.specs.Split.{splitSlots, splitTable}
+use Rattle.model.specs.Split.{splitTable}
 use Rattle.model.specs.Checks.{Check, pass, refuse, inOrder, stepChecks, undoOk, redoOk}
 use Rattle.model.specs.Calls.{Outcome, refused, addCall, sewCall, unsewCall, removeCall, splitCall, stepOutcome, undoCall, redoCall}
 use Rattle.model.specs.Runs.{Op, effect}
@@ -26,8 +26,9 @@ use Rattle.model.proofs.Cells.Chart.{block-of, of-block, relink-block}
 use Rattle.model.proofs.Cells.Add.{add-map, add-block}
 use Rattle.model.proofs.Sewing.Side.{unsew-change}
 use Rattle.model.proofs.Sewing.Sew.{sew-change, paired-found}
-use Rattle.model.proofs.Layers.Sheet.{sheet-of, sheet-parted, remove-sheet}
-use Rattle.model.proofs.Layers.Half.{split-block}
+use Rattle.model.proofs.Layers.Sheet.{remove-sheet}
+use Rattle.model.proofs.Layers.Cut.{split-cuts}
+use Rattle.model.proofs.Layers.Halves.{split-block}
 use Rattle.model.proofs.Calls.Pass.{Numbered, not-in, front, step-numbers, undo-number, redo-number}
 use Rattle.model.proofs.Calls.Pass.{SidesPassed, add-passed, unsew-passed, sew-passed, layer-passed, split-passed}
 use Rattle.model.proofs.Calls.Ends.{guard, accepted, add-outcome, unsew-outcome, sew-outcome, remove-outcome, split-outcome}
@@ -97,15 +98,14 @@ module _ (n : ℕ) (t m j : List ℕ) (d : ℕ) where
       rw (r .1) (block-map _ (remove-sheet (passed .table) d (passed .lives)))
 
   pub split-call : splitCall n t m j d .number ≡ 0 → BlockMap n (splitCall n t m j d .table)
-  unfolding member indexOf effect splitTable splitSlots
+  unfolding member indexOf effect splitTable
   split-call h =
       let r = accepted (not-in (numbers 1 2 4 5 (Op.split d)) 0 refl) (split-outcome n t m j (front n t j) d) h in
       let gs = ones (sheet n t d) in
       let passed = layer-passed n t j m d (r .0 .0) in
       let split = split-passed n t j (sheet n t d) gs (r .0 .1) in
-      let B = passed .table in
-      rw (r .1) (block-map _ (split-block B gs (sheet-of B d (passed .lives)) (splitSlots n t gs) (vacant-frees t (n * length gs))
-      (split .room) (sheet-parted B d (passed .lives) (split .uncrossed))))
+      let cuts = split-cuts (record { table = passed .table; lives = passed .lives; uncrossed = split .uncrossed; room = split .room }) in
+      rw (r .1) (block-map _ (split-block cuts))
 
 -- ---- undo, redo
 

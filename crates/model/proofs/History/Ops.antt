@@ -1,11 +1,11 @@
 -- The calls on a map and a journal in rule: none gives 4 or 5, an accepted operation changes the table and leaves a map, and check, orbit and sheet change nothing.
-use Prim.Native.Nat.{ℕ, _*_, _<_}
+use Prim.Native.Nat.{ℕ, _<_}
 use mathlib.Core.Path.{_≡_, refl, sym, ap, _∙_, subst}
 use mathlib.Core.Logic.{inl, _≢_}
 use mathlib.Core.Bool.{true, false}
 use mathlib.Core.List.{List, [], _∷_, List·Memᴰ as In, List·Memᴰ·head as here}
 use native.Mathlib.Omega.{arith}
-use lib.ListN.{length, getD, take}
+use lib.ListN.{getD, take}
 use borrow.Author.Tests.{eqb-true}
 use Rattle.model.specs.Lists.{ones, indexOf, member}
 use Rattle.model.specs.Table.{unused, link, live}
@@ -16,7 +16,7 @@ use Rattle.model.specs.Sheet.{sheet, sheetMarks}
 use Rattle.model.specs.Add.{addSlots, addTable}
 use Rattle.model.specs.Sew.{side, unsewTable}
 use Rattle.model.specs.Remove.{removeTable}
-use Rattle.model.specs.Split.{splitSlots, splitTable}
+use Rattle.model.specs.Split.{splitTable}
 use Rattle.model.specs.Checks.{pass, dimOk, tableOk, journalOk, mapOk}
 use Rattle.model.specs.Calls.{Outcome, refused, checkCall, orbitCall, sheetCall}
 use Rattle.model.specs.Runs.{doCall, keeping, Op, callOf, effect}
@@ -32,9 +32,9 @@ use Rattle.model.proofs.Sewing.Side.{side-least, unsew-free}
 use Rattle.model.proofs.Sewing.Sew.{paired-found}
 use Rattle.model.proofs.Sewing.Pairing.{mates-pairing, sew-there}
 use Rattle.model.proofs.Cells.Add.{add-new}
-use Rattle.model.proofs.Layers.Sheet.{sheet-of, sheet-own, marks-own, marks-live, marks-cell}
+use Rattle.model.proofs.Layers.Sheet.{sheet-own, marks-own, marks-live, marks-cell}
 use Rattle.model.proofs.Layers.Remove.{remove-gone}
-use Rattle.model.proofs.Layers.Role.{new-in, split-cut}
+use Rattle.model.proofs.Layers.Cut.{split-cuts, new-in, split-cut}
 use Rattle.model.proofs.Calls.Pass.{not-in, Front, front-passed, check-numbers, orbit-numbers, sheet-numbers}
 use Rattle.model.proofs.Calls.Pass.{add-passed, unsew-passed, sew-passed, layer-passed, split-passed}
 use Rattle.model.proofs.Calls.Ends.{guard, weaken, op-outcome}
@@ -104,7 +104,7 @@ positive : (n : ℕ) → Dim n → 0 < n
 positive n d = two-cases n d (λ n. 0 < n) (omega arith) (omega arith)
 
 pub op-changes : (n : ℕ) (t m j : List ℕ) (p : Op) → Passed n t m j p → t ≢ effect n t p
-unfolding effect addTable addSlots unsewTable removeTable splitTable splitSlots
+unfolding effect addTable addSlots unsewTable removeTable splitTable
 op-changes n t m j Op.add a =
     let passed = add-passed n t j a in
     let T = passed .table in
@@ -157,14 +157,11 @@ op-changes n t m j (Op.split d) a =
     let B = passed .table in
     let l = passed .lives in
     let s = sheet n t d in
-    let gs = ones s in
-    let fs = splitSlots n t gs in
-    let sh = sheet-of B d l in
-    let fresh = vacant-frees t (n * length gs) in
-    let room = split-passed n t j s gs (a .1) .room in
+    let split = split-passed n t j s (ones s) (a .1) in
+    let cuts = split-cuts (record { table = B; lives = l; uncrossed = split .uncrossed; room = split .room }) in
     let i = ones-in s d (sheet-own B d l) in
     differs t _ 0 d (λ q. clash (rule-at (mapTable B) d l .goes 0 (omega arith))
-    (ap (live t) (q ∙ split-cut B gs sh fs fresh room d i) ∙ fresh .dead _ (new-in B gs sh fs fresh room 0 d (positive n (B .dim)) i)))
+    (ap (live t) (q ∙ split-cut cuts d i) ∙ cuts .vacant .dead _ (new-in cuts 0 d (positive n (B .dim)) i)))
 
 -- ---- an accepted operation leaves a map
 

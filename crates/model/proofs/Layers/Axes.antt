@@ -40,7 +40,7 @@ module _ {n : ℕ} {t : List ℕ} (B : BlockTable n t) (d : ℕ) (live-d : live 
   unfolding axisRows
   two-crosses w = test (crosses t (sheet n t d) gs) (λ e. e) (λ e.
       let out : half n ≤ w .p = if-lt (w .p) (half n) (λ l. absurd (w .differ (eqb-true _ _ (below-at (λ p. eqb (axis n p) (axis n 0)) (half n) (and-l same-axis _ (axisRows-true n (B .dim))) (w .p) l)))) (λ l. l) in
-      let r = out-crosses B gs (sheet-of B d live-d) (w .g) (w .p) (w .first) out (w .low) (w .second) in
+      let r = out-crosses B (sheet-of B d live-d) (w .g) (w .p) (w .first) out (w .low) (w .second) in
       absurd (sheet-parted B d live-d e (r .0) (r .1) (r .2)))
 
   crosses-two : crosses t (sheet n t d) gs ≡ true → TwoAxes n t gs

@@ -72,7 +72,7 @@ module _ {n : ℕ} {t : List ℕ} (B : BlockTable n t) (gs : List ℕ) (sh : She
         let r = all-seen k (h .0) in
         if-lt (r .0) (half n)
         (λ a. in-cast (place-one B x k (seen (r .0)) l (h .0) (seen-in (r .0) (r .1)) (r .2 ∙ seen-is (r .0) (r .1))) (tab-in seen (half n) 0 (r .0) (omega arith) (omega arith)))
-        (λ a. let c = out-crosses B gs sh g (r .0) i₀ a (r .1) (subst (λ (z : ℕ). In z gs) (r .2) (h .1)) in absurd (parted (c .0) (c .1) (c .2)))
+        (λ a. let c = out-crosses B sh g (r .0) i₀ a (r .1) (subst (λ (z : ℕ). In z gs) (r .2) (h .1)) in absurd (parted (c .0) (c .1) (c .2)))
 
     share : count 1 hits ≡ half n
     share =
@@ -82,7 +82,7 @@ module _ {n : ℕ} {t : List ℕ} (B : BlockTable n t) (gs : List ℕ) (sh : She
         (distinct-tab seen (half n) 0 (λ k j kj h e. let hk = half-size n (B .dim) k (omega arith) in let hj = half-size n (B .dim) j (omega arith) in
         let q = place-one B g k j (place-live B x k₀ l b₀) hk hj (seen-is k hk ∙ ap (place n t x) e ∙ sym (seen-is j hj)) in omega arith))
         (λ y i. let r = in-tab seen (half n) 0 y i in let c = r .2 in let h : r .0 < half n = omega arith in let z = half-size n (B .dim) (r .0) h in
-        subst (Marked hits) (sym (r .3)) (in-hit (seen (r .0)) (seen-in (r .0) z) (subst (λ (w : ℕ). In w gs) (seen-is (r .0) z) (in-half B gs sh g (r .0) i₀ h)))) in
+        subst (Marked hits) (sym (r .3)) (in-hit (seen (r .0)) (seen-in (r .0) z) (subst (λ (w : ℕ). In w gs) (seen-is (r .0) z) (in-half B sh g (r .0) i₀ h)))) in
         let e = length-tabFrom seen (half n) 0 in
         omega arith
 

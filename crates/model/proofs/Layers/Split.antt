@@ -1,34 +1,101 @@
--- Split keeps a map.
-use Prim.Native.Nat.{ℕ, zero, suc, _+_, _*_, _≤_, _<_}
-use mathlib.Core.Path.{_≡_, refl, sym, ap, ap₂, _∙_, subst}
-use mathlib.Core.Logic.{_⊎_, inl, inr, _≢_, ⊎-elim}
-use mathlib.Core.Bool.{Bool, true, false, _&&_, _||_}
-use mathlib.Core.List.{List, [], _∷_, _++_, List·Memᴰ as In}
+-- Split keeps a map: the words of its rules lead from role to role (`role-walk`), and back to where they began; computed
+-- over the roles. The live slots after are the live ones before and the new darts (`Live`, `split-ruled`).
+use Prim.Native.Nat.{ℕ, zero, suc, _+_, _≤_, _<_}
+use mathlib.Core.Path.{_≡_, refl, sym, ap, ap₂, _∙_}
+use mathlib.Core.Logic.{_⊎_, inl, inr, ⊎-elim}
+use mathlib.Core.Bool.{Bool, true, false, not, _&&_, _||_}
+use mathlib.Core.List.{List, [], _∷_, _++_, List·Memᴰ as In, Memᴰ·cast as in-cast}
 use native.Mathlib.Omega.{arith}
-use lib.ListN.{length, getD}
+use lib.ListN.{getD}
 use lib.Dec.{eqb, ltb, leb}
-use borrow.Author.Tests.{eqb-true, eq-eqb, ltb-true, leb-true, le-leb}
+use borrow.Author.Tests.{eqb-true, ltb-true, leb-true, le-ltb, ne-eqb, eq-eqb}
 use Rattle.model.specs.Lists.{allBelow}
 use Rattle.model.specs.Table.{slots, link, walk, live}
-use Rattle.model.specs.Split.{newDart, halved}
+use Rattle.model.specs.Split.{halved}
 use Rattle.model.specs.Everything.{everything}
-use Rattle.model.specs.Meaning.Maps.{BlockTable, Dim, Map, Rule}
+use Rattle.model.specs.Meaning.Maps.{BlockTable, MapTable, Dim, Rule}
 use Rattle.model.proofs.Lists.Scan.{test, if-eq, clash, and-l, and-r, below-at}
-use Rattle.model.proofs.Maps.Rules.{live-in}
+use Rattle.model.proofs.Lists.Ones.{in-or}
+use Rattle.model.proofs.Maps.Dim.{two-cases}
+use Rattle.model.proofs.Maps.Tables.{mapTable, live-below, rule-at}
 use Rattle.model.proofs.Sewing.Side.{past}
 use Rattle.model.proofs.Cells.Cell.{rowWalk, small, cell-words}
 use Rattle.model.proofs.Cells.Places.{same, same-eq, or-cases}
-use Rattle.model.proofs.Lists.Ones.{Vacant, in-or}
-use Rattle.model.proofs.Maps.Tables.{mapTable}
-use Rattle.model.proofs.Maps.Dim.{two-cases}
-use Rattle.model.proofs.Cells.Chart.{Ruled, map-by, live-same}
+use Rattle.model.proofs.Cells.Chart.{Ruled, ruled-table, live-of, of-live, live-same, keep}
+use Rattle.model.proofs.Operations.Frame.{split-frame}
 use Rattle.model.proofs.Layers.Remove.{walk-append}
-use Rattle.model.proofs.Layers.Sheet.{Sheet}
-use Rattle.model.proofs.Layers.Role.{roleTo, roleWord, dart, sheetly, sheet-walk, split-slots, new-in, new-of, split-other, split-off, role-link}
+use Rattle.model.proofs.Layers.Cut.{Cut, IsNew, slot-new, new-in, split-slots, split-whole, split-kept}
+use Rattle.model.proofs.Layers.Role.{roleTo, roleWord, roleDart, opposed, keepsSheet, sheet-walk, role-link, role-plane}
+
+-- ---- words that lead back
+
+-- twice a link
+twice : List ℕ → Bool
+twice w = same w (getD w 0 0 ∷ getD w 0 0 ∷ []) && ltb (getD w 0 0) 4
+
+-- twice 1.0.1.3
+abbrev around : List ℕ
+around = opposed ++ (3 ∷ opposed ++ (3 ∷ []))
+
+-- a word of the links before leads back to where it began, by the rows of a cell or as one of the two above
+leadsBack : ℕ → List ℕ → Bool
+leadsBack n w = (small n w && eqb (rowWalk n w 0) 0) || (twice w || (eqb n 3 && same w around))
+
+opposed-rows : (n : ℕ) → Dim n → (small n (opposed ++ opposed) ≡ true) × (rowWalk n (opposed ++ opposed) 0 ≡ 0)
+unfolding everything small rowWalk
+opposed-rows n dim = two-cases n dim (λ n. (small n (opposed ++ opposed) ≡ true) × (rowWalk n (opposed ++ opposed) 0 ≡ 0))
+    (refl, refl) (refl, refl)
+
+module _ {n : ℕ} {t : List ℕ} (B : BlockTable n t) where
+  rule : (x : ℕ) → live t x ≡ true → Rule n t x
+  rule = rule-at (mapTable B)
+
+  -- for n = 3 link 3 goes past a word of the links 0 and 1
+  walk-past : n ≡ 3 → (w : List ℕ) (x : ℕ) → small 2 w ≡ true → live t x ≡ true → walk t w (link t 3 x) ≡ link t 3 (walk t w x)
+  unfolding walk small
+  walk-past e [] x h l = refl
+  walk-past e (i ∷ w) x h l =
+      let rest = walk-past e w (link t i x) in
+      test (ltb i 2)
+      (λ q. let b = ltb-true i 2 q in
+      ap (walk t w) (past n t x (B .dim .1) (B .whole) (B .map) l i 3 (omega arith) (omega arith) (inl (omega arith)))
+      ∙ rest (rw (q, small) at h) (rule x l .goes i (omega arith)))
+      (λ q. absurd (clash h (rw (q, small))))
+
+  around-back : n ≡ 3 → (g : ℕ) → live t g ≡ true → walk t around g ≡ g
+  unfolding walk small rowWalk
+  around-back e g l =
+      let y = walk t opposed g in
+      let ly = keep B (λ _. Unit {0}) (λ _ _ _ _ _. tt) opposed (rw e) g l tt .0 in
+      let lz = keep B (λ _. Unit {0}) (λ _ _ _ _ _. tt) opposed (rw e) y ly tt .0 in
+      let rows = opposed-rows n (B .dim) in
+      ap (link t 3) (walk-past e opposed y refl ly) ∙ rule (walk t opposed y) lz .comes 3 (omega arith)
+      ∙ cell-words (mapTable B) g l (B .good g l) (opposed ++ opposed) [] (rows .0) refl (rows .1)
+
+  back-walk : (w : List ℕ) (g : ℕ) → leadsBack n w ≡ true → live t g ≡ true → walk t w g ≡ g
+  unfolding leadsBack twice walk small rowWalk
+  back-walk w g h l =
+      ⊎-elim by-rows (λ r. ⊎-elim by-link by-around (or-cases (twice w) _ r)) (or-cases (small n w && eqb (rowWalk n w 0) 0) _ h)
+    where
+      by-rows : (small n w && eqb (rowWalk n w 0) 0) ≡ true → walk t w g ≡ g
+      by-rows p =
+          cell-words (mapTable B) g l (B .good g l) w [] (and-l (small n w) _ p) refl (eqb-true _ _ (and-r (small n w) _ p))
+
+      by-link : twice w ≡ true → walk t w g ≡ g
+      by-link p =
+          let i = getD w 0 0 in
+          let pair = same w (i ∷ i ∷ []) in
+          ap (λ (v : List ℕ). walk t v g) (same-eq w (i ∷ i ∷ []) (and-l pair _ p))
+          ∙ rule g l .comes i (ltb-true i 4 (and-r pair (ltb i 4) p))
+
+      by-around : (eqb n 3 && same w around) ≡ true → walk t w g ≡ g
+      by-around p =
+          ap (λ (v : List ℕ). walk t v g) (same-eq w around (and-r (eqb n 3) (same w around) p))
+          ∙ around-back (eqb-true n 3 (and-l (eqb n 3) _ p)) g l
 
 -- ---- walks from role to role
 
--- where a word leads from a role: the role, and the word of old links; and whether it keeps to the sheet on the way
+-- where a word leads from a role: the role, and the word of the links before
 roleEnd : ℕ → List ℕ → ℕ → ℕ
 roleEnd n [] r = r
 roleEnd n (j ∷ v) r = roleEnd n v (roleTo n r j)
@@ -37,257 +104,218 @@ rolePath : ℕ → List ℕ → ℕ → List ℕ
 rolePath n [] r = []
 rolePath n (j ∷ v) r = roleWord n r j ++ rolePath n v (roleTo n r j)
 
-staying : ℕ → List ℕ → ℕ → Bool
-staying n [] r = leb r n
-staying n (j ∷ v) r = (leb r n && (ltb j 4 && sheetly 0 (roleWord n r j))) && staying n v (roleTo n r j)
+-- link j of the role r leads to a role of a dart of the sheet
+leads : ℕ → ℕ → ℕ → Bool
+leads n r j = ltb j 4 && (leb (roleTo n r j) n && keepsSheet (roleWord n r j))
 
--- words of old links that return: in the rows, twice a link, and link 3 past the links 0 and 1
-twice : List ℕ → Bool
-twice w = same w (getD w 0 0 ∷ getD w 0 0 ∷ []) && ltb (getD w 0 0) 4
+-- and so does each step of a word
+allLead : ℕ → List ℕ → ℕ → Bool
+allLead n [] r = true
+allLead n (j ∷ v) r = leads n r j && allLead n v (roleTo n r j)
 
-abbrev around : List ℕ
-around = 1 ∷ 0 ∷ 1 ∷ 3 ∷ 1 ∷ 0 ∷ 1 ∷ 3 ∷ []
+returns : ℕ → ℕ → List ℕ → Bool
+returns n r v = allLead n v r && (eqb (roleEnd n v r) r && leadsBack n (rolePath n v r))
 
-returns : ℕ → List ℕ → Bool
-returns n w = (small n w && eqb (rowWalk n w 0) 0) || (twice w || (eqb n 3 && same w around))
+-- the links of the darts of the sheet but link 0 stay
+stays : ℕ → ℕ → Bool
+stays r j = eqb r 0 && not (eqb j 0)
 
-fine : ℕ → ℕ → List ℕ → Bool
-fine n r v = staying n v r && (eqb (roleEnd n v r) r && returns n (rolePath n v r))
+-- the words of a map's rules return, from each role
+roleTwice : ℕ → ℕ → ℕ → Bool
+roleTwice n r j = stays r j || (leads n r j && returns n r (j ∷ j ∷ []))
 
-crossOk : ℕ → ℕ → ℕ → ℕ → Bool
-crossOk n r i j = elim (leb (i + 2) j) [ true ↦ fine n r (i ∷ j ∷ i ∷ j ∷ []) | false ↦ true ]
+roleCross : ℕ → ℕ → ℕ → ℕ → Bool
+roleCross n r i j = stays r i || (ltb j (i + 2) || returns n r (i ∷ j ∷ i ∷ j ∷ []))
 
--- the rules of a map hold of the new darts, and of the old ones of the sheet where link 0 is met: computed
-newTwice : ℕ → Bool
-newTwice n = allBelow n (λ r. allBelow 4 (λ j. fine n (suc r) (j ∷ j ∷ [])))
+-- to unfold `computed` is to unfold what the two tests compute with
+computed : Unit {0}
+unfolding everything stays returns leadsBack twice leads allLead rolePath roleEnd roleTo roleWord keepsSheet rowWalk small
+computed = tt
 
-newCross : ℕ → Bool
-newCross n = allBelow n (λ r. allBelow 2 (λ i. allBelow (suc n) (crossOk n (suc r) i)))
+twice-true : (n : ℕ) → Dim n → allBelow (suc n) (λ r. allBelow 4 (roleTwice n r)) ≡ true
+unfolding computed roleTwice
+twice-true n dim = two-cases n dim (λ n. allBelow (suc n) (λ r. allBelow 4 (roleTwice n r)) ≡ true) refl refl
 
-oldCross : ℕ → Bool
-oldCross n = fine n 0 (0 ∷ 0 ∷ []) && allBelow (suc n) (crossOk n 0 0)
+cross-true : (n : ℕ) → Dim n → allBelow (suc n) (λ r. allBelow 2 (λ i. allBelow (suc n) (roleCross n r i))) ≡ true
+unfolding computed roleCross
+cross-true n dim =
+    two-cases n dim (λ n. allBelow (suc n) (λ r. allBelow 2 (λ i. allBelow (suc n) (roleCross n r i))) ≡ true) refl refl
 
-newPlane : ℕ → Bool
-newPlane n = elim (eqb n 2) [ true ↦ allBelow n (λ r. eqb (roleTo n (suc r) 3) (suc r) && same (roleWord n (suc r) 3) (3 ∷ [])) | false ↦ true ]
+module _ (r j : ℕ) (made : r ≡ 0 → j ≡ 0) (b : Bool) where
+  not-stays : (stays r j || b) ≡ true → b ≡ true
+  unfolding stays
+  not-stays h = if-eq r 0 (λ e. rw (eq-eqb r 0 e, eq-eqb j 0 (made e)) at h) (λ e. rw (ne-eqb r 0 e) at h)
 
-roleRules : ℕ → Bool
-roleRules n = (newTwice n && newCross n) && (oldCross n && newPlane n)
+module _ {n : ℕ} {t gs fs : List ℕ} (C : Cut n t gs fs) where
+  abbrev after : List ℕ
+  after = halved n t gs fs
 
-roleRules-true : (n : ℕ) → Dim n → roleRules n ≡ true
-unfolding everything roleRules newTwice newCross oldCross newPlane crossOk fine returns twice staying rolePath roleEnd roleTo roleWord sheetly rowWalk small
-roleRules-true n n23 = two-cases n n23 (λ n. roleRules n ≡ true) refl refl
+  abbrev role : ℕ → ℕ → ℕ
+  role = roleDart n gs fs
 
--- ---- the words return
+  abbrev dim : Dim n
+  dim = C .table .dim
 
-module _ {n : ℕ} {t : List ℕ} (B : BlockTable n t) where
-  at : (x : ℕ) → live t x ≡ true → Rule n t x
-  at x l = B .map .rule x (live-in t x (B .whole) l) l
+  lead-low : (r j : ℕ) → leads n r j ≡ true → (j < 4) × (roleTo n r j ≤ n) × (keepsSheet (roleWord n r j) ≡ true)
+  unfolding leads
+  lead-low r j h =
+      let to = leb (roleTo n r j) n in
+      let word = keepsSheet (roleWord n r j) in
+      let q : (to && word) ≡ true = and-r (ltb j 4) (to && word) h in
+      (ltb-true j 4 (and-l (ltb j 4) (to && word) h), leb-true _ _ (and-l to word q), and-r to word q)
 
-  around-back : n ≡ 3 → (g : ℕ) → live t g ≡ true → walk t around g ≡ g
+  role-walk : (v : List ℕ) (r g : ℕ) → allLead n v r ≡ true → r ≤ n → In g gs
+      → walk after v (role r g) ≡ role (roleEnd n v r) (walk t (rolePath n v r) g)
+  unfolding allLead roleEnd rolePath walk
+  role-walk [] r g h b i = refl
+  role-walk (j ∷ v) r g h b i =
+      let low = lead-low r j (and-l (leads n r j) _ h) in
+      let y = walk t (roleWord n r j) g in
+      let m = sheet-walk (C .table) (C .sheet) (roleWord n r j) g (low .2) i in
+      ap (walk after v) (role-link C r g j b i (low .0)) ∙ role-walk v (roleTo n r j) y (and-r (leads n r j) _ h) (low .1) m
+      ∙ ap (role (roleEnd n v (roleTo n r j))) (sym (walk-append t (roleWord n r j) (rolePath n v (roleTo n r j)) g))
+
+  return-walk : (v : List ℕ) (r g : ℕ) → returns n r v ≡ true → r ≤ n → In g gs → walk after v (role r g) ≡ role r g
+  unfolding returns
+  return-walk v r g h b i =
+      let ends = eqb (roleEnd n v r) r in
+      let back = leadsBack n (rolePath n v r) in
+      let q : (ends && back) ≡ true = and-r (allLead n v r) (ends && back) h in
+      let round = back-walk (C .table) (rolePath n v r) g (and-r ends back q) (C .sheet .lives g i) in
+      role-walk v r g (and-l (allLead n v r) (ends && back) h) b i ∙ ap₂ role (eqb-true _ _ (and-l ends back q)) round
+
+  -- the links that split makes: those of the new darts, and link 0 of the darts of the sheet
+  made-twice : (r j : ℕ) → r ≤ n → j < 4 → (r ≡ 0 → j ≡ 0) → (leads n r j && returns n r (j ∷ j ∷ [])) ≡ true
+  unfolding roleTwice
+  made-twice r j b h made = not-stays r j made _
+      (below-at (roleTwice n r) 4 (below-at (λ r. allBelow 4 (roleTwice n r)) (suc n) (twice-true n dim) r (omega arith)) j h)
+
+  role-twice : (r g j : ℕ) → r ≤ n → In g gs → j < 4 → (r ≡ 0 → j ≡ 0) → link after j (link after j (role r g)) ≡ role r g
   unfolding walk
-  around-back e g l =
-      let n3 = B .dim .1 in
-      let l₁ = at g l .goes 1 (omega arith) in
-      let l₂ = at (link t 1 g) l₁ .goes 0 (omega arith) in
-      let y = link t 1 (link t 0 (link t 1 g)) in
-      let ly = at (link t 0 (link t 1 g)) l₂ .goes 1 (omega arith) in
-      let m₁ = at y ly .goes 1 (omega arith) in
-      let m₂ = at (link t 1 y) m₁ .goes 0 (omega arith) in
-      let m₃ = at (link t 0 (link t 1 y)) m₂ .goes 1 (omega arith) in
-      let c : (x : ℕ) → live t x ≡ true → (i : ℕ) → i + 2 ≤ 3 → link t i (link t 3 x) ≡ link t 3 (link t i x) = λ x lx i b. past n t x n3 (B .whole) (B .map) lx i 3 (omega arith) (omega arith) (inl b) in
-      rw (c y ly 1 (omega arith), c (link t 1 y) m₁ 0 (omega arith), c (link t 0 (link t 1 y)) m₂ 1 (omega arith), at (link t 1 (link t 0 (link t 1 y))) m₃ .comes 3 (omega arith))
-      (rw (at (link t 0 (link t 1 g)) l₂ .comes 1 (omega arith), at (link t 1 g) l₁ .comes 0 (omega arith)) (at g l .comes 1 (omega arith)))
+  role-twice r g j b i h made = return-walk (j ∷ j ∷ []) r g (and-r (leads n r j) _ (made-twice r j b h made)) b i
 
-  returns-back : (w : List ℕ) (g : ℕ) → returns n w ≡ true → live t g ≡ true → walk t w g ≡ g
-  unfolding returns twice walk small rowWalk
-  returns-back w g h l = ⊎-elim rows (λ r. ⊎-elim two past3 (or-cases (twice w) _ r)) (or-cases (small n w && eqb (rowWalk n w 0) 0) _ h)
+  role-cross : (r g i j : ℕ) → r ≤ n → In g gs → i + 2 ≤ j → j ≤ n → (r ≡ 0 → i ≡ 0)
+      → link after j (link after i (link after j (link after i (role r g)))) ≡ role r g
+  unfolding walk roleCross
+  role-cross r g i j b m ij jn made =
+      return-walk (i ∷ j ∷ i ∷ j ∷ []) r g (rw (le-ltb j (i + 2) ij) at (not-stays r i made _ tested)) b m
     where
-      rows : (small n w && eqb (rowWalk n w 0) 0) ≡ true → walk t w g ≡ g
-      rows p = cell-words (mapTable B) g l (B .good g l) w [] (and-l (small n w) _ p) refl (eqb-true _ _ (and-r (small n w) _ p))
+      firsts : ℕ → Bool
+      firsts i = allBelow (suc n) (roleCross n r i)
 
-      two : twice w ≡ true → walk t w g ≡ g
-      two p = let i = getD w 0 0 in ap (λ (v : List ℕ). walk t v g) (same-eq w (i ∷ i ∷ []) (and-l (same w (i ∷ i ∷ [])) _ p)) ∙ at g l .comes i (ltb-true i 4 (and-r (same w (i ∷ i ∷ [])) (ltb i 4) p))
+      tested : roleCross n r i j ≡ true
+      tested =
+          let top = dim .1 in
+          let roles : ℕ → Bool = λ r. allBelow 2 (λ i. allBelow (suc n) (roleCross n r i)) in
+          let at-role = below-at roles (suc n) (cross-true n dim) r (omega arith) in
+          below-at (roleCross n r i) (suc n) (below-at firsts 2 at-role i (omega arith)) j (omega arith)
 
-      past3 : (eqb n 3 && same w around) ≡ true → walk t w g ≡ g
-      past3 p = ap (λ (v : List ℕ). walk t v g) (same-eq w around (and-r (eqb n 3) (same w around) p)) ∙ around-back (eqb-true n 3 (and-l (eqb n 3) _ p)) g l
-
-module _ {n : ℕ} {t : List ℕ} (B : BlockTable n t) (gs : List ℕ) (sh : Sheet n t gs) (fs : List ℕ) (fresh : Vacant t fs) (enough : length fs ≡ n * length gs) where
-  abbrev u : List ℕ
-  u = halved n t gs fs
-
-  abbrev D : ℕ → ℕ → ℕ
-  D r g = dart n gs fs r g
-
-  step : (r g j : ℕ) → r ≤ n → In g gs → j < 4 → link u j (D r g) ≡ D (roleTo n r j) (walk t (roleWord n r j) g)
-  step = role-link B gs sh fs fresh enough
-
-  role-walk : (v : List ℕ) (r g : ℕ) → staying n v r ≡ true → In g gs → walk u v (D r g) ≡ D (roleEnd n v r) (walk t (rolePath n v r) g)
-  unfolding staying roleEnd rolePath walk
-  role-walk [] r g h i = refl
-  role-walk (j ∷ v) r g h i =
-      let a = leb r n in
-      let b = ltb j 4 in
-      let c = sheetly 0 (roleWord n r j) in
-      let p : (a && (b && c)) ≡ true = and-l (a && (b && c)) _ h in
-      let q = and-r a (b && c) p in
-      ap (walk u v) (step r g j (leb-true r n (and-l a _ p)) i (ltb-true j 4 (and-l b c q)))
-      ∙ role-walk v (roleTo n r j) (walk t (roleWord n r j) g) (and-r (a && (b && c)) _ h) (sheet-walk B gs sh (roleWord n r j) g (and-r b c q) i)
-      ∙ ap (D (roleEnd n v (roleTo n r j))) (sym (walk-append t (roleWord n r j) (rolePath n v (roleTo n r j)) g))
-
-  -- a word that is fine returns
-  fine-back : (v : List ℕ) (r g : ℕ) → fine n r v ≡ true → In g gs → walk u v (D r g) ≡ D r g
-  unfolding fine
-  fine-back v r g h i =
-      let a = staying n v r in
-      let b = eqb (roleEnd n v r) r in
-      let c = returns n (rolePath n v r) in
-      let p : (b && c) ≡ true = and-r a (b && c) h in
-      role-walk v r g (and-l a _ h) i ∙ ap₂ D (eqb-true _ _ (and-l b c p)) (returns-back B (rolePath n v r) g (and-r b c p) (sh .lives g i))
-
-  -- and its first step leads to a role of a dart of the sheet
-  fine-step : (j k r g : ℕ) → fine n r (j ∷ k ∷ []) ≡ true → In g gs → (q : ℕ) × (y : ℕ) × (q ≤ n) × In y gs × (link u j (D r g) ≡ D q y)
-  unfolding fine staying
-  fine-step j k r g h i =
-      let a = leb r n in
-      let b = ltb j 4 in
-      let c = sheetly 0 (roleWord n r j) in
-      let s : staying n (j ∷ k ∷ []) r ≡ true = and-l (staying n (j ∷ k ∷ []) r) _ h in
-      let p : (a && (b && c)) ≡ true = and-l (a && (b && c)) (staying n (k ∷ []) (roleTo n r j)) s in
-      let q = and-r a (b && c) p in
-      let z = and-r (a && (b && c)) (staying n (k ∷ []) (roleTo n r j)) s in
-      let d = ltb k 4 && sheetly 0 (roleWord n (roleTo n r j) k) in (
-        roleTo n r j,
-        walk t (roleWord n r j) g,
-        leb-true _ _ (and-l (leb (roleTo n r j) n) d (and-l (leb (roleTo n r j) n && d) _ z)),
-        sheet-walk B gs sh (roleWord n r j) g (and-r b c q) i,
-        step r g j (leb-true r n (and-l a _ p)) i (ltb-true j 4 (and-l b c q)),
-      )
-
-  rules : roleRules n ≡ true
-  rules = roleRules-true n (B .dim)
-
-  new-twice : (r j : ℕ) → r < n → j < 4 → fine n (suc r) (j ∷ j ∷ []) ≡ true
-  unfolding roleRules newTwice
-  new-twice r j b h = below-at (λ j. fine n (suc r) (j ∷ j ∷ [])) 4 (below-at (λ r. allBelow 4 (λ j. fine n (suc r) (j ∷ j ∷ []))) n (and-l (newTwice n) (newCross n) (and-l (newTwice n && newCross n) _ rules)) r b) j h
-
-  far-cross : (r i j : ℕ) → i + 2 ≤ j → crossOk n r i j ≡ true → fine n r (i ∷ j ∷ i ∷ j ∷ []) ≡ true
-  unfolding crossOk
-  far-cross r i j ij h = rw (le-leb _ _ ij, crossOk) at h
-
-  new-cross : (r i j : ℕ) → r < n → i + 2 ≤ j → j ≤ n → fine n (suc r) (i ∷ j ∷ i ∷ j ∷ []) ≡ true
-  unfolding roleRules newCross
-  new-cross r i j b ij jn = let s = B .dim .1 in
-      far-cross (suc r) i j ij (below-at (crossOk n (suc r) i) (suc n) (below-at (λ i. allBelow (suc n) (crossOk n (suc r) i)) 2 (below-at (λ r. allBelow 2 (λ i. allBelow (suc n) (crossOk n (suc r) i))) n
-      (and-r (newTwice n) (newCross n) (and-l (newTwice n && newCross n) _ rules)) r b) i (omega arith)) j (omega arith))
-
-  old-rules : oldCross n ≡ true
-  unfolding roleRules
-  old-rules = and-l (oldCross n) (newPlane n) (and-r (newTwice n && newCross n) _ rules)
-
-  old-twice : fine n 0 (0 ∷ 0 ∷ []) ≡ true
-  unfolding oldCross
-  old-twice = and-l (fine n 0 (0 ∷ 0 ∷ [])) _ old-rules
-
-  old-cross : (j : ℕ) → 2 ≤ j → j ≤ n → fine n 0 (0 ∷ j ∷ 0 ∷ j ∷ []) ≡ true
-  unfolding oldCross
-  old-cross j a b = far-cross 0 0 j (omega arith) (below-at (crossOk n 0 0) (suc n) (and-r (fine n 0 (0 ∷ 0 ∷ [])) _ old-rules) j (omega arith))
-
-  new-plane : (r : ℕ) → r < n → n ≡ 2 → (roleTo n (suc r) 3 ≡ suc r) × (roleWord n (suc r) 3 ≡ 3 ∷ [])
-  unfolding roleRules newPlane
-  new-plane r b e =
-      let p : ℕ → Bool = λ r. eqb (roleTo n (suc r) 3) (suc r) && same (roleWord n (suc r) 3) (3 ∷ []) in
-      let h : newPlane n ≡ true = and-r (oldCross n) (newPlane n) (and-r (newTwice n && newCross n) _ rules) in
-      let q : p r ≡ true = below-at p n (rw (eq-eqb n 2 e, newPlane) at h) r b in
-      (eqb-true _ _ (and-l (eqb (roleTo n (suc r) 3) (suc r)) _ q), same-eq _ _ (and-r (eqb (roleTo n (suc r) 3) (suc r)) _ q))
-
-  -- ---- the map
+  -- ---- the live slots after
 
   pub data Live (x : ℕ) : Type 0 where
-    was : live t x ≡ true → Live x
-    is : (r g : ℕ) → r < n → In g gs → x ≡ newDart n gs fs r g → Live x
+    old : live t x ≡ true → Live x
+    new : IsNew n gs fs x → Live x
 
-  live-dart : (r g : ℕ) → r ≤ n → In g gs → Live (D r g)
-  unfolding dart
-  live-dart zero g b i = was (sh .lives g i)
-  live-dart (suc r) g b i = is r g b i refl
+  pub live-role : (r g : ℕ) → r ≤ n → In g gs → Live (role r g)
+  unfolding roleDart
+  live-role zero g b i = old (C .sheet .lives g i)
+  live-role (suc r) g b i = new (record { role = r; of = g; low = b; member = i; is = refl })
 
-  not-new : (x : ℕ) → live t x ≡ true → In x fs → ⊥
-  not-new x l i = clash l (fresh .dead x i)
+  role-goes : (r g j : ℕ) → r ≤ n → In g gs → j < 4 → (r ≡ 0 → j ≡ 0) → Live (link after j (role r g))
+  role-goes r g j b i h made =
+      let low = lead-low r j (and-l (leads n r j) _ (made-twice r j b h made)) in
+      let m = sheet-walk (C .table) (C .sheet) (roleWord n r j) g (low .2) i in
+      rw (role-link C r g j b i h) (live-role (roleTo n r j) _ (low .1) m)
 
-  -- an old dart keeps its links but for link 0, and that too outside of the sheet
-  pub keeps : (x j : ℕ) → live t x ≡ true → j < 4 → j ≢ 0 → link u j x ≡ link t j x
-  keeps x j l b e = split-other B gs sh fs fresh enough x j (live-in t x (B .whole) l) b (not-new x l) e
+  -- link j of an old dart x: link 0 of a dart of the sheet, or it stays
+  Stays : ℕ → ℕ → Type 0
+  Stays x j = j ≡ 0 → In x gs → ⊥
 
-  pub keeps-off : (x j : ℕ) → live t x ≡ true → j < 4 → (In x gs → ⊥) → link u j x ≡ link t j x
-  keeps-off x j l b i = split-off B gs sh fs fresh enough x j (live-in t x (B .whole) l) b (not-new x l) i
+  made-or : {P : Type 0} (x j : ℕ) → (j ≡ 0 → In x gs → P) → (Stays x j → P) → P
+  unfolding Stays
+  made-or x j f k = ⊎-elim (λ i. if-eq j 0 (λ e. f e i) (λ e. k (λ z. absurd (e z)))) (λ i. k (λ _. i)) (in-or gs x)
 
-  off-along : (x : ℕ) → live t x ≡ true → (In x gs → ⊥) → In (link t 0 x) gs → ⊥
-  off-along x l k i = k (subst (λ (z : ℕ). In z gs) (at B x l .comes 0 (omega arith)) (sh .along (link t 0 x) i))
+  -- and then it stays from there on
+  stays-along : (x j : ℕ) → live t x ≡ true → Stays x j → Stays (link t j x) j
+  unfolding Stays
+  stays-along x j l k e i =
+      k e (in-cast (sym (rule (C .table) x l .comes 0 (omega arith))) (C .sheet .along (link t 0 x) (rw e at i)))
 
-  off-far : (x j : ℕ) → 2 ≤ j → j ≤ n → live t x ≡ true → (In x gs → ⊥) → In (link t j x) gs → ⊥
-  off-far x j a b l k i = let s = B .dim .1 in k (subst (λ (z : ℕ). In z gs) (at B x l .comes j (omega arith)) (sh .far (link t j x) j a b i))
+  stays-far : (x i j : ℕ) → 2 ≤ j → j ≤ n → live t x ≡ true → Stays x i → Stays (link t j x) i
+  unfolding Stays
+  stays-far x i j far top l k e m = let three = dim .1 in
+      k e (in-cast (sym (rule (C .table) x l .comes j (omega arith))) (C .sheet .far (link t j x) j far top m))
 
-  pub split-ruled : Ruled n u Live
-  unfolding walk dart
-  split-ruled = record { few = let s = slots-same in let b = B .few in omega arith; inside = inside; other = other; goes = goes; comes = comes; cross = cross; plane = plane }
+  split-ruled : Ruled n after Live
+  unfolding roleDart Stays
+  split-ruled = record {
+    few = let same = split-slots C in let few = C .table .few in omega arith;
+    inside = inside;
+    other = other;
+    goes = goes;
+    comes = comes;
+    cross = cross;
+    plane = plane;
+  }
     where
-      slots-same : slots u ≡ slots t
-      slots-same = split-slots B gs sh fs fresh enough
+      before : (x : ℕ) → live t x ≡ true → Rule n t x
+      before = rule (C .table)
 
-      old : (x : ℕ) → live t x ≡ true → Rule n t x
-      old = at B
+      kept : (x j : ℕ) → live t x ≡ true → j < 4 → Stays x j → link after j x ≡ link t j x
+      kept = split-kept C
 
-      inside : (x : ℕ) → Live x → x < slots u
-      inside x (was l) = rw slots-same (live-in t x (B .whole) l)
-      inside x (is r g b i e) = rw (slots-same, e) (fresh .inside _ (new-in B gs sh fs fresh enough r g b i))
+      inside : (x : ℕ) → Live x → x < slots after
+      inside x (old l) = rw (split-slots C) (live-below (mapTable (C .table)) x l)
+      inside x (new w) = rw (split-slots C, w .is) (C .vacant .inside _ (new-in C (w .role) (w .of) (w .low) (w .member)))
 
-      other : (x : ℕ) → x < slots u → Live x ⊎ (live u x ≡ false)
+      other : (x : ℕ) → x < slots after → Live x ⊎ (live after x ≡ false)
       other x h =
-          let h′ : x < slots t = rw slots-same at h in
-          ⊎-elim (λ k. let q = new-of B gs sh fs fresh enough x k in inl (is (q .0) (q .1) (q .2) (q .3) (q .4)))
-          (λ k. test (live t x) (λ l. inl (was l)) (λ l. inr (live-same t u x (λ j b. split-off B gs sh fs fresh enough x j h′ b k (λ i. clash (sh .lives x i) l)) ∙ l))) (in-or fs x)
+          let low : x < slots t = rw (split-slots C) at h in
+          ⊎-elim (λ i. inl (new (slot-new C x i)))
+          (λ k. test (live t x) (λ l. inl (old l))
+          (λ l.
+          let off : In x gs → ⊥ = λ i. clash (C .sheet .lives x i) l in
+          inr (live-same t after x (λ j b. split-frame t (C .table .whole) x low n gs fs k j b (λ _. off)) ∙ l))) (in-or fs x)
 
-      goes : (x j : ℕ) → j < 4 → Live x → Live (link u j x)
-      goes x j b (was l) = if-eq j 0
-          (λ e. ⊎-elim (λ i. let q = fine-step 0 0 0 x old-twice i in rw (e, q .4) (live-dart (q .0) (q .1) (q .2) (q .3))) (λ i. was (rw (keeps-off x j l b i) (old x l .goes j b))) (in-or gs x))
-          (λ e. was (rw (keeps x j l b e) (old x l .goes j b)))
-      goes x j b (is r g h i e) = let q = fine-step j j (suc r) g (new-twice r j h b) i in rw (e, q .4) (live-dart (q .0) (q .1) (q .2) (q .3))
+      goes : (x j : ℕ) → j < 4 → Live x → Live (link after j x)
+      goes x j b (old l) = made-or x j (λ e i. rw e (role-goes 0 x 0 (omega arith) i (omega arith) (λ _. refl)))
+          (λ k. old (rw (kept x j l b k) (before x l .goes j b)))
+      goes x j b (new w) = rw (w .is) (role-goes (suc (w .role)) (w .of) j (w .low) (w .member) b (λ z. absurd (omega arith)))
 
-      comes : (x j : ℕ) → j < 4 → Live x → link u j (link u j x) ≡ x
-      comes x j b (was l) = if-eq j 0
-          (λ e. ⊎-elim (λ i. rw e (fine-back (0 ∷ 0 ∷ []) 0 x old-twice i))
-          (λ i. rw e (ap (link u 0) (keeps-off x 0 l (omega arith) i) ∙ keeps-off (link t 0 x) 0 (old x l .goes 0 (omega arith)) (omega arith) (off-along x l i) ∙ old x l .comes 0 (omega arith))) (in-or gs x))
-          (λ e. ap (link u j) (keeps x j l b e) ∙ keeps (link t j x) j (old x l .goes j b) b e ∙ old x l .comes j b)
-      comes x j b (is r g h i e) = rw e (fine-back (j ∷ j ∷ []) (suc r) g (new-twice r j h b) i)
+      comes : (x j : ℕ) → j < 4 → Live x → link after j (link after j x) ≡ x
+      comes x j b (old l) = made-or x j (λ e i. rw e (role-twice 0 x 0 (omega arith) i (omega arith) (λ _. refl)))
+          (λ k.
+          let y = link t j x in
+          ap (link after j) (kept x j l b k) ∙ kept y j (before x l .goes j b) b (stays-along x j l k) ∙ before x l .comes j b)
+      comes x j b (new w) = rw (w .is) (role-twice (suc (w .role)) (w .of) j (w .low) (w .member) b (λ z. absurd (omega arith)))
 
-      cross : (x i j : ℕ) → i + 2 ≤ j → j ≤ n → Live x → link u j (link u i (link u j (link u i x))) ≡ x
-      cross x i j ij jn (is r g h k e) = rw e (fine-back (i ∷ j ∷ i ∷ j ∷ []) (suc r) g (new-cross r i j h ij jn) k)
-      cross x i j ij jn (was l) = if-eq i 0
-          (λ e. ⊎-elim (λ k. rw e (fine-back (0 ∷ j ∷ 0 ∷ j ∷ []) 0 x (old-cross j (omega arith) jn) k))
-          (λ k. rw e (
-          let l₁ = old x l .goes 0 (omega arith) in
-          let k₁ = off-along x l k in
-          let l₂ = old (link t 0 x) l₁ .goes j bj in
-          let k₂ = off-far (link t 0 x) j (omega arith) jn l₁ k₁ in
-          let y = link t j (link t 0 x) in
-          let l₃ = old y l₂ .goes 0 (omega arith) in
-          rw (keeps-off x 0 l (omega arith) k, keeps-off (link t 0 x) j l₁ bj k₁, keeps-off y 0 l₂ (omega arith) k₂, keeps-off (link t 0 y) j l₃ bj (off-along y l₂ k₂)) (old x l .cross 0 j (omega arith) jn))) (in-or gs x))
-          (λ e.
-          let l₁ = old x l .goes i bi in
-          let l₂ = old (link t i x) l₁ .goes j bj in
-          let y = link t j (link t i x) in
-          let f : j ≢ 0 = omega arith in
-          rw (keeps x i l bi e, keeps (link t i x) j l₁ bj f, keeps y i l₂ bi e, keeps (link t i y) j (old y l₂ .goes i bi) bj f) (old x l .cross i j ij jn))
-        where
-          bi : i < 4
-          bi = let s = B .dim .1 in omega arith
+      cross : (x i j : ℕ) → i + 2 ≤ j → j ≤ n → Live x → link after j (link after i (link after j (link after i x))) ≡ x
+      cross x i j ij jn (old l) = made-or x i (λ e m. rw e (role-cross 0 x 0 j (omega arith) m (omega arith) jn (λ _. refl)))
+          (λ k.
+          let top = dim .1 in
+          let far : (y : ℕ) → Stays y j = λ y z. absurd (omega arith) in
+          let y = link t i x in
+          let z = link t j y in
+          let ly = before x l .goes i (omega arith) in
+          let lz = before y ly .goes j (omega arith) in
+          let kz = stays-far y i j (omega arith) jn ly (stays-along x i l k) in
+          let first = kept x i l (omega arith) k in
+          let second = kept y j ly (omega arith) (far y) in
+          let third = kept z i lz (omega arith) kz in
+          let last = kept (link t i z) j (before z lz .goes i (omega arith)) (omega arith) (far _) in
+          rw (first, second, third, last) (before x l .cross i j ij jn))
+      cross x i j ij jn (new w) =
+          rw (w .is) (role-cross (suc (w .role)) (w .of) i j (w .low) (w .member) ij jn (λ z. absurd (omega arith)))
 
-          bj : j < 4
-          bj = let s = B .dim .1 in omega arith
+      plane : (x : ℕ) → n ≡ 2 → Live x → link after 3 x ≡ x
+      plane x p (old l) = kept x 3 l (omega arith) (λ z. absurd (omega arith)) ∙ before x l .plane p
+      plane x p (new w) = rw (w .is) (role-plane C (suc (w .role)) (w .of) p (w .low) (w .member))
 
-      plane : (x : ℕ) → n ≡ 2 → Live x → link u 3 x ≡ x
-      plane x p (was l) = keeps x 3 l (omega arith) (omega arith) ∙ old x l .plane p
-      plane x p (is r g h i e) = let q = new-plane r h p in rw e (step (suc r) g 3 h i (omega arith) ∙ ap₂ D (q .0) (ap (λ (w : List ℕ). walk t w g) (q .1) ∙ old g (sh .lives g i) .plane p))
+  pub split-table : MapTable n (halved n t gs fs)
+  split-table = ruled-table dim (split-whole C) split-ruled
 
-  pub split-map : Map n (halved n t gs fs)
-  split-map = map-by n u Live split-ruled
+  pub split-live : (x : ℕ) → Live x → live after x ≡ true
+  split-live = live-of n after Live split-ruled
+
+  pub live-split : (x : ℕ) → live after x ≡ true → Live x
+  live-split x l = of-live n after Live split-ruled x (live-below split-table x l) l

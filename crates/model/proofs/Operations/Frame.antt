@@ -1,10 +1,9 @@
 -- What the operations leave: darts outside of the named ones keep every link.
 use Prim.Native.Nat.{ℕ, zero, suc, _*_, _<_}
 use mathlib.Core.Path.{_≡_, refl, sym, ap, _∙_}
-use mathlib.Core.Bool.{Bool, true, false, _&&_}
+use mathlib.Core.Bool.{false}
 use mathlib.Core.List.{List, List·Memᴰ as In}
 use lib.ListN.{length, getD}
-use lib.Dec.{eqb, ltb}
 use borrow.Author.Tests.{eq-eqb, ne-eqb, le-ltb}
 use Rattle.model.specs.Lists.{indexOf}
 use Rattle.model.specs.Table.{unused, slots, link, relink, relinkAt}
@@ -12,7 +11,7 @@ use Rattle.model.specs.Reach.{inSet}
 use Rattle.model.specs.Add.{addedLink, added}
 use Rattle.model.specs.Sew.{unsews, unsewnLink, unsewn, sewnLink, sewn}
 use Rattle.model.specs.Remove.{marked, outside, removedLink, removed}
-use Rattle.model.specs.Split.{newDart, halvedLink, halved}
+use Rattle.model.specs.Split.{halvedLink, halved}
 use Rattle.model.specs.Meaning.Sets.{Marked}
 use Rattle.model.proofs.Lists.Scan.{if-eq}
 use Rattle.model.proofs.Maps.Rules.{link-retable, at-same, at-other}
@@ -36,7 +35,8 @@ module _ (t : List ℕ) (fits : length t ≡ 4 * slots t) (x : ℕ) (low : x < s
 
   pub add-frame : (n : ℕ) (fs : List ℕ) → (In x fs → ⊥) → Kept (added n t fs)
   unfolding added addedLink
-  add-frame n fs k j b = link-retable t (addedLink n t fs) fits x j low b ∙ rw (le-ltb (indexOf x fs) (length fs) (index-out fs x k), addedLink)
+  add-frame n fs k j b =
+      link-retable t (addedLink n t fs) fits x j low b ∙ rw (le-ltb (indexOf x fs) (length fs) (index-out fs x k), addedLink)
 
   pub unsew-frame : (i : ℕ) (s : List ℕ) → (Marked s x → ⊥) → (Marked s (link t i x) → ⊥) → Kept (unsewn t i s)
   unfolding unsewn unsewnLink unsews inSet
@@ -54,10 +54,12 @@ module _ (t : List ℕ) (fits : length t ≡ 4 * slots t) (x : ℕ) (low : x < s
   remove-frame n mk a b j h = link-retable t (removedLink n t mk) fits x j low h ∙ if-eq j n
       (λ e. rw (a, eq-eqb j n e, removedLink) (stays n t mk (link t n x) b (slots t) ∙ ap (λ (k : ℕ). link t k x) (sym e))) (λ e. rw (a, ne-eqb j n e, removedLink))
 
-  pub split-frame : (n : ℕ) (gs fs : List ℕ) → (In x fs → ⊥) → (In x gs → ⊥) → Kept (halved n t gs fs)
+  -- split changes link 0 of the darts gs, and the slots fs
+  pub split-frame : (n : ℕ) (gs fs : List ℕ) → (In x fs → ⊥) → (j : ℕ) → j < 4 → (j ≡ 0 → In x gs → ⊥)
+      → link (halved n t gs fs) j x ≡ link t j x
   unfolding halved halvedLink
-  split-frame n gs fs k i j b = link-retable t (halvedLink n t gs fs) fits x j low b ∙ rw (le-ltb (indexOf x fs) (length fs) (index-out fs x k), halvedLink) (last (eqb j 0))
-    where
-      last : (z : Bool) → (elim (z && ltb (indexOf x gs) (length gs)) [ true ↦ newDart n gs fs 0 x | false ↦ link t j x ]) ≡ link t j x
-      last true = rw (le-ltb (indexOf x gs) (length gs) (index-out gs x i))
-      last false = refl
+  split-frame n gs fs k j b i =
+      link-retable t (halvedLink n t gs fs) fits x j low b
+      ∙ rw (le-ltb (indexOf x fs) (length fs) (index-out fs x k), halvedLink) (if-eq j 0
+      (λ e. rw (eq-eqb j 0 e, le-ltb (indexOf x gs) (length gs) (index-out gs x (i e))))
+      (λ e. rw (ne-eqb j 0 e)))
