@@ -8,3 +8,4 @@ pub mod Split
 pub mod Half
 pub mod Spot
 pub mod Halves
+pub mod Halved

@@ -76,7 +76,7 @@ module _ {n : ℕ} {t gs fs : List ℕ} (C : Cut n t gs fs) where
   abbrev dim : Dim n
   dim = C .table .dim
 
-  new-slot : (r g : ℕ) → r < n → In g gs → n * indexOf g gs + r < length fs
+  pub new-slot : (r g : ℕ) → r < n → In g gs → n * indexOf g gs + r < length fs
   new-slot r g b i = let a = slot-low n dim (indexOf g gs) (length gs) r (index-in gs g i) b in let e = C .enough in omega arith
 
   pub new-in : (r g : ℕ) → r < n → In g gs → In (newDart n gs fs r g) fs

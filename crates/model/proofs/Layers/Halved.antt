@@ -1,0 +1,170 @@
+-- split d in 01's words, where no check but 15 refuses it (`Splits`): `split-links` has the links, `split-stays` all else,
+-- `new-in-order`, `split-lowest` and `new-apart` the new darts and their slots, `split-lives` the number of live slots.
+use Prim.Native.Nat.{ℕ, _+_, _*_, _≤_, _<_}
+use mathlib.Core.Path.{_≡_, sym, ap, _∙_}
+use mathlib.Core.Logic.{_⊎_, inl, inr}
+use mathlib.Core.Bool.{true, false}
+use mathlib.Core.List.{List, [], _∷_, List·Memᴰ as In, Memᴰ·cast as in-cast}
+use native.Mathlib.Omega.{arith}
+use lib.ListN.{length, getD}
+use lib.Seq.{getD-take}
+use Rattle.model.specs.Lists.{count, indexOf, ones}
+use Rattle.model.specs.Table.{unused, slots, link, live, walk, unusedSlots, liveCount}
+use Rattle.model.specs.Sheet.{sheet}
+use Rattle.model.specs.Split.{newDart, splitSlots, splitTable}
+use Rattle.model.specs.Meaning.Sets.{Marked}
+use Rattle.model.proofs.Lists.Scan.{if-lt}
+use Rattle.model.proofs.Lists.Ones.{index-in, ones-in, ones-of}
+use Rattle.model.proofs.Maps.Rules.{link-out}
+use Rattle.model.proofs.Operations.Frame.{split-frame}
+use Rattle.model.proofs.Operations.Slots.{Rising, Lowest, Filled, ones-count, ones-rising}
+use Rattle.model.proofs.Operations.Slots.{lowest-slots, lowest-first, filled-count}
+use Rattle.model.proofs.Layers.Sheet.{sheet-own}
+use Rattle.model.proofs.Layers.Cut.{Splits, Cut, IsNew, split-cuts, split-slots, split-whole}
+use Rattle.model.proofs.Layers.Cut.{new-slot, new-in, new-one, slot-new}
+use Rattle.model.proofs.Layers.Role.{roleTo, roleWord, roleDart, role-link, role-plane}
+use Rattle.model.proofs.Layers.Split.{Live, old, new, split-live, live-split}
+
+module _ (n : ℕ) (t : List ℕ) (d : ℕ) where
+  -- "each g in S, rising"
+  abbrev pub sheetDarts : List ℕ
+  sheetDarts = ones (sheet n t d)
+
+  pub darts-rising : Rising sheetDarts
+  darts-rising = ones-rising (sheet n t d) 0
+
+  pub darts-number : length sheetDarts ≡ count 1 (sheet n t d)
+  darts-number = ones-count (sheet n t d) 0
+
+  -- the new slots, and the new dart of g: a(g), b(g), c(g) where r is 0, 1, 2
+  abbrev pub newSlots : List ℕ
+  newSlots = splitSlots n t sheetDarts
+
+  abbrev pub newOf : ℕ → ℕ → ℕ
+  newOf r g = newDart n sheetDarts newSlots r g
+
+-- ---- the links
+
+-- the links of g and of its new darts: "With the links as they were before", which are those of t; u is the table after
+pub record SplitLinks (n : ℕ) (t u : List ℕ) (a b c : ℕ → ℕ) (g : ℕ) : Type 0 where
+  pub g-0 : link u 0 g ≡ a g
+  pub a-0 : link u 0 (a g) ≡ g
+  pub a-1 : link u 1 (a g) ≡ b g
+  pub b-1 : link u 1 (b g) ≡ a g
+  pub b-0 : link u 0 (b g) ≡ b (walk t (1 ∷ 0 ∷ 1 ∷ []) g)
+  pub a-2 : link u 2 (a g) ≡ a (link t 2 g)
+  -- "For n = 2"
+  pub plane-b-2 : n ≡ 2 → link u 2 (b g) ≡ b (link t 0 g)
+  pub plane-a-3 : n ≡ 2 → link u 3 (a g) ≡ a g
+  pub plane-b-3 : n ≡ 2 → link u 3 (b g) ≡ b g
+  -- "For n = 3"
+  pub a-3 : n ≡ 3 → link u 3 (a g) ≡ a (link t 3 g)
+  pub b-2 : n ≡ 3 → link u 2 (b g) ≡ c g
+  pub b-3 : n ≡ 3 → link u 3 (b g) ≡ b (link t 3 g)
+  pub c-0 : n ≡ 3 → link u 0 (c g) ≡ c (walk t (1 ∷ 0 ∷ 1 ∷ []) g)
+  pub c-1 : n ≡ 3 → link u 1 (c g) ≡ c (link t 2 g)
+  pub c-2 : n ≡ 3 → link u 2 (c g) ≡ b g
+  pub c-3 : n ≡ 3 → link u 3 (c g) ≡ c (link t 0 g)
+
+module _ {n : ℕ} {t : List ℕ} {d : ℕ} (s : Splits n t d) where
+  cut : Cut n t (sheetDarts n t d) (newSlots n t d)
+  cut = split-cuts s
+
+  pub split-links : (g : ℕ) → Marked (sheet n t d) g
+      → SplitLinks n t (splitTable n t d) (newOf n t d 0) (newOf n t d 1) (newOf n t d 2) g
+  unfolding splitTable roleTo roleWord roleDart walk
+  split-links g m = record {
+    g-0 = role-link cut 0 g 0 (omega arith) i (omega arith);
+    a-0 = role-link cut 1 g 0 low i (omega arith);
+    a-1 = role-link cut 1 g 1 low i (omega arith);
+    b-1 = role-link cut 2 g 1 two i (omega arith);
+    b-0 = role-link cut 2 g 0 two i (omega arith);
+    a-2 = role-link cut 1 g 2 low i (omega arith);
+    plane-b-2 = λ e. role-link cut 2 g 2 two i (omega arith) ∙ rw e;
+    plane-a-3 = λ e. role-plane cut 1 g e low i;
+    plane-b-3 = λ e. role-plane cut 2 g e two i;
+    a-3 = λ e. role-link cut 1 g 3 low i (omega arith);
+    b-2 = λ e. role-link cut 2 g 2 two i (omega arith) ∙ rw e;
+    b-3 = λ e. role-link cut 2 g 3 two i (omega arith);
+    c-0 = λ e. role-link cut 3 g 0 (omega arith) i (omega arith);
+    c-1 = λ e. role-link cut 3 g 1 (omega arith) i (omega arith);
+    c-2 = λ e. role-link cut 3 g 2 (omega arith) i (omega arith);
+    c-3 = λ e. role-link cut 3 g 3 (omega arith) i (omega arith);
+  }
+    where
+      i : In g (sheetDarts n t d)
+      i = ones-in (sheet n t d) g m
+
+      two : 2 ≤ n
+      two = s .table .dim .0
+
+      low : 1 ≤ n
+      low = omega arith
+
+  -- "All else stays": link 0 of the darts of S and the new slots change, and no other entry
+  pub split-stays : (x j : ℕ) → j < 4 → (In x (newSlots n t d) → ⊥) → (j ≡ 0 → Marked (sheet n t d) x → ⊥)
+      → link (splitTable n t d) j x ≡ link t j x
+  unfolding splitTable
+  split-stays x j b out k = if-lt x (slots t)
+      (λ low. split-frame t (s .table .whole) x low n _ (newSlots n t d) out j b (λ e i. k e (ones-of (sheet n t d) x i)))
+      (λ high.
+      let same = split-slots cut in
+      link-out (splitTable n t d) x (split-whole cut) (omega arith) j ∙ sym (link-out t x (s .table .whole) high j))
+
+  pub split-length : length (splitTable n t d) ≡ length t
+  unfolding splitTable
+  split-length = let same = split-slots cut in split-whole cut ∙ ap (λ (k : ℕ). 4 * k) same ∙ sym (s .table .whole)
+
+  -- ---- the new darts
+
+  -- "gets new darts a, b (for n = 3 also c) in the lowest unused slots in that order"
+  pub new-in-order : (r g : ℕ) → r < n → Marked (sheet n t d) g
+      → newOf n t d r g ≡ getD (unusedSlots t) (n * indexOf g (sheetDarts n t d) + r) unused
+  unfolding newDart splitSlots
+  new-in-order r g b m =
+      let low = new-slot cut r g b (ones-in _ g m) in
+      let room = s .room in
+      getD-take (n * length (sheetDarts n t d)) (unusedSlots t) _ unused (omega arith)
+
+  pub split-lowest : Lowest t (newSlots n t d)
+  unfolding splitSlots
+  split-lowest = lowest-slots t (n * length (sheetDarts n t d))
+
+  pub split-number : length (newSlots n t d) ≡ n * count 1 (sheet n t d)
+  split-number = s .room ∙ ap (λ (k : ℕ). n * k) (darts-number n t d)
+
+  -- n darts for each, all distinct, and one in each new slot
+  pub new-apart : (r q g h : ℕ) → r < n → q < n → Marked (sheet n t d) g → Marked (sheet n t d) h
+      → newOf n t d r g ≡ newOf n t d q h → (r ≡ q) × (g ≡ h)
+  new-apart r q g h br bq mg mh e = new-one cut r q g h br bq (ones-in _ g mg) (ones-in _ h mh) e
+
+  pub new-in-slot : (r g : ℕ) → r < n → Marked (sheet n t d) g → In (newOf n t d r g) (newSlots n t d)
+  new-in-slot r g b m = new-in cut r g b (ones-in _ g m)
+
+  pub slot-has-new : (x : ℕ) → In x (newSlots n t d) → IsNew n (sheetDarts n t d) (newSlots n t d) x
+  slot-has-new = slot-new cut
+
+  -- "Place: first new slot", which is the lowest unused one
+  pub split-place : (y : ℕ) → y < slots t → live t y ≡ false → getD (newSlots n t d) 0 0 ≤ y
+  split-place =
+      let own = sheet-own (s .table) d (s .lives) in
+      let two = s .table .dim .0 in
+      let some = index-in (newSlots n t d) _ (new-in-slot 0 d (omega arith) own) in
+      lowest-first split-lowest (omega arith)
+
+  -- the live slots after are those before and the new ones
+  pub split-filled : Filled t (splitTable n t d) (newSlots n t d)
+  unfolding splitTable
+  split-filled = record {
+    same = split-slots cut;
+    kept = λ x l. split-live cut x (old l);
+    made = λ x i. split-live cut x (new (slot-new cut x i));
+    only = λ x l. split (live-split cut x l);
+  }
+    where
+      split : {x : ℕ} → Live cut x → (live t x ≡ true) ⊎ In x (newSlots n t d)
+      split (old l) = inl l
+      split (new w) = inr (in-cast (w .is) (new-in cut (w .role) (w .of) (w .low) (w .member)))
+
+  pub split-lives : liveCount (splitTable n t d) ≡ liveCount t + n * count 1 (sheet n t d)
+  split-lives = filled-count (split-lowest .vacant) split-filled ∙ ap (λ (k : ℕ). liveCount t + k) split-number
