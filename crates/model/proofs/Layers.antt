@@ -8,4 +8,5 @@ pub mod Split
 pub mod Half
 pub mod Spot
 pub mod Halves
+pub mod CutCells
 pub mod Halved

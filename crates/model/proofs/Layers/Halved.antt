@@ -1,8 +1,9 @@
 -- split d in 01's words, where no check but 15 refuses it (`Splits`): `split-links` has the links, `split-stays` all else,
--- `new-in-order`, `split-lowest` and `new-apart` the new darts and their slots, `split-lives` the number of live slots.
+-- `new-in-order`, `split-lowest` and `new-apart` the new darts and their slots, `split-lives` the number of live slots,
+-- `split-two-cells`, `split-cell-stays` and `split-all-cells` the cells.
 use Prim.Native.Nat.{ℕ, _+_, _*_, _≤_, _<_}
 use mathlib.Core.Path.{_≡_, sym, ap, _∙_}
-use mathlib.Core.Logic.{_⊎_, inl, inr}
+use mathlib.Core.Logic.{_⊎_, inl, inr, ⊎-elim}
 use mathlib.Core.Bool.{true, false}
 use mathlib.Core.List.{List, [], _∷_, List·Memᴰ as In, Memᴰ·cast as in-cast}
 use native.Mathlib.Omega.{arith}
@@ -10,8 +11,10 @@ use lib.ListN.{length, getD}
 use lib.Seq.{getD-take}
 use Rattle.model.specs.Lists.{count, indexOf, ones}
 use Rattle.model.specs.Table.{unused, slots, link, live, walk, unusedSlots, liveCount}
+use Rattle.model.specs.Cell.{cellOf}
 use Rattle.model.specs.Sheet.{sheet}
 use Rattle.model.specs.Split.{newDart, splitSlots, splitTable}
+use Rattle.model.specs.Meaning.Maps.{BlockTable}
 use Rattle.model.specs.Meaning.Sets.{Marked}
 use Rattle.model.proofs.Lists.Scan.{if-lt}
 use Rattle.model.proofs.Lists.Ones.{index-in, ones-in, ones-of}
@@ -24,6 +27,8 @@ use Rattle.model.proofs.Layers.Cut.{Splits, Cut, IsNew, split-cuts, spl
 use Rattle.model.proofs.Layers.Cut.{new-slot, new-in, new-one, slot-new}
 use Rattle.model.proofs.Layers.Role.{roleTo, roleWord, roleDart, role-link, role-plane}
 use Rattle.model.proofs.Layers.Split.{Live, old, new, split-live, live-split}
+use Rattle.model.proofs.Layers.Halves.{split-block}
+use Rattle.model.proofs.Layers.CutCells.{TwoCells, two-cells, new-marked, cell-stays, all-cells}
 
 module _ (n : ℕ) (t : List ℕ) (d : ℕ) where
   -- "each g in S, rising"
@@ -168,3 +173,31 @@ module _ {n : ℕ} {t : List ℕ} {d : ℕ} (s : Splits n t d) where
 
   pub split-lives : liveCount (splitTable n t d) ≡ liveCount t + n * count 1 (sheet n t d)
   split-lives = filled-count (split-lowest .vacant) split-filled ∙ ap (λ (k : ℕ). liveCount t + k) split-number
+
+  -- ---- the cells
+
+  pub split-keeps : BlockTable n (splitTable n t d)
+  unfolding splitTable
+  split-keeps = split-block cut
+
+  pub split-two-cells : (g : ℕ) → Marked (sheet n t d) g → TwoCells n t (splitTable n t d) g
+  unfolding splitTable
+  split-two-cells g m = two-cells cut g (ones-in _ g m)
+
+  pub split-new-cell : (r g : ℕ) → r < n → Marked (sheet n t d) g → Marked (cellOf n (splitTable n t d) g) (newOf n t d r g)
+  unfolding splitTable
+  split-new-cell r g b m = new-marked cut r g b (ones-in _ g m)
+
+  -- the cell of x holds no dart of S
+  abbrev pub Uncut : ℕ → Type 0
+  Uncut x = (y : ℕ) → Marked (cellOf n t x) y → Marked (sheet n t d) y → ⊥
+
+  pub split-cell-stays : (x : ℕ) → live t x ≡ true → Uncut x → cellOf n (splitTable n t d) x ≡ cellOf n t x
+  unfolding splitTable
+  split-cell-stays x l none = cell-stays cut x l (λ y m i. none y m (ones-of _ y i))
+
+  pub split-all-cells : (x : ℕ) → live (splitTable n t d) x ≡ true
+      → ((live t x ≡ true) × Uncut x) ⊎ ((g : ℕ) × Marked (sheet n t d) g × Marked (cellOf n (splitTable n t d) g) x)
+  unfolding splitTable
+  split-all-cells x l = ⊎-elim (λ (lives, none). inl (lives, λ y m s. none y m (ones-in _ y s)))
+      (λ (g, i, m). inr (g, ones-of _ g i, m)) (all-cells cut x l)

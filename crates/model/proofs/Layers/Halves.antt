@@ -2,7 +2,7 @@
 -- the sheet keeps its own (`split-block`).
 use Prim.Native.Nat.{ℕ, zero, suc, _≤_, _<_}
 use mathlib.Core.Path.{_≡_, refl, sym, ap, ap₂, _∙_, subst}
-use mathlib.Core.Logic.{⊎-elim}
+use mathlib.Core.Logic.{_⊎_, inl, inr, ⊎-elim}
 use mathlib.Core.Bool.{Bool, true, not}
 use mathlib.Core.List.{List, List·Memᴰ as In, Memᴰ·cast as in-cast}
 use native.Mathlib.Omega.{arith}
@@ -22,12 +22,13 @@ use Rattle.model.proofs.Maps.Dim.{two-cases, size-some}
 use Rattle.model.proofs.Cells.Cell.{walk-rows, rows-in}
 use Rattle.model.proofs.Cells.Chart.{Chart, Charted, block-by, chart-kept, path-small}
 use Rattle.model.proofs.Cells.Chart.{place-chart, place-zero, place-live, place-back, place-one}
-use Rattle.model.proofs.Layers.Cut.{Cut, IsNew, new-in, new-one, not-new, split-cut, split-kept}
+use Rattle.model.proofs.Layers.Cut.{Cut, new-in, new-one, not-new, split-cut, split-kept}
 use Rattle.model.proofs.Layers.Role.{roleTo, roleWord, roleDart, sheet-rule, role-link}
 use Rattle.model.proofs.Layers.Split.{Live, old, new, live-role, split-table, split-live, live-split}
 use Rattle.model.proofs.Layers.Half.{half-size, in-half, out-crosses}
 use Rattle.model.proofs.Layers.Spot.{Spot, spot, spotLink, spotAt, valid, across, Held}
-use Rattle.model.proofs.Layers.Spot.{spot-valid, spot-link, spot-apart, word-small, role-held, place-held}
+use Rattle.model.proofs.Layers.Spot.{spot-valid, spot-link, spot-apart, word-small}
+use Rattle.model.proofs.Layers.Spot.{role-held, place-held, across-not-held}
 
 valid-role : (n r p : ℕ) → valid n (spot (suc r) p) ≡ true → (r < n) × (p < half n)
 unfolding valid
@@ -37,7 +38,7 @@ valid-place : (n p : ℕ) → valid n (spot 0 p) ≡ true → p < cellSize n
 unfolding valid
 valid-place n p v = ltb-true p (cellSize n) v
 
--- the dart at a spot of the half of g, and at a place of it
+-- the half of g: the dart at a spot of it, the dart at a place of it, and its darts
 module _ (n : ℕ) (t gs fs : List ℕ) (g : ℕ) where
   spotDart : Spot → ℕ
   spotDart (spot r p) = roleDart n gs fs r (place n t g p)
@@ -45,13 +46,8 @@ module _ (n : ℕ) (t gs fs : List ℕ) (g : ℕ) where
   pub halfDart : ℕ → ℕ
   halfDart k = spotDart (spotAt n k)
 
--- x is a dart of the half of a dart of the sheet
-pub record InHalf (n : ℕ) (t gs fs : List ℕ) (x : ℕ) : Type 0 where
-  pub of : ℕ
-  pub member : In of gs
-  pub place : ℕ
-  pub low : place < cellSize n
-  pub is : x ≡ halfDart n t gs fs of place
+  abbrev pub InHalf : ℕ → Type 0
+  InHalf x = (k : ℕ) × (k < cellSize n) × (x ≡ halfDart k)
 
 module _ {n : ℕ} {t gs fs : List ℕ} (C : Cut n t gs fs) where
   abbrev after : List ℕ
@@ -62,6 +58,9 @@ module _ {n : ℕ} {t gs fs : List ℕ} (C : Cut n t gs fs) where
 
   abbrev dim : Dim n
   dim = C .table .dim
+
+  some-link : 0 < n
+  some-link = let two = dim .0 in omega arith
 
   out-half : (g p : ℕ) → In g gs → half n ≤ p → p < cellSize n → In (place n t g p) gs → ⊥
   out-half g p i l h k = let r = out-crosses B (C .sheet) g p i l h k in C .parted (r .0) (r .1) (r .2)
@@ -146,17 +145,42 @@ module _ {n : ℕ} {t gs fs : List ℕ} (C : Cut n t gs fs) where
     unfolding halfDart
     half-live = split-live C _ (spot-lives (spotAt n 0) (spot-valid n dim 0 (size-some n dim)))
 
-    held-in : (x : ℕ) (e : Spot) → Held n e → x ≡ at e → InHalf n t gs fs x
+    -- the dart across link 0 is not in the half
+    pub across-out : InHalf n t gs fs g (link t 0 g) → ⊥
+    unfolding halfDart spotDart roleDart valid
+    across-out (k, h, e) =
+        let size = size-some n dim in
+        let valid-across = lt-ltb _ _ (rows-in n 0 0 dim some-link size) in
+        let here = ap (link t 0) (place-zero B g lives) ∙ place-chart B g lives .follow 0 0 some-link size in
+        let same = spot-one (spotAt n k) (spot 0 (cellLink n 0 0)) (spot-valid n dim k h) valid-across (sym e ∙ here) in
+        across-not-held n dim (k, h, same)
+
+    -- what the half has of the table before are places of g
+    old-seen : (e : Spot) → valid n e ≡ true → live t (at e) ≡ true → (p : ℕ) × (p < cellSize n) × (at e ≡ seen p)
+    unfolding spotDart roleDart
+    old-seen (spot zero p) v l = (p, valid-place n p v, refl)
+    old-seen (spot (suc r) p) v l =
+        let low = valid-role n r p v in
+        absurd (not-new C _ l (new-in C r (seen p) (low .0) (in-sheet p (low .1))))
+
+    pub half-old : (x : ℕ) → InHalf n t gs fs g x → live t x ≡ true → (p : ℕ) × (p < cellSize n) × (x ≡ place n t g p)
     unfolding halfDart
-    held-in x e h q = record { of = g; member = i; place = h .0; low = h .1; is = q ∙ ap at (sym (h .2)) }
+    half-old x (k, h, e) l =
+        let (p, hp, q) = old-seen (spotAt n k) (spot-valid n dim k h) (ap (live t) (sym e) ∙ l) in
+        (p, hp, e ∙ q)
+
+    held-in : (e : Spot) (x : ℕ) → Held n e → x ≡ at e → InHalf n t gs fs g x
+    unfolding halfDart
+    held-in e x h q = (h .0, h .1, q ∙ ap at (sym (h .2)))
 
   -- ---- each dart is in a half, or in a cell that stays
 
-  -- a place of a dart of the sheet: in its half, or in the other
-  place-in-half : (g p : ℕ) → In g gs → p < cellSize n → InHalf n t gs fs (place n t g p)
+  -- a place of a dart of the sheet: in its half, or in that of the dart across
+  pub place-in-half : (g p : ℕ) → In g gs → p < cellSize n
+      → InHalf n t gs fs g (place n t g p) ⊎ InHalf n t gs fs (link t 0 g) (place n t g p)
   unfolding spotDart roleDart across place
-  place-in-half g p i h = ⊎-elim (λ e. held-in g i (place n t g p) (spot 0 p) e refl)
-      (λ e. held-in (link t 0 g) i₀ (place n t g p) (spot 0 (across n p)) e seen) (place-held n dim p h)
+  place-in-half g p i h = ⊎-elim (λ e. inl (held-in g i (spot 0 p) (place n t g p) e refl))
+      (λ e. inr (held-in (link t 0 g) i₀ (spot 0 (across n p)) (place n t g p) e seen-across)) (place-held n dim p h)
     where
       i₀ : In (link t 0 g) gs
       i₀ = C .sheet .along g i
@@ -164,22 +188,22 @@ module _ {n : ℕ} {t gs fs : List ℕ} (C : Cut n t gs fs) where
       l₀ : live t (link t 0 g) ≡ true
       l₀ = C .sheet .lives (link t 0 g) i₀
 
-      zero-in : 0 < n
-      zero-in = let two = dim .0 in omega arith
+      follow : (j k : ℕ) → j < n → k < cellSize n → link t j (place n t (link t 0 g) k) ≡ place n t (link t 0 g) (cellLink n j k)
+      follow = place-chart B (link t 0 g) l₀ .follow
 
-      here : g ≡ place n t (link t 0 g) (cellLink n 0 0)
-      here = sym (sheet-rule B (C .sheet) g i .comes 0 (omega arith)) ∙ ap (link t 0) (place-zero B (link t 0 g) l₀)
-          ∙ place-chart B (link t 0 g) l₀ .follow 0 0 zero-in (size-some n dim)
+      back : g ≡ place n t (link t 0 g) (cellLink n 0 0)
+      back = sym (sheet-rule B (C .sheet) g i .comes 0 (omega arith)) ∙ ap (link t 0) (place-zero B (link t 0 g) l₀)
+          ∙ follow 0 0 some-link (size-some n dim)
 
-      seen : place n t g p ≡ place n t (link t 0 g) (across n p)
-      seen = ap (walk t (path n p)) here ∙ walk-rows n t (place n t (link t 0 g)) dim (place-chart B (link t 0 g) l₀ .follow)
-          (path n p) (cellLink n 0 0) (path-small n p dim h) (rows-in n 0 0 dim zero-in (size-some n dim))
+      seen-across : place n t g p ≡ place n t (link t 0 g) (across n p)
+      seen-across = ap (walk t (path n p)) back ∙ walk-rows n t (place n t (link t 0 g)) dim follow
+          (path n p) (cellLink n 0 0) (path-small n p dim h) (rows-in n 0 0 dim some-link (size-some n dim))
 
   -- no place of x is a dart of the sheet
   abbrev pub Untouched : ℕ → Type 0
   Untouched x = (k : ℕ) → k < cellSize n → In (place n t x k) gs → ⊥
 
-  pub half-or : {P : Type 0} (x : ℕ) → live t x ≡ true → (InHalf n t gs fs x → P) → (Untouched x → P) → P
+  pub half-or : {P : Type 0} (x : ℕ) → live t x ≡ true → ((g : ℕ) → In g gs → InHalf n t gs fs g x → P) → (Untouched x → P) → P
   half-or x l f k =
       let off : ℕ → Bool = λ p. not (inSheet n t gs x p) in
       test (allBelow (cellSize n) off)
@@ -187,31 +211,39 @@ module _ {n : ℕ} {t gs fs : List ℕ} (C : Cut n t gs fs) where
       (λ h.
       let hit = below-not off (cellSize n) h in
       let g = place n t x (hit .0) in
+      let i = member-in gs g (not-false _ (hit .2)) in
       let back = place-back B x (hit .0) l (hit .1) in
-      f (subst (InHalf n t gs fs) (sym (back .2)) (place-in-half g (back .0) (member-in gs g (not-false _ (hit .2))) (back .1))))
+      let at-x : (y : ℕ) → InHalf n t gs fs y (place n t g (back .0)) → InHalf n t gs fs y x
+      = λ y. subst (InHalf n t gs fs y) (sym (back .2)) in
+      ⊎-elim (λ w. f g i (at-x g w)) (λ w. f (link t 0 g) (C .sheet .along g i) (at-x (link t 0 g) w))
+      (place-in-half g (back .0) i (back .1)))
 
-  pub new-in-half : (x : ℕ) → IsNew n gs fs x → InHalf n t gs fs x
+  -- a new dart is in the half of its dart
+  pub new-in-half : (r g : ℕ) → r < n → In g gs → InHalf n t gs fs g (newDart n gs fs r g)
   unfolding spotDart roleDart
-  new-in-half x w = held-in (w .of) (w .member) x (spot (suc (w .role)) 0) (role-held n dim (suc (w .role)) (w .low))
-      (w .is ∙ ap (newDart n gs fs (w .role)) (place-zero B (w .of) (C .sheet .lives _ (w .member))))
+  new-in-half r g b i = held-in g i (spot (suc r) 0) (newDart n gs fs r g) (role-held n dim (suc r) b)
+      (ap (newDart n gs fs r) (place-zero B g (C .sheet .lives g i)))
 
   -- ---- charts
 
-  half-charted : (x : ℕ) → InHalf n t gs fs x → Charted n after x
-  half-charted x w = record {
-    c = halfDart n t gs fs (w .of);
-    chart = half-chart (w .of) (w .member);
-    base = half-live (w .of) (w .member);
-    k = w .place;
-    low = w .low;
-    is = w .is;
+  half-charted : (g x : ℕ) → In g gs → InHalf n t gs fs g x → Charted n after x
+  half-charted g x i w = record {
+    c = halfDart n t gs fs g;
+    chart = half-chart g i;
+    base = half-live g i;
+    k = w .0;
+    low = w .1;
+    is = w .2;
   }
+
+  pub untouched-chart : (x : ℕ) → live t x ≡ true → Untouched x → Chart n after (place n t x)
+  untouched-chart x l none = chart-kept B after (place n t x) (place-chart B x l)
+      (λ j k hj hk. let top = dim .1 in split-kept C (place n t x k) j (place-live B x k l hk) (omega arith) (λ _. none k hk))
 
   untouched-charted : (x : ℕ) → live t x ≡ true → Untouched x → Charted n after x
   untouched-charted x l none = record {
     c = place n t x;
-    chart = chart-kept B after (place n t x) (place-chart B x l)
-        (λ j k hj hk. let top = dim .1 in split-kept C (place n t x k) j (place-live B x k l hk) (omega arith) (λ _. none k hk));
+    chart = untouched-chart x l none;
     base = split-live C _ (old (place-live B x 0 l (size-some n dim)));
     k = 0;
     low = size-some n dim;
@@ -222,5 +254,6 @@ module _ {n : ℕ} {t gs fs : List ℕ} (C : Cut n t gs fs) where
   split-block = block-by (split-table C) (λ x l. charted x (live-split C x l))
     where
       charted : (x : ℕ) → Live C x → Charted n after x
-      charted x (old l) = half-or x l (half-charted x) (untouched-charted x l)
-      charted x (new w) = half-charted x (new-in-half x w)
+      charted x (old l) = half-or x l (λ g i w. half-charted g x i w) (untouched-charted x l)
+      charted x (new w) = half-charted (w .of) x (w .member)
+          (subst (InHalf n t gs fs (w .of)) (sym (w .is)) (new-in-half (w .role) (w .of) (w .low) (w .member)))

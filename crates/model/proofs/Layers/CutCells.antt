@@ -1,0 +1,163 @@
+-- The cells after split: each cell that holds a dart of the sheet becomes two good cells (`two-cells`), every other cell
+-- stays (`cell-stays`), and there are no others (`all-cells`).
+use Prim.Native.Nat.{ℕ, _<_}
+use mathlib.Core.Path.{_≡_, sym, ap, _∙_}
+use mathlib.Core.Logic.{_⊎_, inl, inr, ⊎-elim}
+use mathlib.Core.Bool.{true}
+use mathlib.Core.List.{List, [], _∷_, List·Memᴰ as In}
+use lib.ListN.{length, getD}
+use lib.Seq.{ext-getD}
+use Rattle.model.specs.Table.{slots, link, live}
+use Rattle.model.specs.Reach.{steps}
+use Rattle.model.specs.Cell.{cellWords, cellSize, cellOf, goodCell}
+use Rattle.model.specs.Split.{newDart, halved}
+use Rattle.model.specs.Meaning.Maps.{BlockTable}
+use Rattle.model.specs.Meaning.Places.{path, place}
+use Rattle.model.specs.Meaning.Sets.{Least, Marked, Bits}
+use Rattle.model.proofs.Maps.Dim.{size-some}
+use Rattle.model.proofs.Maps.Tables.{mapTable}
+use Rattle.model.proofs.Cells.Cell.{cell-least, walk-rows, all-places, place-in}
+use Rattle.model.proofs.Cells.Chart.{Chart, own, cell-same, path-small, path-leads, place-chart, place-zero}
+use Rattle.model.proofs.Layers.Cut.{Cut, split-slots}
+use Rattle.model.proofs.Layers.Split.{Live, old, new, split-live, live-split}
+use Rattle.model.proofs.Layers.Halves.{halfDart, InHalf, half-chart, half-own, half-live, half-old, across-out}
+use Rattle.model.proofs.Layers.Halves.{place-in-half, new-in-half, Untouched, half-or, untouched-chart, split-block}
+
+-- ---- a cell is its places, and its chart
+
+module _ {n : ℕ} {t : List ℕ} (B : BlockTable n t) (d : ℕ) (l : live t d ≡ true) where
+  place-marked : (k : ℕ) → k < cellSize n → Marked (cellOf n t d) (place n t d k)
+  place-marked = let places = place-chart B d l in place-in (mapTable B) d l (places .follow) (places .apart)
+
+  marked-place : (x : ℕ) → Marked (cellOf n t d) x → (k : ℕ) × (k < cellSize n) × (x ≡ place n t d k)
+  marked-place = all-places (mapTable B) d l (B .good d l)
+
+module _ {n : ℕ} {u : List ℕ} (U : BlockTable n u) (c : ℕ → ℕ) (chart : Chart n u c) (base : live u (c 0) ≡ true) where
+  chart-place : (k : ℕ) → k < cellSize n → place n u (c 0) k ≡ c k
+  unfolding place
+  chart-place k h =
+      walk-rows n u c (U .dim) (chart .follow) (path n k) 0 (path-small n k (U .dim) h) (size-some n (U .dim))
+      ∙ ap c (path-leads n k (U .dim) h)
+
+  -- of a dart that stands first in its chart
+  chart-marked : (d : ℕ) → d ≡ c 0 → (x : ℕ) → (k : ℕ) × (k < cellSize n) × (x ≡ c k) → Marked (cellOf n u d) x
+  chart-marked d q x (k, h, e) = rw (q, e, ← chart-place k h) (place-marked U (c 0) base k h)
+
+  marked-chart : (d : ℕ) → d ≡ c 0 → (x : ℕ) → Marked (cellOf n u d) x → (k : ℕ) × (k < cellSize n) × (x ≡ c k)
+  marked-chart d q x m =
+      let (k, h, e) = marked-place U (c 0) base x (rw q at m) in
+      (k, h, e ∙ chart-place k h)
+
+-- marks of the same darts are the same marks
+marks-same : (r s : List ℕ) → length r ≡ length s → Bits r → Bits s
+    → ((x : ℕ) → Marked r x → Marked s x) → ((x : ℕ) → Marked s x → Marked r x) → r ≡ s
+marks-same r s long bits-r bits-s to from = ext-getD 0 r s long (λ x _. at x (bits-r x) (bits-s x))
+  where
+    at : (x : ℕ) → (getD r x 0 ≡ 0) ⊎ Marked r x → (getD s x 0 ≡ 0) ⊎ Marked s x → getD r x 0 ≡ getD s x 0
+    at x (inr m) q = m ∙ sym (to x m)
+    at x (inl z) (inl w) = z ∙ sym w
+    at x (inl z) (inr m) = from x m ∙ sym m
+
+-- ---- each cut cell becomes two
+
+-- of a dart g of the sheet: its cell after split is here, that of the dart which its link 0 led to is across
+pub record TwoCells (n : ℕ) (t u : List ℕ) (g : ℕ) : Type 0 where
+  pub good-here : goodCell n u (cellOf n u g) ≡ true
+  pub good-across : goodCell n u (cellOf n u (link t 0 g)) ≡ true
+  -- no dart is in both
+  pub apart : (x : ℕ) → Marked (cellOf n u g) x → Marked (cellOf n u (link t 0 g)) x → ⊥
+  -- they share out the darts of the cell that g had, and no other old ones
+  pub shared : (x : ℕ) → Marked (cellOf n t g) x → Marked (cellOf n u g) x ⊎ Marked (cellOf n u (link t 0 g)) x
+  pub from : (x : ℕ) → live t x ≡ true → Marked (cellOf n u g) x → Marked (cellOf n t g) x
+
+module _ {n : ℕ} {t gs fs : List ℕ} (C : Cut n t gs fs) where
+  abbrev after : List ℕ
+  after = halved n t gs fs
+
+  abbrev before : BlockTable n t
+  before = C .table
+
+  U : BlockTable n after
+  U = split-block C
+
+  half-marked : (g : ℕ) → In g gs → (x : ℕ) → InHalf n t gs fs g x → Marked (cellOf n after g) x
+  half-marked g i = chart-marked U (halfDart n t gs fs g) (half-chart C g i) (half-live C g i) g (half-own C g i)
+
+  marked-half : (g : ℕ) → In g gs → (x : ℕ) → Marked (cellOf n after g) x → InHalf n t gs fs g x
+  marked-half g i = marked-chart U (halfDart n t gs fs g) (half-chart C g i) (half-live C g i) g (half-own C g i)
+
+  pub two-cells : (g : ℕ) → In g gs → TwoCells n t after g
+  two-cells g i = record {
+    good-here = U .good g l;
+    good-across = U .good (link t 0 g) l₀;
+    apart = apart;
+    shared = shared;
+    from = λ x lx m.
+        let (p, h, e) = half-old C g i x (marked-half g i x m) lx in
+        rw e (place-marked before g lives p h);
+  }
+    where
+      i₀ : In (link t 0 g) gs
+      i₀ = C .sheet .along g i
+
+      lives : live t g ≡ true
+      lives = C .sheet .lives g i
+
+      l : live after g ≡ true
+      l = split-live C g (old lives)
+
+      l₀ : live after (link t 0 g) ≡ true
+      l₀ = split-live C (link t 0 g) (old (C .sheet .lives _ i₀))
+
+      apart : (x : ℕ) → Marked (cellOf n after g) x → Marked (cellOf n after (link t 0 g)) x → ⊥
+      apart x m m₀ =
+          let same = sym (cell-same (mapTable U) (link t 0 g) x l₀ m₀) ∙ cell-same (mapTable U) g x l m in
+          across-out C g i (marked-half g i (link t 0 g) (rw same at (own (mapTable U) (link t 0 g) l₀)))
+
+      shared : (x : ℕ) → Marked (cellOf n t g) x → Marked (cellOf n after g) x ⊎ Marked (cellOf n after (link t 0 g)) x
+      shared x m =
+          let (p, h, e) = marked-place before g lives x m in
+          rw e (⊎-elim (λ w. inl (half-marked g i _ w)) (λ w. inr (half-marked (link t 0 g) i₀ _ w)) (place-in-half C g p i h))
+
+  -- the new darts of g are in its cell
+  pub new-marked : (r g : ℕ) → r < n → In g gs → Marked (cellOf n after g) (newDart n gs fs r g)
+  new-marked r g b i = half-marked g i _ (new-in-half C r g b i)
+
+  -- ---- every other cell stays
+
+  -- the cell of x holds no dart of the sheet
+  abbrev pub Uncut : ℕ → Type 0
+  Uncut x = (y : ℕ) → Marked (cellOf n t x) y → In y gs → ⊥
+
+  pub cell-stays : (x : ℕ) → live t x ≡ true → Uncut x → cellOf n after x ≡ cellOf n t x
+  cell-stays x l none = marks-same _ _ (c .long ∙ split-slots C ∙ sym (c₀ .long)) (c .bits) (c₀ .bits)
+      (λ y m. let (k, h, e) = marked-chart U (place n t x) chart base x first y m in rw e (place-marked before x l k h))
+      (λ y m. chart-marked U (place n t x) chart base x first y (marked-place before x l y m))
+    where
+      first : x ≡ place n t x 0
+      first = place-zero before x l
+
+      off : Untouched C x
+      off k h i = none (place n t x k) (place-marked before x l k h) i
+
+      chart : Chart n after (place n t x)
+      chart = untouched-chart C x l off
+
+      base : live after (place n t x 0) ≡ true
+      base = ap (live after) (sym first) ∙ split-live C x (old l)
+
+      c : Least (steps after (cellWords n)) (slots after) (x ∷ []) (cellOf n after x)
+      c = cell-least (mapTable U) x (split-live C x (old l))
+
+      c₀ : Least (steps t (cellWords n)) (slots t) (x ∷ []) (cellOf n t x)
+      c₀ = cell-least (mapTable before) x l
+
+  -- and there are no others
+  pub all-cells : (x : ℕ) → live after x ≡ true
+      → ((live t x ≡ true) × Uncut x) ⊎ ((g : ℕ) × In g gs × Marked (cellOf n after g) x)
+  all-cells x l = cases (live-split C x l)
+    where
+      cases : Live C x → ((live t x ≡ true) × Uncut x) ⊎ ((g : ℕ) × In g gs × Marked (cellOf n after g) x)
+      cases (old l) = half-or C x l (λ g i w. inr (g, i, half-marked g i x w))
+          (λ off. inl (l, λ y m i. let (k, h, e) = marked-place before x l y m in off k h (rw e at i)))
+      cases (new w) = inr (w .of, w .member, rw (w .is) (new-marked (w .role) (w .of) (w .low) (w .member)))
