@@ -1,0 +1,105 @@
+-- add in 01's words, of a map with room for a cell: `add-links` has the links of the new cell, `add-stays` all else,
+-- `new-dart` and `add-lowest` its slots, `add-lives` the number of live slots.
+use Prim.Native.Nat.{ℕ, _+_, _≤_, _<_}
+use mathlib.Core.Path.{_≡_, sym, ap, _∙_}
+use mathlib.Core.Logic.{_⊎_, inl, inr, ⊎-elim}
+use mathlib.Core.Bool.{true, false, _&&_}
+use mathlib.Core.List.{List, List·Memᴰ as In}
+use native.Mathlib.Omega.{arith}
+use lib.ListN.{length, getD}
+use lib.Seq.{getD-take}
+use lib.Dec.{eqb}
+use borrow.Author.Tests.{eq-eqb, ne-eqb}
+use Rattle.model.specs.Lists.{indexOf}
+use Rattle.model.specs.Table.{unused, slots, link, live, unusedSlots, liveCount}
+use Rattle.model.specs.Cell.{cellSize}
+use Rattle.model.specs.Numbering.{cellLink}
+use Rattle.model.specs.Add.{addSlots, addTable}
+use Rattle.model.specs.Meaning.Maps.{Dim, MapTable}
+use Rattle.model.proofs.Lists.Scan.{if-eq, if-lt, clash}
+use Rattle.model.proofs.Lists.Ones.{getD-in, getD-index, index-in, in-or}
+use Rattle.model.proofs.Maps.Dim.{size-some}
+use Rattle.model.proofs.Maps.Rules.{link-out, live-by}
+use Rattle.model.proofs.Cells.Cell.{rows-in}
+use Rattle.model.proofs.Cells.Chart.{live-same}
+use Rattle.model.proofs.Cells.Add.{add-new, add-slots, add-fits}
+use Rattle.model.proofs.Operations.Frame.{add-frame}
+use Rattle.model.proofs.Operations.Slots.{Lowest, Filled, lowest-slots, lowest-first, filled-count}
+
+-- the k-th dart of the new cell
+abbrev pub newAt : ℕ → List ℕ → ℕ → ℕ
+newAt n t k = getD (addSlots n t) k unused
+
+-- "8 or 48"
+pub cell-sizes : (n : ℕ) → (n ≡ 2 → cellSize n ≡ 8) × (n ≡ 3 → cellSize n ≡ 48)
+unfolding cellSize
+cell-sizes n = (λ e. rw e, λ e. rw e)
+
+free-rows : (n : ℕ) → Dim n → (j k : ℕ) → n ≤ j → cellLink n j k ≡ k
+unfolding cellLink
+free-rows n dim j k h =
+    let last : (eqb j 2 && eqb n 3) ≡ false
+    = if-eq j 2 (λ e. rw (eq-eqb j 2 e, ne-eqb n 3 (omega arith))) (λ e. rw (ne-eqb j 2 e)) in
+    rw (ne-eqb j 0 (omega arith), ne-eqb j 1 (omega arith), last, cellLink)
+
+module _ {n : ℕ} {t : List ℕ} (T : MapTable n t) (room : length (addSlots n t) ≡ cellSize n) where
+  -- "one free cell in the lowest unused slots, its k-th dart in the k-th of them"
+  pub add-lowest : Lowest t (addSlots n t)
+  unfolding addSlots
+  add-lowest = lowest-slots t (cellSize n)
+
+  pub new-dart : (k : ℕ) → k < cellSize n → newAt n t k ≡ getD (unusedSlots t) k unused
+  unfolding addSlots
+  new-dart k h = getD-take (cellSize n) (unusedSlots t) k unused h
+
+  new-in : (k : ℕ) → k < cellSize n → In (newAt n t k) (addSlots n t)
+  new-in k h = getD-in (addSlots n t) k unused (omega arith)
+
+  -- its links follow the numbering
+  pub add-links : (j k : ℕ) → j < 4 → k < cellSize n → link (addTable n t) j (newAt n t k) ≡ newAt n t (cellLink n j k)
+  unfolding addTable
+  add-links = add-new T (add-lowest .vacant) room
+
+  -- and the links from n on lead to the dart itself
+  pub add-free : (j k : ℕ) → n ≤ j → j < 4 → k < cellSize n → link (addTable n t) j (newAt n t k) ≡ newAt n t k
+  add-free j k top b h = add-links j k b h ∙ ap (newAt n t) (free-rows n (T .dim) j k top)
+
+  -- "Place: first slot"
+  pub add-place : (y : ℕ) → y < slots t → live t y ≡ false → getD (addSlots n t) 0 0 ≤ y
+  add-place = let some = size-some n (T .dim) in lowest-first add-lowest (omega arith)
+
+  pub add-stays : (x j : ℕ) → j < 4 → (In x (addSlots n t) → ⊥) → link (addTable n t) j x ≡ link t j x
+  unfolding addTable
+  add-stays x j b out = if-lt x (slots t) (λ low. add-frame t (T .whole) x low n (addSlots n t) out j b)
+      (λ high.
+      let same = add-slots T (add-lowest .vacant) room in
+      link-out (addTable n t) x (add-fits T (add-lowest .vacant) room) (omega arith) j ∙ sym (link-out t x (T .whole) high j))
+
+  -- the live slots after are those before and the new cell's
+  pub add-filled : Filled t (addTable n t) (addSlots n t)
+  unfolding addTable
+  add-filled = record { same = add-slots T (add-lowest .vacant) room; kept = kept; made = made; only = only }
+    where
+      same : (x : ℕ) → (In x (addSlots n t) → ⊥) → live (addTable n t) x ≡ live t x
+      same x out = live-same t (addTable n t) x (λ j b. add-stays x j b out)
+
+      kept : (x : ℕ) → live t x ≡ true → live (addTable n t) x ≡ true
+      kept x l = same x (λ i. clash l (add-lowest .vacant .dead x i)) ∙ l
+
+      made : (x : ℕ) → In x (addSlots n t) → live (addTable n t) x ≡ true
+      made x i =
+          let k = indexOf x (addSlots n t) in
+          let low : k < cellSize n = let h = index-in (addSlots n t) x i in omega arith in
+          let two = T .dim .0 in
+          let to = add-lowest .vacant .inside _ (new-in (cellLink n 0 k) (rows-in n 0 k (T .dim) (omega arith) low)) in
+          let few = T .few in
+          let at-k = getD-index (addSlots n t) x unused i in
+          live-by (addTable n t) x (λ q.
+          let none = sym (add-links 0 k (omega arith) low) ∙ ap (link (addTable n t) 0) at-k ∙ q in
+          omega arith)
+
+      only : (x : ℕ) → live (addTable n t) x ≡ true → (live t x ≡ true) ⊎ In x (addSlots n t)
+      only x l = ⊎-elim inr (λ out. inl (sym (same x out) ∙ l)) (in-or (addSlots n t) x)
+
+  pub add-lives : liveCount (addTable n t) ≡ liveCount t + cellSize n
+  add-lives = filled-count (add-lowest .vacant) add-filled ∙ ap (λ (k : ℕ). liveCount t + k) room
