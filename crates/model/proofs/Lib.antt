@@ -7,3 +7,4 @@ pub mod Operations
 pub mod Layers
 pub mod Calls
 pub mod History
+pub mod Worked
