@@ -1,3 +1,4 @@
+pub mod Worked
 pub mod Lists
 pub mod Sets
 pub mod Maps
@@ -7,4 +8,3 @@ pub mod Operations
 pub mod Layers
 pub mod Calls
 pub mod History
-pub mod Worked

@@ -4,6 +4,7 @@ use mathlib.Core.Bool.{Bool, true, false, not, _&&_}
 use mathlib.Core.List.{List, [], _∷_}
 use lib.ListN.{length, replicate}
 use lib.Dec.{eqb}
+use Rattle.model.specs.Lists.{count}
 use Rattle.model.specs.Table.{unused, link, live, liveCount}
 use Rattle.model.specs.Journal.{cursor, end, changesFrom}
 use Rattle.model.specs.Calls.{Outcome}
@@ -14,12 +15,13 @@ pub data Seen : Type 0 where
   gives : ℕ → ℕ → ℕ → Seen  -- number, place, count
   goes : ℕ → ℕ → ℕ → Seen  -- d.i is e: d, i, e
   marksAre : List ℕ → Seen
+  markedAre : ℕ → Seen  -- so many marks are not 0
   cursorIs endIs : ℕ → Seen
   frees : ℕ → Seen  -- the slot is unused, and was live
   changes : ℕ → Seen  -- so many entries
   liveAre : ℕ → Seen  -- so many slots
 
--- the case's label has its number in 01 and counts its parts: 301 is the first part of 3
+-- the label is a hundred times the case's number in 01, and counts its parts: 301 is the first part of 3
 pub record Case : Type 0 where
   pub label : ℕ
   pub dim : ℕ
@@ -55,6 +57,7 @@ unfoldable pub sees : Outcome → Outcome → Seen → Bool
 sees old new (gives k p c) = eqb (new .number) k && eqb (new .place) p && eqb (new .count) c
 sees old new (goes d i e) = eqb (link (new .table) i d) e
 sees old new (marksAre m) = equal (new .marks) m
+sees old new (markedAre k) = eqb (length (new .marks) - count 0 (new .marks)) k
 sees old new (cursorIs k) = eqb (cursor (new .journal)) k
 sees old new (endIs k) = eqb (end (new .journal)) k
 sees old new (frees d) = live (old .table) d && not (live (new .table) d)
