@@ -1,4 +1,3 @@
-pub mod Worked
 pub mod Lists
 pub mod Sets
 pub mod Maps
