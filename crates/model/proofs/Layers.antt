@@ -1,6 +1,8 @@
 pub mod Sheet
-pub mod Axes
+pub mod Marks
+pub mod Counts
 pub mod Share
+pub mod Walk
 pub mod Remove
 pub mod Role
 pub mod Split
