@@ -4,6 +4,7 @@ pub mod Counts
 pub mod Share
 pub mod Walk
 pub mod Remove
+pub mod RemoveCounts
 pub mod Role
 pub mod Split
 pub mod Half

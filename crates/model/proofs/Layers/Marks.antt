@@ -60,11 +60,11 @@ overlay-long (y ∷ r) (z ∷ s) l = ap suc (overlay-long r s (omega arith))
 
 -- ---- a mark that is not 0
 
-pub marked-of : (m : List ℕ) (x : ℕ) → getD m x 0 ≢ 0 → marked m x ≡ true
+marked-of : (m : List ℕ) (x : ℕ) → getD m x 0 ≢ 0 → marked m x ≡ true
 unfolding marked
 marked-of m x h = rw (ne-eqb (getD m x 0) 0 h)
 
-pub of-marked : (m : List ℕ) (x : ℕ) → marked m x ≡ true → getD m x 0 ≢ 0
+of-marked : (m : List ℕ) (x : ℕ) → marked m x ≡ true → getD m x 0 ≢ 0
 unfolding marked
 of-marked m x h e = clash h (rw (eq-eqb (getD m x 0) 0 e))
 

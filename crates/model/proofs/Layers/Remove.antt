@@ -3,19 +3,19 @@
 use Prim.Native.Nat.{ℕ, _+_, _*_, _≤_, _<_}
 use mathlib.Core.Path.{_≡_, refl, sym, ap, _∙_}
 use mathlib.Core.Logic.{inl, inr, _≢_, _↔_}
-use mathlib.Core.Bool.{Bool, true, false, not, _&&_}
+use mathlib.Core.Bool.{true, false}
 use mathlib.Core.List.{List}
 use native.Mathlib.Omega.{arith}
 use lib.ListN.{length}
-use borrow.Author.Tests.{eq-eqb, ne-eqb, not-true}
+use borrow.Author.Tests.{eq-eqb, ne-eqb}
 use Rattle.model.specs.Table.{unused, slots, link, walk, live}
 use Rattle.model.specs.Cell.{cellSize}
 use Rattle.model.specs.Remove.{opposite, marked, outside, removedLink, removed, removeTable}
 use Rattle.model.specs.Meaning.Maps.{MapTable, BlockTable, Rule}
 use Rattle.model.specs.Meaning.Places.{place}
 use Rattle.model.specs.Meaning.Sheets.{BlockDart, marksOf}
-use Rattle.model.specs.Meaning.Walks.{Layer, Reaches, arrived, FirstOutside, borders, Removes}
-use Rattle.model.proofs.Lists.Scan.{test, if-eq, if-lt, clash, and-l}
+use Rattle.model.specs.Meaning.Walks.{Layer, Reaches, arrived, FirstOutside, Removes}
+use Rattle.model.proofs.Lists.Scan.{test, if-eq, if-lt, clash}
 use Rattle.model.proofs.Maps.Rules.{live-in, dead-by, dead-link, link-out, length-retable, link-retable, slots-retable}
 use Rattle.model.proofs.Maps.Dim.{size-some}
 use Rattle.model.proofs.Maps.Tables.{mapTable, live-below, rule-at}
@@ -40,25 +40,23 @@ module _ (n : ℕ) (t m : List ℕ) (x : ℕ) where
   unfolding removedLink
   found-link e = rw (e, eq-eqb n n refl, removedLink)
 
-  beside-remains : borders n t m x ≡ true → marked m x ≡ false
-  unfolding borders
-  beside-remains h = not-true _ (and-l (not (marked m x)) (marked m (link t n x)) h)
-
-  beyond : marked m (link t n x) ≡ false → borders n t m x ≡ false
-  unfolding borders
-  beyond e = rw e (and-false (not (marked m x)))
-    where
-      and-false : (b : Bool) → (b && false) ≡ false
-      and-false true = refl
-      and-false false = refl
-
-  not-beside : marked m x ≡ false → borders n t m x ≡ false → marked m (link t n x) ≡ false
-  unfolding borders
-  not-beside e h = rw e at h
-
 module _ {n : ℕ} {t m : List ℕ} (L : Layer n t m) where
   abbrev whole : length t ≡ 4 * slots t
   whole = L .table .whole
+
+  low : n < 4
+  low = let dim = L .table .dim in omega arith
+
+  -- an unused slot is not marked, and its link n does not lead to a marked one
+  unmarked : (x : ℕ) → live t x ≡ false → marked m x ≡ false
+  unmarked x dead = test (marked m x) (λ e. absurd (clash (L .lives x e) dead)) (λ e. e)
+
+  next-lives : (x : ℕ) → marked m (link t n x) ≡ true → live t x ≡ true
+  next-lives x e = test (live t x) (λ l. l) (λ dead.
+      let below = live-in t (link t n x) whole (L .lives (link t n x) e) in
+      let few = L .table .few in
+      let at = dead-link t x dead n low in
+      absurd (omega arith))
 
   -- link j of x is v, where the rule gives v, and v is `unused` past the slots
   new-link : (x j v : ℕ) → j < 4 → removedLink n t m x j ≡ v → (slots t ≤ x → unused ≡ v) → link (removed n t m) j x ≡ v
@@ -72,23 +70,20 @@ module _ {n : ℕ} {t m : List ℕ} (L : Layer n t m) where
       fits : length (removed n t m) ≡ 4 * slots (removed n t m)
       fits = rw same (length-retable t (removedLink n t m) whole ∙ whole)
 
-  pub layer-removes : Removes n t m (removed n t m)
+  layer-removes : Removes n t m (removed n t m)
   unfolding removed
   layer-removes = record {
     long = length-retable t (removedLink n t m) whole;
     gone = λ x j b e. new-link x j unused b (gone-link n t m x j e) (λ _. refl);
-    found = λ x l e.
-        let out = beside-remains n t m x e in
-        let at = link-retable t (removedLink n t m) whole x n (live-in t x whole l) four ∙ found-link n t m x out in
+    found = λ x out e.
+        let l = next-lives x e in
+        let at = link-retable t (removedLink n t m) whole x n (live-in t x whole l) low ∙ found-link n t m x out in
         rw at (walk-ends L x l out);
     stays = λ x j b ne e. new-link x j (link t j x) b (stays-link n t m x j e ne) (λ out. sym (link-out t x whole out j));
-    keeps = λ x e h.
-        let stops = outside-stops n t m (slots t) (link t n x) (not-beside n t m x e h) in
-        new-link x n (link t n x) four (found-link n t m x e ∙ stops) (λ out. sym (link-out t x whole out n));
+    keeps = λ x e next.
+        let stops = outside-stops n t m (slots t) (link t n x) next in
+        new-link x n (link t n x) low (found-link n t m x e ∙ stops) (λ out. sym (link-out t x whole out n));
   }
-    where
-      four : n < 4
-      four = let dim = L .table .dim in omega arith
 
 -- ---- what follows of any such table
 
@@ -100,26 +95,23 @@ module _ {n : ℕ} {t m u : List ℕ} (L : Layer n t m) (R : Removes n t m u) wh
   abbrev Remains : ℕ → Type 0
   Remains x = (live t x ≡ true) × (marked m x ≡ false)
 
-  low : n < 4
-  low = let dim = B .dim in omega arith
-
-  same-slots : slots u ≡ slots t
+  pub layer-slots : slots u ≡ slots t
   unfolding slots
-  same-slots = rw (R .long)
+  layer-slots = rw (R .long)
 
   -- its new link n is the first dart outside on the walk, that of the old link n if this is outside
-  pub removes-walk : (x : ℕ) → live t x ≡ true → marked m x ≡ false → FirstOutside n t m (link u n x) (link t n x)
-  removes-walk x l out = test (borders n t m x) (R .found x l) (λ h.
-      let same = R .keeps x out h in
-      record { reached = arrived (sym same); outside = ap (marked m) same ∙ not-beside n t m x out h })
+  layer-walk : (x : ℕ) → marked m x ≡ false → FirstOutside n t m (link u n x) (link t n x)
+  layer-walk x out = test (marked m (link t n x)) (R .found x out) (λ e.
+      let same = R .keeps x out e in
+      record { reached = arrived (sym same); outside = ap (marked m) same ∙ e })
 
   new-remains : (x : ℕ) → Remains x → Remains (link u n x)
-  new-remains x (l, out) = let w = removes-walk x l out in (walk-live L x l out w, w .outside)
+  new-remains x (l, out) = let w = layer-walk x out in (walk-live L x l out w, w .outside)
 
-  pub removes-mutual : (x : ℕ) → live t x ≡ true → marked m x ≡ false → link u n (link u n x) ≡ x
-  removes-mutual x l out =
-      let w = removes-walk x l out in
-      outside-unique (removes-walk (link u n x) (walk-live L x l out w) (w .outside)) (walk-back L x l out w)
+  layer-mutual : (x : ℕ) → live t x ≡ true → marked m x ≡ false → link u n (link u n x) ≡ x
+  layer-mutual x l out =
+      let w = layer-walk x out in
+      outside-unique (layer-walk (link u n x) (w .outside)) (walk-back L x l out w)
 
   link-remains : (x j : ℕ) → j < 4 → j ≢ n → Remains x → Remains (link t j x)
   link-remains x j b ne (l, out) = if-lt j n (λ h. (rule-at (mapTable B) x l .goes j b, stays-outside L x j h l out)) (λ h.
@@ -129,37 +121,30 @@ module _ {n : ℕ} {t m u : List ℕ} (L : Layer n t m) (R : Removes n t m u) wh
 
   new-far : (x j : ℕ) → j + 2 ≤ n → Remains x → link u n (link t j x) ≡ link t j (link u n x)
   new-far x j far (l, out) =
-      let four = low in
+      let four = low L in
       let next = link-remains x j (omega arith) (omega arith) (l, out) in
-      outside-unique (removes-walk (link t j x) (next .0) (next .1)) (walk-far L x l out j far (removes-walk x l out))
+      outside-unique (layer-walk (link t j x) (next .1)) (walk-far L x l out j far (layer-walk x out))
 
   stays : (x j : ℕ) → j < 4 → j ≢ n → Remains x → link u j x ≡ link t j x
   stays x j b ne r = R .stays x j b ne (r .1)
 
   -- a slot that was unused stays so
   stays-unused : (x : ℕ) → live t x ≡ false → live u x ≡ false
-  stays-unused x dead = live-same t u x (λ j b. if-eq j n (λ e. rw e (R .keeps x (unmarked x dead) not-next))
-      (λ ne. R .stays x j b ne (unmarked x dead))) ∙ dead
+  stays-unused x dead = live-same t u x (λ j b. if-eq j n (λ e. rw e (R .keeps x out next)) (λ ne. R .stays x j b ne out)) ∙ dead
     where
-      unmarked : (y : ℕ) → live t y ≡ false → marked m y ≡ false
-      unmarked y dead = test (marked m y) (λ e. absurd (clash (L .lives y e) dead)) (λ e. e)
+      out : marked m x ≡ false
+      out = unmarked L x dead
 
-      past : live t unused ≡ false
-      past = test (live t unused) (λ e.
-          let below = live-in t unused (B .whole) e in
-          let few = B .few in
-          absurd (omega arith)) (λ e. e)
-
-      not-next : borders n t m x ≡ false
-      not-next = beyond n t m x (unmarked (link t n x) (ap (live t) (dead-link t x dead n low) ∙ past))
+      next : marked m (link t n x) ≡ false
+      next = test (marked m (link t n x)) (λ e. absurd (clash (next-lives L x e) dead)) (λ e. e)
 
   ruled : Ruled n u Remains
   ruled = record {
-    few = rw same-slots (B .few);
-    inside = λ x r. rw same-slots (live-in t x (B .whole) (r .0));
+    few = rw layer-slots (B .few);
+    inside = λ x r. rw layer-slots (live-in t x (B .whole) (r .0));
     other = λ x _. test (live t x) (λ l. test (marked m x) (λ e. inr (gone x e)) (λ e. inl (l, e))) (λ l. inr (stays-unused x l));
     goes = λ x j b r. if-eq j n (λ e. rw e (new-remains x r)) (λ ne. rw (stays x j b ne r) (link-remains x j b ne r));
-    comes = λ x j b r. if-eq j n (λ e. rw e (removes-mutual x (r .0) (r .1)))
+    comes = λ x j b r. if-eq j n (λ e. rw e (layer-mutual x (r .0) (r .1)))
         (λ ne. rw (stays x j b ne r, stays (link t j x) j b ne (link-remains x j b ne r)) (rule x r .comes j b));
     cross = λ x i j far le r.
         if-eq j n (λ e. rw e (cross-n x i (omega arith) r)) (λ ne. cross-stays x i j far (omega arith) r);
@@ -175,7 +160,7 @@ module _ {n : ℕ} {t m u : List ℕ} (L : Layer n t m) (R : Removes n t m u) wh
 
       cross-n : (x i : ℕ) → i + 2 ≤ n → Remains x → link u n (link u i (link u n (link u i x))) ≡ x
       cross-n x i far r =
-          let four = low in
+          let four = low L in
           let next = new-remains x r in
           let back = link-remains (link u n x) i (omega arith) (omega arith) next in
           rw (
@@ -183,11 +168,11 @@ module _ {n : ℕ} {t m u : List ℕ} (L : Layer n t m) (R : Removes n t m u) wh
             new-far x i far r,
             stays (link t i (link u n x)) i (omega arith) (omega arith) back,
             rule (link u n x) next .comes i (omega arith),
-          ) (removes-mutual x (r .0) (r .1))
+          ) (layer-mutual x (r .0) (r .1))
 
       cross-stays : (x i j : ℕ) → i + 2 ≤ j → j < n → Remains x → link u j (link u i (link u j (link u i x))) ≡ x
       cross-stays x i j far b r =
-          let four = low in
+          let four = low L in
           let r₁ = link-remains x i (omega arith) (omega arith) r in
           let r₂ = link-remains (link t i x) j (omega arith) (omega arith) r₁ in
           let r₃ = link-remains (link t j (link t i x)) i (omega arith) (omega arith) r₂ in
@@ -199,15 +184,15 @@ module _ {n : ℕ} {t m u : List ℕ} (L : Layer n t m) (R : Removes n t m u) wh
           )
           (rule x r .cross i j far (omega arith))
 
-  removes-table : MapTable n u
-  removes-table = ruled-table (B .dim) (rw same-slots (R .long ∙ B .whole)) ruled
+  layer-table : MapTable n u
+  layer-table = ruled-table (B .dim) (rw layer-slots (R .long ∙ B .whole)) ruled
 
   -- the live slots are the remaining ones
-  pub removes-live : (x : ℕ) → (live u x ≡ true) ↔ ((live t x ≡ true) × (marked m x ≡ false))
-  removes-live x = (λ l. of-live n u Remains ruled x (live-below removes-table x l) l, live-of n u Remains ruled x)
+  pub layer-live : (x : ℕ) → (live u x ≡ true) ↔ ((live t x ≡ true) × (marked m x ≡ false))
+  layer-live x = (λ l. of-live n u Remains ruled x (live-below layer-table x l) l, live-of n u Remains ruled x)
 
-  pub removes-block : BlockTable n u
-  removes-block = block-by removes-table (λ x l. charted x (removes-live x .0 l))
+  layer-block : BlockTable n u
+  layer-block = block-by layer-table (λ x l. charted x (layer-live x .0 l))
     where
       charted : (x : ℕ) → Remains x → Charted n u x
       charted x (l, out) =
@@ -218,18 +203,18 @@ module _ {n : ℕ} {t m u : List ℕ} (L : Layer n t m) (R : Removes n t m u) wh
             c = place n t x;
             chart = chart-kept B u (place n t x) (place-chart B x l)
                 (λ i k b low. stays (place n t x k) i (omega arith) (omega arith) (at k low));
-            base = removes-live (place n t x 0) .1 (at 0 some);
+            base = layer-live (place n t x 0) .1 (at 0 some);
             k = 0;
             low = some;
             is = place-zero B x l;
           }
 
-  pub removes-turns : (x y : ℕ) → live t x ≡ true → marked m x ≡ false → Reaches n t m y (link t n x) → marked m y ≡ true
+  layer-turns : (x y : ℕ) → live t x ≡ true → marked m x ≡ false → Reaches n t m y (link t n x) → marked m y ≡ true
       → link t n (walk t (opposite n) y) ≡ walk t (opposite n) y → link u n x ≡ x
-  removes-turns x y l out p e free = outside-unique (removes-walk x l out) (walk-turns L x l out y p e free)
+  layer-turns x y l out p e free = outside-unique (layer-walk x out) (walk-turns L x l out y p e free)
 
-  pub removes-all : ((x : ℕ) → live t x ≡ true → marked m x ≡ true) → (x : ℕ) → live u x ≡ false
-  removes-all all x = test (live u x) (λ e. let r = removes-live x .0 e in absurd (clash (all x (r .0)) (r .1))) (λ e. e)
+  layer-all : ((x : ℕ) → live t x ≡ true → marked m x ≡ true) → (x : ℕ) → live u x ≡ false
+  layer-all all x = test (live u x) (λ e. let r = layer-live x .0 e in absurd (clash (all x (r .0)) (r .1))) (λ e. e)
 
 -- ---- remove, with the marks of a sheet
 
@@ -242,26 +227,27 @@ module _ {n : ℕ} {t : List ℕ} {d : ℕ} (D : BlockDart n t d) where
   remove-removes = layer-removes L
 
   pub remove-block : BlockTable n (removeTable n t d)
-  remove-block = removes-block L remove-removes
+  remove-block = layer-block L remove-removes
 
-  -- the new link n of a remaining dart: the first dart outside on the walk, live, and mutual
+  -- the walk from a remaining dart ends, at a live dart: its new link n
   pub remove-walk : (x : ℕ) → live t x ≡ true → marked (marksOf n t d) x ≡ false
       → FirstOutside n t (marksOf n t d) (link (removeTable n t d) n x) (link t n x)
-  remove-walk = removes-walk L remove-removes
+      × (live t (link (removeTable n t d) n x) ≡ true)
+  remove-walk x l out = let w = layer-walk L remove-removes x out in (w, walk-live L x l out w)
 
   pub remove-live : (x : ℕ) → (live (removeTable n t d) x ≡ true) ↔ ((live t x ≡ true) × (marked (marksOf n t d) x ≡ false))
-  remove-live = removes-live L remove-removes
+  remove-live = layer-live L remove-removes
 
   pub remove-mutual : (x : ℕ) → live t x ≡ true → marked (marksOf n t d) x ≡ false
       → link (removeTable n t d) n (link (removeTable n t d) n x) ≡ x
-  remove-mutual = removes-mutual L remove-removes
+  remove-mutual = layer-mutual L remove-removes
 
   -- where the walk from x meets a dart y whose opposite side is n-free, x becomes n-free
   pub remove-turns : (x y : ℕ) → live t x ≡ true → marked (marksOf n t d) x ≡ false
       → Reaches n t (marksOf n t d) y (link t n x) → marked (marksOf n t d) y ≡ true
       → link t n (walk t (opposite n) y) ≡ walk t (opposite n) y → link (removeTable n t d) n x ≡ x
-  remove-turns = removes-turns L remove-removes
+  remove-turns = layer-turns L remove-removes
 
   -- "Removing all is accepted."
   pub remove-all : ((x : ℕ) → live t x ≡ true → marked (marksOf n t d) x ≡ true) → (x : ℕ) → live (removeTable n t d) x ≡ false
-  remove-all = removes-all L remove-removes
+  remove-all = layer-all L remove-removes

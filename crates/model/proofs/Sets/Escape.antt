@@ -17,7 +17,7 @@ count-ones zero = refl
 count-ones (suc n) = ap suc (count-ones n)
 
 -- distinct numbers below n are at most n
-pub distinct-below : (n : ℕ) (l : List ℕ) → Distinct l → ((x : ℕ) → In x l → x < n) → length l ≤ n
+distinct-below : (n : ℕ) (l : List ℕ) → Distinct l → ((x : ℕ) → In x l → x < n) → length l ≤ n
 distinct-below n l d h = rw count-ones at (distinct-le l (replicate n 1) d (λ x i. getD-replicate n x 1 0 (h x i)))
 
 -- the first of y, step y, step (step y), .. that is not in the set, or the last one where the fuel ends

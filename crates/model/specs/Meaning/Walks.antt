@@ -34,17 +34,17 @@ pub record FirstOutside (n : ℕ) (t m : List ℕ) (z y : ℕ) : Type 0 where
 
 -- ---- the table that is left
 
--- link n of x, which remains, led into cells that are taken away
-unfoldable pub borders : ℕ → List ℕ → List ℕ → ℕ → Bool
-borders n t m x = not (marked m x) && marked m (link t n x)
-
 -- u is what remove leaves of t, where m are the marks
 pub record Removes (n : ℕ) (t m u : List ℕ) : Type 0 where
   pub long : length u ≡ length t
   -- "cells with marks 1 or 2 become unused"
   pub gone : (x j : ℕ) → j < 4 → marked m x ≡ true → link u j x ≡ unused
   -- "A remaining dart whose link n led into them gets the first dart outside on the walk"
-  pub found : (x : ℕ) → live t x ≡ true → borders n t m x ≡ true → FirstOutside n t m (link u n x) (link t n x)
+  pub found : (x : ℕ) → marked m x ≡ false → marked m (link t n x) ≡ true → FirstOutside n t m (link u n x) (link t n x)
   -- "All else stays."
   pub stays : (x j : ℕ) → j < 4 → j ≢ n → marked m x ≡ false → link u j x ≡ link t j x
-  pub keeps : (x : ℕ) → marked m x ≡ false → borders n t m x ≡ false → link u n x ≡ link t n x
+  pub keeps : (x : ℕ) → marked m x ≡ false → marked m (link t n x) ≡ false → link u n x ≡ link t n x
+
+-- x remains, and its link n led into cells that are taken away
+unfoldable pub borders : ℕ → List ℕ → List ℕ → ℕ → Bool
+borders n t m x = not (marked m x) && marked m (link t n x)
