@@ -2,13 +2,13 @@
 -- The entries that two tables differ in, as such a sum (changes-total).
 use Prim.Native.Nat.{ℕ, zero, suc, _+_, _*_, _≤_, _<_}
 use mathlib.Core.Path.{_≡_, refl, sym, ap, ap₂, _∙_, subst}
-use mathlib.Core.Logic.{_⊎_, inl, inr}
+use mathlib.Core.Logic.{_⊎_, inl, inr, _≢_}
 use mathlib.Core.Bool.{Bool, true, false, not}
 use mathlib.Core.List.{List, [], _∷_, List·Memᴰ as In}
 use native.Mathlib.Omega.{arith}
 use lib.ListN.{length, getD}
 use lib.Dec.{eqb}
-use borrow.Author.Tests.{not-true, not-false}
+use borrow.Author.Tests.{eq-eqb, ne-eqb, not-true, not-false}
 use Rattle.model.specs.Lists.{tabulate, tabulateFrom, count, allBelow}
 use Rattle.model.specs.Table.{unused, slots, link}
 use Rattle.model.specs.Journal.{changesFrom}
@@ -135,6 +135,15 @@ total-fours (suc k) a f =
 -- link j of x is another in u
 unfoldable pub changed : List ℕ → List ℕ → ℕ → ℕ → Bool
 changed t u x j = not (eqb (link t j x) (link u j x))
+
+module _ (t u : List ℕ) (x j : ℕ) where
+  pub changed-of : link t j x ≢ link u j x → changed t u x j ≡ true
+  unfolding changed
+  changed-of h = rw (ne-eqb (link t j x) (link u j x) h)
+
+  pub changed-not : link t j x ≡ link u j x → changed t u x j ≡ false
+  unfolding changed
+  changed-not h = rw (eq-eqb (link t j x) (link u j x) h)
 
 -- how many links of x are others in u
 unfoldable pub changedAt : List ℕ → List ℕ → ℕ → ℕ

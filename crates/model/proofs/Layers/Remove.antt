@@ -99,7 +99,7 @@ module _ {n : ℕ} {t m u : List ℕ} (L : Layer n t m) (R : Removes n t m u) wh
   unfolding slots
   layer-slots = rw (R .long)
 
-  -- its new link n is the first dart outside on the walk, that of the old link n if this is outside
+  -- the new link n of a remaining dart is the first dart outside on the walk; where that begins outside, it is the old one
   layer-walk : (x : ℕ) → marked m x ≡ false → FirstOutside n t m (link u n x) (link t n x)
   layer-walk x out = test (marked m (link t n x)) (R .found x out) (λ e.
       let same = R .keeps x out e in
@@ -173,14 +173,14 @@ module _ {n : ℕ} {t m u : List ℕ} (L : Layer n t m) (R : Removes n t m u) wh
       cross-stays : (x i j : ℕ) → i + 2 ≤ j → j < n → Remains x → link u j (link u i (link u j (link u i x))) ≡ x
       cross-stays x i j far b r =
           let four = low L in
-          let r₁ = link-remains x i (omega arith) (omega arith) r in
-          let r₂ = link-remains (link t i x) j (omega arith) (omega arith) r₁ in
-          let r₃ = link-remains (link t j (link t i x)) i (omega arith) (omega arith) r₂ in
+          let first = link-remains x i (omega arith) (omega arith) r in
+          let second = link-remains (link t i x) j (omega arith) (omega arith) first in
+          let third = link-remains (link t j (link t i x)) i (omega arith) (omega arith) second in
           rw (
             stays x i (omega arith) (omega arith) r,
-            stays (link t i x) j (omega arith) (omega arith) r₁,
-            stays (link t j (link t i x)) i (omega arith) (omega arith) r₂,
-            stays (link t i (link t j (link t i x))) j (omega arith) (omega arith) r₃,
+            stays (link t i x) j (omega arith) (omega arith) first,
+            stays (link t j (link t i x)) i (omega arith) (omega arith) second,
+            stays (link t i (link t j (link t i x))) j (omega arith) (omega arith) third,
           )
           (rule x r .cross i j far (omega arith))
 

@@ -7,7 +7,6 @@ use mathlib.Core.List.{List, [], _∷_}
 use native.Mathlib.Omega.{arith}
 use lib.ListN.{length}
 use lib.Dec.{eqb}
-use borrow.Author.Tests.{eq-eqb, ne-eqb}
 use Rattle.model.specs.Lists.{count}
 use Rattle.model.specs.Table.{slots, link, live, liveCount}
 use Rattle.model.specs.Journal.{changesFrom}
@@ -19,7 +18,7 @@ use Rattle.model.proofs.Lists.Scan.{test, clash}
 use Rattle.model.proofs.Maps.Dim.{two-cases}
 use Rattle.model.proofs.Maps.Tables.{mapTable, live-below, rule-at}
 use Rattle.model.proofs.Layers.Counts.{bit, total, total-shift, howMany-total, total-howMany}
-use Rattle.model.proofs.Layers.Counts.{changed, changedAt, changes-total}
+use Rattle.model.proofs.Layers.Counts.{changed, changed-of, changed-not, changedAt, changes-total}
 use Rattle.model.proofs.Layers.Marks.{sheet-layer}
 use Rattle.model.proofs.Layers.Remove.{layer-slots, layer-live, remove-removes}
 
@@ -34,13 +33,13 @@ count-marked (y ∷ m) =
     let next = total-shift (length m) 0 (λ x. bit (marked (y ∷ m) x)) in
     test (eqb y 0) (λ e. rw (e, count) (omega arith)) (λ e. rw (e, count) (omega arith))
 
-module _ {n : ℕ} {t m u : List ℕ} (L : Layer n t m) (R : Removes n t m u) where
-  layer-count : slots t - count 0 m ≡ howMany (slots t) (marked m)
-  layer-count =
-      let all = count-marked m in
-      let same = howMany-total (length m) (marked m) in
-      rw (← (L .long)) (omega arith)
+layer-count : {n : ℕ} {t m : List ℕ} → Layer n t m → slots t - count 0 m ≡ howMany (slots t) (marked m)
+layer-count {n} {t} {m} L =
+    let all = count-marked m in
+    let same = howMany-total (length m) (marked m) in
+    rw (← (L .long)) (omega arith)
 
+module _ {n : ℕ} {t m u : List ℕ} (L : Layer n t m) (R : Removes n t m u) where
   -- a slot is live still, or taken away
   still-or-gone : (x : ℕ) → bit (live t x) ≡ 1 * bit (live u x) + bit (marked m x)
   still-or-gone x = test (marked m x)
@@ -52,7 +51,7 @@ module _ {n : ℕ} {t m u : List ℕ} (L : Layer n t m) (R : Removes n t m u) wh
 
   layer-lives : liveCount t ≡ liveCount u + (slots t - count 0 m)
   unfolding liveCount howMany
-  layer-lives = rw (layer-count, layer-slots L R)
+  layer-lives = rw (layer-count L, layer-slots L R)
       (howMany-total (slots t) (live t)
       ∙ total-howMany 1 (slots t) (λ x. bit (live t x)) (live u) (marked m) (λ x _. still-or-gone x) ∙ omega arith)
 
@@ -68,25 +67,17 @@ only-n n dim c = two-cases n dim (λ n. OnlyAt c n → bit (c 0) + bit (c 1) + b
     (λ h. rw (h 0 (omega arith) (omega arith), h 1 (omega arith) (omega arith), h 2 (omega arith) (omega arith)) (omega arith))
 
 module _ {n : ℕ} {t m u : List ℕ} (L : Layer n t m) (R : Removes n t m u) where
-  changed-of : (x j : ℕ) → link t j x ≢ link u j x → changed t u x j ≡ true
-  unfolding changed
-  changed-of x j h = rw (ne-eqb (link t j x) (link u j x) h)
-
-  changed-not : (x j : ℕ) → link t j x ≡ link u j x → changed t u x j ≡ false
-  unfolding changed
-  changed-not x j h = rw (eq-eqb (link t j x) (link u j x) h)
-
   -- a dart taken away changes its four links, a remaining one its link n if this led to a dart taken away
   slot-changes : (x : ℕ) → changedAt t u x ≡ 4 * bit (marked m x) + bit (borders n t m x)
   unfolding changedAt borders
   slot-changes x = test (marked m x)
       (λ e. rw (e, gone e 0 (omega arith), gone e 1 (omega arith), gone e 2 (omega arith), gone e 3 (omega arith)))
       (λ e.
-      let others : OnlyAt (changed t u x) n = λ j b ne. changed-not x j (sym (R .stays x j b ne e)) in
+      let others : OnlyAt (changed t u x) n = λ j b ne. changed-not t u x j (sym (R .stays x j b ne e)) in
       rw e (only-n n (L .table .dim) (changed t u x) others ∙ ap bit (at-n e) ∙ omega arith))
     where
       gone : marked m x ≡ true → (j : ℕ) → j < 4 → changed t u x j ≡ true
-      gone e j b = changed-of x j (λ same.
+      gone e j b = changed-of t u x j (λ same.
           let new = R .gone x j b e in
           let below = live-below (mapTable (L .table)) (link t j x) (rule-at (mapTable (L .table)) x (L .lives x e) .goes j b) in
           let few = L .table .few in
@@ -94,11 +85,11 @@ module _ {n : ℕ} {t m u : List ℕ} (L : Layer n t m) (R : Removes n t m u) wh
 
       at-n : marked m x ≡ false → changed t u x n ≡ marked m (link t n x)
       at-n e = test (marked m (link t n x))
-          (λ next. changed-of x n (λ same. clash (ap (marked m) (sym same) ∙ next) (R .found x e next .outside)) ∙ sym next)
-          (λ next. changed-not x n (sym (R .keeps x e next)) ∙ sym next)
+          (λ next. changed-of t u x n (λ same. clash (ap (marked m) (sym same) ∙ next) (R .found x e next .outside)) ∙ sym next)
+          (λ next. changed-not t u x n (sym (R .keeps x e next)) ∙ sym next)
 
   layer-changes : length (changesFrom 0 t u) ≡ 4 * (slots t - count 0 m) + howMany (slots t) (borders n t m)
-  layer-changes = rw (layer-count L R) (changes-total t u (L .table .whole) (R .long)
+  layer-changes = rw (layer-count L) (changes-total t u (L .table .whole) (R .long)
       ∙ total-howMany 4 (slots t) (changedAt t u) (marked m) (borders n t m) (λ x _. slot-changes x))
 
 -- ---- remove
@@ -106,7 +97,7 @@ module _ {n : ℕ} {t m u : List ℕ} (L : Layer n t m) (R : Removes n t m u) wh
 module _ {n : ℕ} {t : List ℕ} {d : ℕ} (D : BlockDart n t d) where
   -- "Count: darts removed": those with the mark 1 or 2
   pub remove-count : slots t - count 0 (marksOf n t d) ≡ howMany (slots t) (marked (marksOf n t d))
-  remove-count = layer-count (sheet-layer D) (remove-removes D)
+  remove-count = layer-count (sheet-layer D)
 
   pub remove-lives : liveCount t ≡ liveCount (removeTable n t d) + (slots t - count 0 (marksOf n t d))
   remove-lives = layer-lives (sheet-layer D) (remove-removes D)

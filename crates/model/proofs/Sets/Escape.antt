@@ -25,6 +25,7 @@ unfoldable pub leave : (ℕ → Bool) → (ℕ → ℕ) → ℕ → ℕ → ℕ
 leave set step zero y = y
 leave set step (suc fuel) y = elim (set y) [ true ↦ leave set step fuel (step y) | false ↦ y ]
 
+-- the step is one-to-one on a set of numbers below `size`, and leads from none of them to the start
 pub record OneWay (size : ℕ) (set : ℕ → Bool) (step : ℕ → ℕ) (start : ℕ) : Type 0 where
   pub below : (y : ℕ) → set y ≡ true → y < size
   pub one : (y z : ℕ) → set y ≡ true → set z ≡ true → step y ≡ step z → y ≡ z
