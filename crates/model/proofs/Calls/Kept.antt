@@ -13,7 +13,6 @@ use Rattle.model.specs.Journal.{cursor, changesAt, put, unbroken}
 use Rattle.model.specs.Sheet.{sheet}
 use Rattle.model.specs.Add.{addSlots, addTable}
 use Rattle.model.specs.Sew.{isPaired, sewn, sewTable, unsewn, unsewTable}
-use Rattle.model.specs.Remove.{removeTable}
 use Rattle.model.specs.Split.{splitSlots, splitTable}
 use Rattle.model.specs.Checks.{Check, pass, refuse, inOrder, stepChecks, undoOk, redoOk}
 use Rattle.model.specs.Calls.{Outcome, refused, addCall, sewCall, unsewCall, removeCall, splitCall, stepOutcome, undoCall, redoCall}
@@ -26,7 +25,8 @@ use Rattle.model.proofs.Cells.Chart.{block-of, of-block, relink-block}
 use Rattle.model.proofs.Cells.Add.{add-map, add-block}
 use Rattle.model.proofs.Sewing.Side.{unsew-change}
 use Rattle.model.proofs.Sewing.Sew.{sew-change, paired-found}
-use Rattle.model.proofs.Layers.Sheet.{sheet-of, sheet-parted, remove-sheet}
+use Rattle.model.proofs.Layers.Sheet.{sheet-of, crosses-none}
+use Rattle.model.proofs.Layers.Remove.{remove-block}
 use Rattle.model.proofs.Layers.Half.{split-block}
 use Rattle.model.proofs.Calls.Pass.{Numbered, not-in, front, step-numbers, undo-number, redo-number}
 use Rattle.model.proofs.Calls.Pass.{SidesPassed, add-passed, unsew-passed, sew-passed, layer-passed, split-passed}
@@ -90,11 +90,11 @@ module _ (n : ℕ) (t m j : List ℕ) (d : ℕ) where
   block-map u U = (of-map n u (U .map), of-block n u U)
 
   pub remove-call : removeCall n t m j d .number ≡ 0 → BlockMap n (removeCall n t m j d .table)
-  unfolding member indexOf effect removeTable
+  unfolding member indexOf effect
   remove-call h =
       let r = accepted (not-in (numbers 1 2 4 5 (Op.remove d)) 0 refl) (remove-outcome n t m j (front n t j) d) h in
       let passed = layer-passed n t j m d (r .0) in
-      rw (r .1) (block-map _ (remove-sheet (passed .table) d (passed .lives)))
+      rw (r .1) (block-map _ (remove-block passed))
 
   pub split-call : splitCall n t m j d .number ≡ 0 → BlockMap n (splitCall n t m j d .table)
   unfolding member indexOf effect splitTable splitSlots
@@ -104,8 +104,8 @@ module _ (n : ℕ) (t m j : List ℕ) (d : ℕ) where
       let passed = layer-passed n t j m d (r .0 .0) in
       let split = split-passed n t j (sheet n t d) gs (r .0 .1) in
       let B = passed .table in
-      rw (r .1) (block-map _ (split-block B gs (sheet-of B d (passed .lives)) (splitSlots n t gs) (vacant-frees t (n * length gs))
-      (split .room) (sheet-parted B d (passed .lives) (split .uncrossed))))
+      rw (r .1) (block-map _ (split-block B gs (sheet-of passed) (splitSlots n t gs) (vacant-frees t (n * length gs))
+      (split .room) (crosses-none t (sheet n t d) (split .uncrossed))))
 
 -- ---- undo, redo
 

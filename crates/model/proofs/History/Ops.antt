@@ -12,10 +12,9 @@ use Rattle.model.specs.Table.{unused, link, live}
 use Rattle.model.specs.Map.{isMap}
 use Rattle.model.specs.Cell.{cellSize}
 use Rattle.model.specs.Numbering.{cellLink, firstBit, corners, flip}
-use Rattle.model.specs.Sheet.{sheet, sheetMarks}
+use Rattle.model.specs.Sheet.{sheet}
 use Rattle.model.specs.Add.{addSlots, addTable}
 use Rattle.model.specs.Sew.{side, unsewTable}
-use Rattle.model.specs.Remove.{removeTable}
 use Rattle.model.specs.Split.{splitSlots, splitTable}
 use Rattle.model.specs.Checks.{pass, dimOk, tableOk, journalOk, mapOk}
 use Rattle.model.specs.Calls.{Outcome, refused, checkCall, orbitCall, sheetCall}
@@ -32,8 +31,9 @@ use Rattle.model.proofs.Sewing.Side.{side-least, unsew-free}
 use Rattle.model.proofs.Sewing.Sew.{paired-found}
 use Rattle.model.proofs.Sewing.Pairing.{mates-pairing, sew-there}
 use Rattle.model.proofs.Cells.Add.{add-new}
-use Rattle.model.proofs.Layers.Sheet.{sheet-of, sheet-own, marks-own, marks-live, marks-cell}
-use Rattle.model.proofs.Layers.Remove.{remove-gone}
+use Rattle.model.proofs.Layers.Sheet.{sheet-of, sheet-own}
+use Rattle.model.proofs.Layers.Marks.{marks-own}
+use Rattle.model.proofs.Layers.Remove.{remove-removes}
 use Rattle.model.proofs.Layers.Role.{new-in, split-cut}
 use Rattle.model.proofs.Calls.Pass.{not-in, Front, front-passed, check-numbers, orbit-numbers, sheet-numbers}
 use Rattle.model.proofs.Calls.Pass.{add-passed, unsew-passed, sew-passed, layer-passed, split-passed}
@@ -104,7 +104,7 @@ positive : (n : ℕ) → Dim n → 0 < n
 positive n d = two-cases n d (λ n. 0 < n) (omega arith) (omega arith)
 
 pub op-changes : (n : ℕ) (t m j : List ℕ) (p : Op) → Passed n t m j p → t ≢ effect n t p
-unfolding effect addTable addSlots unsewTable removeTable splitTable splitSlots
+unfolding effect addTable addSlots unsewTable splitTable splitSlots
 op-changes n t m j Op.add a =
     let passed = add-passed n t j a in
     let T = passed .table in
@@ -145,9 +145,8 @@ op-changes n t m j (Op.remove d) a =
     let passed = layer-passed n t j m d a in
     let B = passed .table in
     let l = passed .lives in
-    let mk = sheetMarks n t (sheet n t d) in
     differs t _ 0 d (λ q.
-    let new = remove-gone B mk (marks-live B d l) (marks-cell B d l) d 0 (omega arith) (marks-own B d l) in
+    let new = remove-removes passed .gone d 0 (omega arith) (marks-own passed) in
     let low = live-below (mapTable B) (link t 0 d) (rule-at (mapTable B) d l .goes 0 (omega arith)) in
     let few = B .few in
     let same : link t 0 d ≡ unused = q ∙ new in
@@ -159,10 +158,10 @@ op-changes n t m j (Op.split d) a =
     let s = sheet n t d in
     let gs = ones s in
     let fs = splitSlots n t gs in
-    let sh = sheet-of B d l in
+    let sh = sheet-of passed in
     let fresh = vacant-frees t (n * length gs) in
     let room = split-passed n t j s gs (a .1) .room in
-    let i = ones-in s d (sheet-own B d l) in
+    let i = ones-in s d (sheet-own passed) in
     differs t _ 0 d (λ q. clash (rule-at (mapTable B) d l .goes 0 (omega arith))
     (ap (live t) (q ∙ split-cut B gs sh fs fresh room d i) ∙ fresh .dead _ (new-in B gs sh fs fresh room 0 d (positive n (B .dim)) i)))
 

@@ -22,7 +22,7 @@ use Rattle.model.proofs.Lists.Ones.{Vacant, in-or}
 use Rattle.model.proofs.Maps.Tables.{mapTable}
 use Rattle.model.proofs.Maps.Dim.{two-cases}
 use Rattle.model.proofs.Cells.Chart.{Ruled, map-by, live-same}
-use Rattle.model.proofs.Layers.Remove.{walk-append}
+use Rattle.model.proofs.Layers.Walk.{walk-append}
 use Rattle.model.proofs.Layers.Sheet.{Sheet}
 use Rattle.model.proofs.Layers.Role.{roleTo, roleWord, dart, sheetly, sheet-walk, split-slots, new-in, new-of, split-other, split-off, role-link}
 

@@ -11,7 +11,8 @@ use Rattle.model.specs.Table.{unused, slots, link, relink, relinkAt}
 use Rattle.model.specs.Reach.{inSet}
 use Rattle.model.specs.Add.{addedLink, added}
 use Rattle.model.specs.Sew.{unsews, unsewnLink, unsewn, sewnLink, sewn}
-use Rattle.model.specs.Remove.{marked, outside, removedLink, removed}
+use Rattle.model.specs.Sheet.{sheet, sheetMarks}
+use Rattle.model.specs.Remove.{marked, outside, removedLink, removed, removeTable}
 use Rattle.model.specs.Split.{newDart, halvedLink, halved}
 use Rattle.model.specs.Meaning.Sets.{Marked}
 use Rattle.model.proofs.Lists.Scan.{if-eq}
@@ -20,10 +21,10 @@ use Rattle.model.proofs.Sewing.Partners.{Has}
 use Rattle.model.proofs.Lists.Ones.{index-out}
 
 -- the walk across removed cells stops at once outside of them
-stays : (n : ℕ) (t mk : List ℕ) (y : ℕ) → marked mk y ≡ false → (k : ℕ) → outside n t mk k y ≡ y
+pub outside-stops : (n : ℕ) (t m : List ℕ) (fuel y : ℕ) → marked m y ≡ false → outside n t m fuel y ≡ y
 unfolding outside
-stays n t mk y e zero = refl
-stays n t mk y e (suc k) = rw (e, outside)
+outside-stops n t m zero y out = refl
+outside-stops n t m (suc fuel) y out = rw (out, outside)
 
 module _ (t : List ℕ) (fits : length t ≡ 4 * slots t) (x : ℕ) (low : x < slots t) where
   -- x keeps every link in u
@@ -49,10 +50,14 @@ module _ (t : List ℕ) (fits : length t ≡ 4 * slots t) (x : ℕ) (low : x < s
       lone : (r : List ℕ) → ((y : ℕ) → Has r x y → ⊥) → getD r x unused ≡ unused
       lone r h = if-eq (getD r x unused) unused (λ e. e) (λ e. absurd (h (getD r x unused) (record { is = refl; real = e })))
 
-  pub remove-frame : (n : ℕ) (mk : List ℕ) → marked mk x ≡ false → marked mk (link t n x) ≡ false → Kept (removed n t mk)
-  unfolding removed removedLink
-  remove-frame n mk a b j h = link-retable t (removedLink n t mk) fits x j low h ∙ if-eq j n
-      (λ e. rw (a, eq-eqb j n e, removedLink) (stays n t mk (link t n x) b (slots t) ∙ ap (λ (k : ℕ). link t k x) (sym e))) (λ e. rw (a, ne-eqb j n e, removedLink))
+  pub remove-frame : (n d : ℕ) → marked (sheetMarks n t (sheet n t d)) x ≡ false
+      → marked (sheetMarks n t (sheet n t d)) (link t n x) ≡ false → Kept (removeTable n t d)
+  unfolding removeTable removed removedLink
+  remove-frame n d here next j b =
+      let m = sheetMarks n t (sheet n t d) in
+      link-retable t (removedLink n t m) fits x j low b ∙ if-eq j n
+      (λ e. rw (here, eq-eqb j n e, removedLink) (outside-stops n t m (slots t) (link t n x) next ∙ ap (λ (k : ℕ). link t k x) (sym e)))
+      (λ e. rw (here, ne-eqb j n e, removedLink))
 
   pub split-frame : (n : ℕ) (gs fs : List ℕ) → (In x fs → ⊥) → (In x gs → ⊥) → Kept (halved n t gs fs)
   unfolding halved halvedLink
