@@ -16,7 +16,7 @@ use Rattle.model.specs.Cell.{cellWords, cellSize, cellOf, goodCell, isBl
 use Rattle.model.specs.Numbering.{cellLink}
 use Rattle.model.specs.Everything.{everything}
 use Rattle.model.specs.Meaning.Maps.{Dim, Map, MapTable, BlockTable}
-use Rattle.model.specs.Meaning.Places.{path, paths2, paths3, place}
+use Rattle.model.specs.Meaning.Places.{path, place}
 use Rattle.model.specs.Meaning.Sets.{Marked}
 use Rattle.model.proofs.Maps.Dim.{two-cases, size-some}
 use Rattle.model.proofs.Lists.Scan.{test, if-eq, if-lt, clash, and-l, and-r, below-at, least-end, least-all}
@@ -110,7 +110,7 @@ path-rows : ℕ → ℕ → Bool
 path-rows n k = small n (path n k) && eqb (rowWalk n (path n k) 0) k
 
 path-rows-true : (n : ℕ) → Dim n → allBelow (cellSize n) (path-rows n) ≡ true
-unfolding everything path paths2 paths3 small rowWalk path-rows
+unfolding everything path small rowWalk path-rows
 path-rows-true n n23 = two-cases n n23 (λ n. allBelow (cellSize n) (path-rows n) ≡ true) refl refl
 
 -- a path is a word of the cell's links, and leads from the place 0 to its place
