@@ -20,7 +20,7 @@ use Rattle.model.specs.Meaning.Places.{path, place}
 use Rattle.model.specs.Meaning.Sets.{Marked}
 use Rattle.model.proofs.Maps.Dim.{two-cases, size-some}
 use Rattle.model.proofs.Lists.Scan.{test, if-eq, if-lt, clash, and-l, and-r, below-at}
-use Rattle.model.proofs.Sets.Closure.{least-unique}
+use Rattle.model.proofs.Sets.Closure.{least-set-unique}
 use Rattle.model.proofs.Maps.Rules.{live-in, live-by, Relinking, relink-table, relink-slots, relink-live, relink-link, at-other}
 use Rattle.model.proofs.Maps.Tables.{mapTable, live-below, rule-at}
 use Rattle.model.proofs.Maps.Failing.{failing, none-failing}
@@ -92,7 +92,7 @@ module _ {n : ℕ} {t : List ℕ} (T : MapTable n t) where
       let b = back d ld x h in
       let c = cell-least T d ld in
       let e = cell-least T x (b .0) in
-      least-unique (steps t (cellWords n)) (slots t) (x ∷ []) (cellOf n t x) (cellOf n t d) e (record {
+      least-set-unique e (record {
         long = c .long;
         bits = c .bits;
         holds = λ z i _. subst (Marked (cellOf n t d)) (sym (sole i)) h;

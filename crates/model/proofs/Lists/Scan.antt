@@ -1,18 +1,19 @@
--- Laws of tests and of scans: the outcomes of a test, every number below k, the least number that passes, a list by its rule.
--- Main laws: `below-at` and `below-of`; `least-is` and `least-by`; `getD-tab`, `in-tab` and `tab-in`.
+-- Laws of tests and of scans: the outcomes of a test, every number below k, the least number that passes, how often a number
+-- stands in a list, a list by its rule.
+-- Main laws: `below-at` and `below-of`; `least-is` and `least-by`; `count-change`; `getD-tab`, `in-tab` and `tab-in`.
 use Prim.Native.Nat.{ℕ, zero, suc, _+_, _≤_, _<_}
 use mathlib.Core.Path.{_≡_, refl, sym, ap, _∙_, subst}
 use mathlib.Core.Logic.{_⊎_, inl, inr, _≢_, ⊎-elim}
 use mathlib.Core.Bool.{Bool, true, false, _&&_, _||_}
-use mathlib.Core.List.{List, List·Memᴰ as In, List·Memᴰ·not-nil as not-nil, List·Memᴰ·cases-cons as in-cons}
+use mathlib.Core.List.{List, [], _∷_, List·Memᴰ as In, List·Memᴰ·not-nil as not-nil, List·Memᴰ·cases-cons as in-cons}
 use mathlib.Core.List.{List·Memᴰ·head as here, List·Memᴰ·tail as there}
 use native.Mathlib.Nat.{not-suc-le-zero, le-of-suc-le-suc, add-zero}
 use native.Mathlib.Decide.{ℕ-discrete}
 use native.Mathlib.Omega.{arith}
-use lib.ListN.{length, getD}
-use lib.Dec.{ltb}
-use borrow.Author.Tests.{ltb-true, ltb-false}
-use Rattle.model.specs.Lists.{tabulateFrom, tabulate, allFrom, allBelow, leastFrom, least}
+use lib.ListN.{length, getD, set}
+use lib.Dec.{eqb, ltb}
+use borrow.Author.Tests.{eq-eqb, ne-eqb, ltb-true, ltb-false}
+use Rattle.model.specs.Lists.{tabulateFrom, tabulate, count, allFrom, allBelow, leastFrom, least}
 
 -- ---- tests
 
@@ -33,6 +34,10 @@ and-i p q = rw (p, q)
 pub or-cases : (a b : Bool) → (a || b) ≡ true → (a ≡ true) ⊎ (b ≡ true)
 or-cases true b h = inl refl
 or-cases false b h = inr h
+
+pub or-i : (a b : Bool) → (a ≡ true) ⊎ (b ≡ true) → (a || b) ≡ true
+or-i true b h = refl
+or-i false b h = ⊎-elim (λ e. absurd (clash e refl)) (λ e. e) h
 
 pub bool-cases : (b : Bool) → (b ≡ true) ⊎ (b ≡ false)
 bool-cases true = inl refl
@@ -163,6 +168,30 @@ module _ (p : ℕ → Bool) where
   unfolding least
   least-by k d r = from-by k 0 d (subst (λ (b : ℕ). First 0 b d) (omega arith) r)
 
+-- ---- how often a number stands in a list
+
+module _ (v a : ℕ) where
+  -- a v that is replaced by another number
+  pub count-change : (m : List ℕ) (x d : ℕ) → x < length m → getD m x d ≡ v → a ≢ v → count v m ≡ suc (count v (set m x a))
+  unfolding count
+  count-change [] x d l h e = absurd (not-suc-le-zero l)
+  count-change (y ∷ m) zero d l h e = rw (eq-eqb y v h, ne-eqb a v e, count)
+  count-change (y ∷ m) (suc x) d l h e =
+      let rec = count-change m x d (le-of-suc-le-suc l) h e in
+      test (eqb y v) (λ q. rw (q, count) (ap suc rec)) (λ q. rw (q, count) rec)
+
+  -- one entry that is replaced
+  pub count-le : (m : List ℕ) (x : ℕ) → count v m ≤ suc (count v (set m x a))
+  unfolding count
+  count-le [] x = omega arith
+  count-le (y ∷ m) zero =
+      let more : count v m ≤ count v (a ∷ m) =
+      test (eqb a v) (λ q. rw (q, count) (omega arith)) (λ q. rw (q, count) (omega arith)) in
+      test (eqb y v) (λ q. rw (q, count) (omega arith)) (λ q. rw (q, count) (omega arith))
+  count-le (y ∷ m) (suc x) =
+      let rec = count-le m x in
+      test (eqb y v) (λ q. rw (q, count) (omega arith)) (λ q. rw (q, count) rec)
+
 -- ---- a list by its rule
 
 module _ (f : ℕ → ℕ) where
@@ -184,3 +213,19 @@ module _ (f : ℕ → ℕ) where
   pub getD-tab : (k i d : ℕ) → i < k → getD (tabulate k f) i d ≡ f i
   unfolding tabulate
   getD-tab k i d h = getD-tabFrom k 0 i d h ∙ ap f (omega arith)
+
+  -- the entries are f a, f (a + 1), ..
+  pub tab-in : (n a k : ℕ) → a ≤ k → k < a + n → In (f k) (tabulateFrom n a f)
+  unfolding tabulateFrom
+  tab-in zero a k l u = absurd (omega arith)
+  tab-in (suc n) a k l u =
+      let rec = tab-in n (suc a) k in
+      if-eq k a (λ e. here (ap f e)) (λ e. there (rec (omega arith) (omega arith)))
+
+  pub in-tab : (n a x : ℕ) → In x (tabulateFrom n a f) → (k : ℕ) × (a ≤ k) × (k < a + n) × (x ≡ f k)
+  unfolding tabulateFrom
+  in-tab zero a x i = absurd (not-nil i)
+  in-tab (suc n) a x i =
+      let rec = in-tab n (suc a) x in
+      ⊎-elim (λ e. (a, omega arith, omega arith, e))
+      (λ j. let (k, l, u, e) = rec j in (k, omega arith, omega arith, e)) (in-cons i)

@@ -1,20 +1,21 @@
 -- The map test says what a map is; live slots; and a change of the links of one index that keeps a map.
 -- Main theorems: `rule-of` and `of-rule`, `map-of` and `of-map`; `live-in`; `link-retable`; `relink-table`.
 use Prim.Native.Nat.{ℕ, zero, suc, _+_, _*_, _/_, _%_, _≤_, _<_}
-use mathlib.Core.Path.{_≡_, refl, sym, ap, ap₂, _∙_, subst}
+use mathlib.Core.Path.{_≡_, refl, sym, ap, ap₂, _∙_}
 use mathlib.Core.Logic.{inl, inr, _≢_}
 use mathlib.Core.Bool.{Bool, true, false, _&&_}
 use mathlib.Core.List.{List}
 use native.Mathlib.Omega.{arith}
 use lib.ListN.{length, List·getD-eq-default}
-use lib.Dec.{eqb, leb}
-use borrow.Author.Tests.{eqb-true, eq-eqb, ne-eqb, leb-true, leb-false, le-leb, lt-leb, not-false}
+use lib.Dec.{eqb}
+use borrow.Author.Tests.{eqb-true, eq-eqb, ne-eqb, le-leb, lt-leb, not-false}
 use Rattle.model.specs.Lists.{allBelow}
 use Rattle.model.specs.Table.{unused, slots, link, walk, live, retable, relinkAt, relink}
 use Rattle.model.specs.Map.{returns, linked, crossed, keepsRules, breaksRule, leastBreaking, isMap}
 use Rattle.model.specs.Meaning.Maps.{Map, MapTable, Rule}
 use Rattle.model.specs.Meaning.Pairings.{Far}
-use Rattle.model.proofs.Lists.Scan.{and-l, and-r, and-i, test, if-eq, if-lt, clash, below-at, below-of, length-tab, getD-tab}
+use Rattle.model.proofs.Lists.Scan.{and-l, and-r, and-i, test, if-eq, if-lt, clash, below-at, below-of}
+use Rattle.model.proofs.Lists.Scan.{length-tab, getD-tab}
 use Rattle.model.proofs.Maps.Failing.{failing, none-failing}
 
 -- ---- the test and the property
