@@ -15,7 +15,7 @@ use Rattle.model.specs.Numbering.{cellLink}
 use Rattle.model.specs.Split.{newDart, halved}
 use Rattle.model.specs.Everything.{everything}
 use Rattle.model.specs.Meaning.Maps.{BlockTable, MapTable, Dim}
-use Rattle.model.specs.Meaning.Places.{path, paths2, paths3, place}
+use Rattle.model.specs.Meaning.Places.{path, place}
 use Rattle.model.specs.Meaning.Sheets.{half}
 use Rattle.model.proofs.Lists.Scan.{test, if-eq, if-lt, clash, and-l, and-r, and-i, below-at, below-not}
 use Rattle.model.proofs.Maps.Rules.{live-in}
@@ -91,7 +91,7 @@ halfRows : ℕ → Bool
 halfRows n = ((follows n && differs n) && (inner n && covers n)) && (roles n && (sheets n && aparts n))
 
 halfRows-true : (n : ℕ) → Dim n → halfRows n ≡ true
-unfolding everything halfRows follows differs inner has across covers roles sheets apart1 aparts valid spotAt spotWalk spotLink sameSpot half roleTo roleWord rowWalk small sheetly path paths2 paths3
+unfolding everything halfRows follows differs inner has across covers roles sheets apart1 aparts valid spotAt spotWalk spotLink sameSpot half roleTo roleWord rowWalk small sheetly path
 halfRows-true n n23 = two-cases n n23 (λ n. halfRows n ≡ true) refl refl
 
 same-spot : (e f : Spot) → sameSpot e f ≡ true → e ≡ f
