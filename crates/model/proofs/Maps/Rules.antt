@@ -115,11 +115,12 @@ module _ (t : List ℕ) (x : ℕ) where
       go (suc (suc (suc (suc j)))) l = absurd (omega arith)
 
   module _ (fits : length t ≡ 4 * slots t) where
-    pub dead-out : slots t ≤ x → live t x ≡ false
+    pub link-out : slots t ≤ x → (j : ℕ) → link t j x ≡ unused
     unfolding link
-    dead-out h =
-        let out : (j : ℕ) → link t j x ≡ unused = λ j. List·getD-eq-default t unused (omega arith) in
-        dead-by (out 0) (out 1) (out 2) (out 3)
+    link-out h j = List·getD-eq-default t unused (omega arith)
+
+    pub dead-out : slots t ≤ x → live t x ≡ false
+    dead-out h = let out = link-out h in dead-by (out 0) (out 1) (out 2) (out 3)
 
     pub live-in : live t x ≡ true → x < slots t
     live-in h = if-lt x (slots t) (λ l. l) (λ l. absurd (clash h (dead-out l)))
