@@ -111,6 +111,15 @@ module _ (p : ℕ → Bool) where
       let r = least-all k (suc a) (λ i l u. h i (omega arith) (omega arith)) in
       omega arith
 
+  -- the first that passes is the least
+  pub least-at : (k a i : ℕ) → a ≤ i → i < a + k → ((j : ℕ) → a ≤ j → j < i → p j ≡ false) → p i ≡ true → leastFrom k a p ≡ i
+  least-at zero a i l u h e = absurd (omega arith)
+  least-at (suc k) a i l u h e = go (least-at k (suc a) i) (ℕ-discrete a i)
+    where
+      go : (suc a ≤ i → i < suc a + k → ((j : ℕ) → suc a ≤ j → j < i → p j ≡ false) → p i ≡ true → leastFrom k (suc a) p ≡ i) → Dec (a ≡ i) → leastFrom (suc k) a p ≡ i
+      go rec (yes q) = least-stop k a (rw q e) ∙ q
+      go rec (no q) = least-step k a (h a (omega arith) (omega arith)) ∙ rec (omega arith) (omega arith) (λ j l′ u′. h j (omega arith) u′) e
+
 module _ (f : ℕ → ℕ) where
   pub length-tabFrom : (k a : ℕ) → length (tabulateFrom k a f) ≡ k
   unfolding tabulateFrom

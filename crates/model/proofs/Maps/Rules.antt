@@ -20,15 +20,15 @@ use Rattle.model.proofs.Lists.Scan.{and-l, and-r, and-i, bool-cases, cl
 -- ---- the test and the property
 
 module _ (n : ℕ) (t : List ℕ) (d : ℕ) where
-  bad-live : live t d ≡ true → breaksRule n t d ≡ not (keepsRules n t d)
+  pub bad-live : live t d ≡ true → breaksRule n t d ≡ not (keepsRules n t d)
   unfolding breaksRule
   bad-live e = rw (e, breaksRule)
 
-  bad-dead : live t d ≡ false → breaksRule n t d ≡ false
+  pub bad-dead : live t d ≡ false → breaksRule n t d ≡ false
   unfolding breaksRule
   bad-dead e = rw (e, breaksRule)
 
-  crossed-far : (i j : ℕ) → i + 2 ≤ j → crossed t d i j ≡ eqb (link t j (link t i (link t j (link t i d)))) d
+  pub crossed-far : (i j : ℕ) → i + 2 ≤ j → crossed t d i j ≡ eqb (link t j (link t i (link t j (link t i d)))) d
   unfolding crossed returns walk
   crossed-far i j h = rw (le-leb _ _ h, crossed)
 
