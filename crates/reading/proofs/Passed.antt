@@ -11,7 +11,7 @@ use borrow.Author.Tests.{eqb-true, leb-true}
 use Rattle.model.specs.Table.{slots}
 use Rattle.model.specs.Checks.{Check, pass, must, dimOk, tableOk}
 use Rattle.model.specs.Meaning.Maps.{Dim}
-use Rattle.reading.specs.Near.{Sized}
+use Rattle.reading.specs.Sized.{Sized}
 use Rattle.model.proofs.Lists.Scan.{and-l, and-r, test}
 
 must-passed : (b : Bool) (k : ℕ) → must b k ≡ pass → b ≡ true

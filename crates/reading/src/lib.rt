@@ -1,12 +1,12 @@
 // Reading the table: links and live slots, the rules of a map, and the checks 1, 2 and 4.
 ghost use mathlib.Core.Path.{_≡_};
-ghost use mathlib.Core.Bool.{true};
 ghost use Prim.Native.Nat.{_+_, _*_, _<_, _≤_};
 ghost use lib.ListN.{length};
 ghost use Rattle.model.specs.Table.{slots, link, live};
 ghost use Rattle.model.specs.Map.{linked, crossed, keepsRules, breaksRule, leastBreaking, isMap};
-ghost use Rattle.reading.specs.Near.{Sized, Row, nearRules, keepsNear};
 ghost use Rattle.model.specs.Checks.{must, pass, dimOk, tableOk, journalOk};
+ghost use Rattle.reading.specs.Sized.{Sized};
+ghost use Rattle.reading.specs.Near.{nearRules, keepsNear, Row, Below};
 
 // The entry of an unused slot.
 const UNUSED: u32 = 4294967295;
@@ -35,7 +35,9 @@ pub fn journal_fits(journal: &[u32]) -> bool
     if journal.len() > 1048576 {
         return false;
     }
-    (2 <= journal[0]) & (journal[0] <= journal[1]) & (journal[1] as usize <= journal.len())
+    let cursor = journal[0];
+    let end = journal[1];
+    (2 <= cursor) & (cursor <= end) & (end as usize <= journal.len())
 }
 
 // The number of slots.
@@ -122,9 +124,9 @@ pub fn breaks_rule(n: u32, table: &[u32], d: u32) -> bool
     }
 }
 
-// Whether the slot d, whose links a, b, c and e are slots, keeps the rules as its neighbours show them.
+// Whether the slot d, whose links a, b, c and e are slots, keeps the near rules.
 fn near_rules(n: u32, table: &[u32], d: u32, a: u32, b: u32, c: u32, e: u32) -> bool
-    requires { ⌜ (Sized (now table)) × (Row (now table) d a b c e) ⌝ }
+    requires { ⌜ (Sized (now table)) × (Row (now table) d a b c e) × (Below (slots (now table)) a b c e) ⌝ }
     ensures { λ r. ⌜ r ≡ nearRules n (now (table .entry)) d ⌝ }
 {
     let links = (link_in(table, 0, a) == d)
@@ -141,7 +143,7 @@ fn near_rules(n: u32, table: &[u32], d: u32, a: u32, b: u32, c: u32, e: u32) -> 
     }
 }
 
-// Whether the slot d is unused or keeps the rules as its neighbours show them.
+// Whether the slot d is unused or keeps the near rules.
 fn keeps_near(n: u32, table: &[u32], end: u32, d: u32) -> bool
     requires { ⌜ (dimOk n ≡ pass) × (Sized (now table)) ⌝ }
     requires { ⌜ (end ≡ slots (now table)) × (d < end) ⌝ }
@@ -158,23 +160,21 @@ fn keeps_near(n: u32, table: &[u32], end: u32, d: u32) -> bool
     }
 }
 
-// Whether the table is a map: one pass, each slot by its neighbours.
+// Whether the table is a map: one pass by the near rules.
 pub fn is_map(n: u32, table: &[u32]) -> bool
     requires { ⌜ (dimOk n ≡ pass) × (tableOk (now table) ≡ pass) ⌝ }
     ensures { λ r. ⌜ r ≡ isMap n (now (table .entry)) ⌝ }
 {
     let end = slots(table);
-    let mut d = 0;
-    while d < end {
+    for d in 0..end {
         if !keeps_near(n, table, end, d) {
             return false;
         }
-        d += 1;
     }
     true
 }
 
-// The least slot that breaks a rule, or the number of slots: slot by slot.
+// The least slot that breaks a rule, or the number of slots: slot by slot, with the walks.
 fn first_breaking(n: u32, table: &[u32]) -> u32
     requires { ⌜ (dimOk n ≡ pass) × (tableOk (now table) ≡ pass) ⌝ }
     ensures { λ r. ⌜ r ≡ leastBreaking n (now (table .entry)) ⌝ }
@@ -190,7 +190,7 @@ fn first_breaking(n: u32, table: &[u32]) -> u32
     d
 }
 
-// The least slot that breaks a rule, or the number of slots: slot by slot only where the table is no map.
+// The least slot that breaks a rule, or the number of slots. The walks are made only where the table is no map.
 pub fn least_breaking(n: u32, table: &[u32]) -> u32
     requires { ⌜ (dimOk n ≡ pass) × (tableOk (now table) ≡ pass) ⌝ }
     ensures { λ r. ⌜ r ≡ leastBreaking n (now (table .entry)) ⌝ }

@@ -32,7 +32,8 @@ unfolding leastBreaking least
 returns c =
     let l = c .before .before .before in
     let a = l .before .before .before .args in
-    sym (least-at (breaksRule (a .n) (a .table .now)) (slots (a .table .now)) 0 (l .loop .d) (omega arith) (omega (arith, l .before .slots .ensures))
+    let e = l .before .slots .ensures in
+    sym (least-at (breaksRule (a .n) (a .table .now)) (slots (a .table .now)) 0 (l .loop .d) (omega arith) (omega arith)
     (λ k _ h. l .loop .inv .1 k h) (sym (c .before .breaks-rule .ensures) ∙ c .if1 .taken))
 
 add-d : tie.Need-add-d Inv-loop μ-loop
@@ -47,7 +48,8 @@ loop-less c = omega arith
 
 loop-again : tie.Need-loop-again Inv-loop μ-loop
 loop-again c =
-    (omega arith, below-more _ _ (c .before .before .before .loop .inv .1) (sym (c .before .breaks-rule .ensures) ∙ c .if1 .left))
+    let kept = sym (c .before .breaks-rule .ensures) ∙ c .if1 .left in
+    (omega arith, below-more _ _ (c .before .before .before .loop .inv .1) kept)
 
 returns-2 : tie.Need-returns-2 Inv-loop μ-loop
 unfolding leastBreaking least
@@ -55,7 +57,8 @@ returns-2 c =
     let l = c .before in
     let a = l .before .before .before .args in
     let e = l .before .slots .ensures in
-    let all = least-all (breaksRule (a .n) (a .table .now)) (slots (a .table .now)) 0 (λ k _ h. l .loop .inv .1 k (omega arith)) in
+    let p = breaksRule (a .n) (a .table .now) in
+    let all = least-all p (slots (a .table .now)) 0 (λ k _ h. l .loop .inv .1 k (omega arith)) in
     omega arith
 
 pub first-breaking-spec : {M : Type 1} → statement M

@@ -27,7 +27,7 @@ keeps-near-requires : tie.Need-keeps-near-requires Inv-loop μ-loop
 keeps-near-requires c κs =
     let o = c .before .before in
     let s = o .before .before in
-    ((s .pre .0, table-passed (s .args .table .now) (s .pre .1)), (o .slots .ensures, c .loop-test .taken))
+    ((s .pre .0, table-passed (s .args .table .now) (s .pre .1)), (o .slots .ensures, omega arith))
 
 returns : tie.Need-returns Inv-loop μ-loop
 returns c =
@@ -49,7 +49,8 @@ loop-less c = omega arith
 
 loop-again : tie.Need-loop-again Inv-loop μ-loop
 loop-again c =
-    (omega arith, below-more _ _ (c .before .before .before .loop .inv .1) (sym (c .before .keeps-near .ensures) ∙ not-false _ (c .if1 .left)))
+    let kept = sym (c .before .keeps-near .ensures) ∙ not-false _ (c .if1 .left) in
+    (omega arith, below-more _ _ (c .before .before .before .loop .inv .1) kept)
 
 returns-2 : tie.Need-returns-2 Inv-loop μ-loop
 returns-2 c =

@@ -8,33 +8,25 @@ use Rattle.model.specs.Table.{link, unused}
 use Rattle.model.proofs.Sets.Closure.{getD-any}
 use Rattle.reading.proofs.link.Statement.{statement}
 use Rattle.reading.proofs.link.Tie as tie
-use Rattle.reading.proofs.link.Reads as reads
-use Rattle.reading.proofs.link.Lts as lts
 
--- src/lib.rt:44:17
 mul-entry : tie.Need-mul-entry
 mul-entry c = search needs
 
--- src/lib.rt:44:17
 add-entry : tie.Need-add-entry
 add-entry c = search needs
 
--- src/lib.rt:45:30
 mul-result : tie.Need-mul-result
 mul-result c = search needs
 
--- src/lib.rt:45:30
 shared-slice-read-result : tie.Need-shared-slice-read-result
 shared-slice-read-result c = search needs
 
--- src/lib.rt:40:1
 returns : tie.Need-returns
 unfolding link
 returns c =
     let a = c .before .before .args in
     getD-any (a .table .now) (4 * a .d + a .i) 0 unused (omega arith)
 
--- src/lib.rt:40:1
 returns-2 : tie.Need-returns-2
 unfolding link
 returns-2 c =

@@ -1,3 +1,4 @@
+-- `reading::link_in` meets its contract.
 use Prim.Native.Nat.{_+_, _*_}
 use native.Mathlib.Omega.{arith}
 use borrow.Author.Needs.{needs}
@@ -5,26 +6,19 @@ use Rattle.model.specs.Table.{link, unused}
 use Rattle.model.proofs.Sets.Closure.{getD-any}
 use Rattle.reading.proofs.link_in.Statement.{statement}
 use Rattle.reading.proofs.link_in.Tie as tie
-use Rattle.reading.proofs.link_in.Reads as reads
-use Rattle.reading.proofs.link_in.Lts as lts
 
--- src/lib.rt:62:11
 mul-result : tie.Need-mul-result
 mul-result c = search needs
 
--- src/lib.rt:62:11
 add-result : tie.Need-add-result
 add-result c = search needs
 
--- src/lib.rt:62:5
 mul-result-2 : tie.Need-mul-result-2
 mul-result-2 c = search needs
 
--- src/lib.rt:62:5
 shared-slice-read-result : tie.Need-shared-slice-read-result
 shared-slice-read-result c = search needs
 
--- src/lib.rt:58:1
 returns : tie.Need-returns
 unfolding link
 returns c =
