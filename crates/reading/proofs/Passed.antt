@@ -1,5 +1,5 @@
 -- What a check that passed says: n is 2 or 3, a table's length is four times its slots and at most 262,144.
-use Prim.Native.Nat.{ℕ, _*_, _%_, _≤_}
+use Prim.Native.Nat.{ℕ, _%_}
 use mathlib.Core.Path.{_≡_, refl}
 use mathlib.Core.Logic.{inl, inr}
 use mathlib.Core.Bool.{Bool, true, false, _&&_, _||_}
@@ -9,7 +9,7 @@ use lib.ListN.{length}
 use lib.Dec.{eqb, leb}
 use borrow.Author.Tests.{eqb-true, leb-true}
 use Rattle.model.specs.Table.{slots}
-use Rattle.model.specs.Checks.{Check, pass, must, dimOk, tableOk}
+use Rattle.model.specs.Checks.{pass, must, dimOk, tableOk}
 use Rattle.model.specs.Meaning.Maps.{Dim}
 use Rattle.reading.specs.Sized.{Sized}
 use Rattle.model.proofs.Lists.Scan.{and-l, and-r, test}

@@ -1,6 +1,6 @@
 -- `reading::keeps_near` meets its contract.
 use mathlib.Core.Path.{sym, _∙_}
-use borrow.Author.Needs.{needs}
+use native.Mathlib.Omega.{arith}
 use Rattle.reading.specs.Near.{Row}
 use Rattle.reading.proofs.Passed.{dim-passed}
 use Rattle.reading.proofs.Neighbours.{below, row-range, row-unused, near-in, near-out}
@@ -8,19 +8,23 @@ use Rattle.reading.proofs.keeps_near.Statement.{statement}
 use Rattle.reading.proofs.keeps_near.Tie as tie
 
 link-in-requires : tie.Need-link-in-requires
-link-in-requires c κs = search needs
+link-in-requires c κs = omega arith
 
 link-in-requires-2 : tie.Need-link-in-requires-2
-link-in-requires-2 c κs = search needs
+link-in-requires-2 c κs = omega arith
 
 link-in-requires-3 : tie.Need-link-in-requires-3
-link-in-requires-3 c κs = search needs
+link-in-requires-3 c κs = omega arith
 
 link-in-requires-4 : tie.Need-link-in-requires-4
-link-in-requires-4 c κs = search needs
+link-in-requires-4 c κs = omega arith
 
 -- the four values read are the links of d
-row : (c₄ : tie.After-link-in4) → let c₃ = c₄ .before in let c₂ = c₃ .before in let c₁ = c₂ .before in let a = c₁ .before .before .args in
+row : (c₄ : tie.After-link-in4) →
+    let c₃ = c₄ .before in
+    let c₂ = c₃ .before in
+    let c₁ = c₂ .before in
+    let a = c₁ .before .before .args in
     Row (a .table .now) (a .d) (c₁ .link-in .result) (c₂ .link-in2 .result) (c₃ .link-in3 .result) (c₄ .link-in4 .result)
 row c₄ =
     let c₃ = c₄ .before in

@@ -1,39 +1,39 @@
 -- `reading::near_rules` meets its contract.
-use borrow.Author.Needs.{needs}
+use native.Mathlib.Omega.{arith}
 use Rattle.reading.specs.Near.{turned, commutes, nearRules}
 use Rattle.reading.proofs.Rules.{rules-flat, rules-solid}
 use Rattle.reading.proofs.near_rules.Statement.{statement}
 use Rattle.reading.proofs.near_rules.Tie as tie
 
 link-in-requires : tie.Need-link-in-requires
-link-in-requires c κs = search needs
+link-in-requires c κs = omega arith
 
 link-in-requires-2 : tie.Need-link-in-requires-2
-link-in-requires-2 c κs = search needs
+link-in-requires-2 c κs = omega arith
 
 link-in-requires-3 : tie.Need-link-in-requires-3
-link-in-requires-3 c κs = search needs
+link-in-requires-3 c κs = omega arith
 
 link-in-requires-4 : tie.Need-link-in-requires-4
-link-in-requires-4 c κs = search needs
+link-in-requires-4 c κs = omega arith
 
 link-in-requires-5 : tie.Need-link-in-requires-5
-link-in-requires-5 c κs = search needs
+link-in-requires-5 c κs = omega arith
 
 link-in-requires-6 : tie.Need-link-in-requires-6
-link-in-requires-6 c κs = search needs
+link-in-requires-6 c κs = omega arith
 
 link-in-requires-7 : tie.Need-link-in-requires-7
-link-in-requires-7 c κs = search needs
+link-in-requires-7 c κs = omega arith
 
 link-in-requires-8 : tie.Need-link-in-requires-8
-link-in-requires-8 c κs = search needs
+link-in-requires-8 c κs = omega arith
 
 link-in-requires-9 : tie.Need-link-in-requires-9
-link-in-requires-9 c κs = search needs
+link-in-requires-9 c κs = omega arith
 
 link-in-requires-10 : tie.Need-link-in-requires-10
-link-in-requires-10 c κs = search needs
+link-in-requires-10 c κs = omega arith
 
 returns : tie.Need-returns
 unfolding nearRules turned commutes
