@@ -17,11 +17,11 @@ unfoldable pub failing : List ℕ → (ℕ → Bool) → ℕ → Bool
 failing t keeps d = elim (live t d) [ true ↦ not (keeps d) | false ↦ false ]
 
 module _ (t : List ℕ) (keeps : ℕ → Bool) where
-  failing-live : (d : ℕ) → live t d ≡ true → failing t keeps d ≡ not (keeps d)
+  pub failing-live : (d : ℕ) → live t d ≡ true → failing t keeps d ≡ not (keeps d)
   unfolding failing
   failing-live d l = rw (l, failing)
 
-  failing-dead : (d : ℕ) → live t d ≡ false → failing t keeps d ≡ false
+  pub failing-dead : (d : ℕ) → live t d ≡ false → failing t keeps d ≡ false
   unfolding failing
   failing-dead d l = rw (l, failing)
 

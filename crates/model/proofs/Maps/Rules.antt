@@ -21,7 +21,7 @@ use Rattle.model.proofs.Maps.Failing.{failing, none-failing}
 -- ---- the test and the property
 
 module _ (n : ℕ) (t : List ℕ) (d : ℕ) where
-  crossed-far : (i j : ℕ) → i + 2 ≤ j → crossed t d i j ≡ eqb (link t j (link t i (link t j (link t i d)))) d
+  pub crossed-far : (i j : ℕ) → i + 2 ≤ j → crossed t d i j ≡ eqb (link t j (link t i (link t j (link t i d)))) d
   unfolding crossed returns walk
   crossed-far i j h = rw (le-leb _ _ h, crossed)
 

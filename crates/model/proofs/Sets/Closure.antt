@@ -26,7 +26,7 @@ marked-in [] x h = absurd (omega arith)
 marked-in (y ∷ ys) zero h = omega arith
 marked-in (y ∷ ys) (suc x) h = let r = marked-in ys x h in omega arith
 
-getD-any : (m : List ℕ) (x a b : ℕ) → x < length m → getD m x a ≡ getD m x b
+pub getD-any : (m : List ℕ) (x a b : ℕ) → x < length m → getD m x a ≡ getD m x b
 getD-any [] x a b h = absurd (not-suc-le-zero h)
 getD-any (y ∷ ys) zero a b h = refl
 getD-any (y ∷ ys) (suc x) a b h = getD-any ys x a b (le-of-suc-le-suc h)
