@@ -1,3 +1,4 @@
+pub mod Links
 pub mod Closure
 pub mod Pigeon
 pub mod Escape

@@ -1,4 +1,6 @@
 pub mod Side
 pub mod Partners
-pub mod Sew
+pub mod Walked
 pub mod Pairing
+pub mod Sew
+pub mod Unsew

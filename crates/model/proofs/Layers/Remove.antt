@@ -19,7 +19,7 @@ use Rattle.model.specs.Meaning.Maps.{Dim, Map, MapTable, BlockTable, Rul
 use Rattle.model.specs.Meaning.Pairings.{Far}
 use Rattle.model.specs.Meaning.Places.{place}
 use Rattle.model.specs.Meaning.Walks.{hop, FirstOutside, stop, onward}
-use Rattle.model.proofs.Lists.Scan.{bool-cases, clash, and-l, and-r, below-at}
+use Rattle.model.proofs.Lists.Scan.{bool-cases, clash, and-l, and-r, if-lt, below-at}
 use Rattle.model.proofs.Maps.Rules.{Relinking, relink-table, relink-link, relink-slots, relink-live, live-in, live-by, dead-by, dead-link, slots-retable, length-retable, link-retable, relink-fits, at-same, at-other}
 use Rattle.model.proofs.Sewing.Side.{past}
 use Rattle.model.proofs.Cells.Cell.{cell-words, rowWalk, small}
@@ -27,7 +27,6 @@ use Rattle.model.proofs.Maps.Tables.{mapTable, rule-at}
 use Rattle.model.proofs.Maps.Dim.{two-cases, size-some}
 use Rattle.model.proofs.Cells.Chart.{keep, block-by, Charted, place-chart, place-zero, place-live, place-keep, chart-kept}
 use Rattle.model.proofs.Sets.Escape.{out, escapes}
-use Rattle.model.proofs.Sewing.Partners.{ltb-or}
 
 -- ---- cells taken away
 
@@ -231,7 +230,7 @@ module _ {n : ℕ} {t : List ℕ} (B : BlockTable n t) where
 
     beside : (y j : ℕ) → live t y ≡ true → j + 2 ≤ n → h (link t j y) ≡ link t j (h y)
     unfolding hop
-    beside y j l f = ap (link t n) (opp-far y j l f) ∙ past n t (opp n t y) n3 (B .whole) (B .map) (opp-live y l) n j (le-refl n) (omega arith) (inr f)
+    beside y j l f = ap (link t n) (opp-far y j l f) ∙ past (mapTable B) (opp n t y) (opp-live y l) n j (le-refl n) (omega arith) (inr f)
 
     run-far : (z y j : ℕ) → live t y ≡ true → j + 2 ≤ n → Run z y → Run (link t j z) (link t j y)
     run-far z y j l f (stop r e) = stop (R-off y j (omega arith) l r) (ap (link t j) e)
@@ -326,7 +325,7 @@ module _ {n : ℕ} {t : List ℕ} (B : BlockTable n t) where
             let c = n3 in
             let b = rule′ x l .goes j (omega arith) in
             run-one (g (link t j x)) (link t j (g x)) (link t n (link t j x)) (g-run (link t j x) b (R-off x j (omega arith) l e))
-            (subst (Run (link t j (g x))) (sym (past n t x n3 (B .whole) (B .map) l n j (le-refl n) (omega arith) (inr f))) (run-far (g x) (link t n x) j (n-live x l) f (g-run x l e)))
+            (subst (Run (link t j (g x))) (sym (past (mapTable B) x l n j (le-refl n) (omega arith) (inr f))) (run-far (g x) (link t n x) j (n-live x l) f (g-run x l e)))
 
         dead : (x : ℕ) → live t x ≡ false → g x ≡ unused
         dead x e = g-stays x (not-live x e) ∙ ap (outside n t mk (slots t)) q ∙ out-stop (slots t) unused far-off
@@ -381,7 +380,7 @@ module _ {n : ℕ} {t : List ℕ} (B : BlockTable n t) where
     }
       where
         shut : (x j : ℕ) → j < 4 → live (relink t n g) x ≡ true → R x ≡ false → R (link (relink t n g) j x) ≡ false
-        shut x j b l e = ap R (new-link x j hx b) ∙ go (ℕ-discrete j n) (ltb-or j n)
+        shut x j b l e = ap R (new-link x j hx b) ∙ go (ℕ-discrete j n) (if-lt j n inl inr)
           where
             hx : x < slots t
             hx = rw same-slots at (live-in (relink t n g) x (relink-fits t n g (B .whole)) l)

@@ -20,7 +20,7 @@ use Rattle.model.specs.Meaning.Sets.{Least, Marked}
 use Rattle.model.proofs.Lists.Scan.{test, clash}
 use Rattle.model.proofs.Sets.Closure.{marked-in, closure-least}
 use Rattle.model.proofs.Maps.Rules.{live-in}
-use Rattle.model.proofs.Sewing.Side.{step-in, step-of}
+use Rattle.model.proofs.Sets.Links.{step-in, step-of}
 use Rattle.model.proofs.Sets.Pigeon.{Distinct}
 use Rattle.model.proofs.Lists.Ones.{ones-of, ones-in, ones-distinct}
 use Rattle.model.proofs.Maps.Tables.{mapTable, rule-at}
