@@ -2,3 +2,4 @@ pub mod Links
 pub mod Closure
 pub mod Pigeon
 pub mod Escape
+pub mod Sizes

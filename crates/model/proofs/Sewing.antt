@@ -4,3 +4,4 @@ pub mod Walked
 pub mod Pairing
 pub mod Sew
 pub mod Unsew
+pub mod Inverse

@@ -1,5 +1,5 @@
 -- A table with the links of one index made anew: the links that it has, and that all other entries stay.
--- `Relinked`: what sew and unsew make of a table; it is a map again. `table-same`: a table is known by its links.
+-- `Relinked`: what sew and unsew make of a table; it is a map again. `relinked-back`: when it is the old table.
 use Prim.Native.Nat.{ℕ, _+_, _*_, _/_, _%_, _≤_, _<_}
 use mathlib.Core.Path.{_≡_, sym, ap, _∙_}
 use mathlib.Core.Logic.{_≢_}
@@ -27,7 +27,7 @@ module _ (t : List ℕ) (whole : length t ≡ 4 * slots t) (u : List ℕ) (long 
       ∙ sym (link-out t x whole h j)
 
   -- with the same links, they are one
-  pub table-same : ((x j : ℕ) → x < slots t → j < 4 → link u j x ≡ link t j x) → u ≡ t
+  table-same : ((x j : ℕ) → x < slots t → j < 4 → link u j x ≡ link t j x) → u ≡ t
   unfolding link
   table-same h = ext-getD unused u t long (λ e l. entry e (let w = whole in omega arith))
     where
@@ -69,7 +69,7 @@ pub record Relinked (n : ℕ) (t : List ℕ) (i : ℕ) (u : List ℕ) : Type 0 w
   pub change : Relinking n t i by
 
 module _ {n : ℕ} {t u : List ℕ} {i : ℕ} (T : MapTable n t) (low : i ≤ n) (r : Relinked n t i u) where
-  pub relinked-long : length u ≡ length t
+  relinked-long : length u ≡ length t
   relinked-long = rw (r .is) (relink-long t (T .whole) i (r .by))
 
   pub relinked-slots : slots u ≡ slots t
@@ -83,3 +83,11 @@ module _ {n : ℕ} {t u : List ℕ} {i : ℕ} (T : MapTable n t) (low : i ≤ n)
 
   pub relinked-other : (x j : ℕ) → j < 4 → j ≢ i → link u j x ≡ link t j x
   relinked-other x j l e = rw (r .is) (relink-other t (T .whole) i (r .by) x j l e)
+
+-- made anew twice, and the links i are as they were: the table is as it was
+pub relinked-back : {n : ℕ} {t u v : List ℕ} {i : ℕ} → MapTable n t → i ≤ n → Relinked n t i u → Relinked n u i v
+    → ((x : ℕ) → link v i x ≡ link t i x) → v ≡ t
+relinked-back {t = t} {v = v} {i = i} T low first second h =
+    let U = relinked-table T low first in
+    table-same t (T .whole) v (relinked-long U low second ∙ relinked-long T low first)
+    (λ x j _ b. if-eq j i (λ q. rw q (h x)) (λ q. relinked-other U low second x j b q ∙ relinked-other T low first x j b q))

@@ -9,13 +9,14 @@ use mathlib.Core.Option.{Option, none, some}
 use mathlib.Core.List.{List}
 use native.Mathlib.Omega.{arith}
 use lib.ListN.{getD}
-use Rattle.model.specs.Table.{unused, link}
+use Rattle.model.specs.Table.{unused, slots, link}
 use Rattle.model.specs.Sew.{partners, isPaired, side}
 use Rattle.model.specs.Meaning.Pairings.{Far, OnSide, Pairing}
 use Rattle.model.specs.Meaning.Sets.{Marked}
 use Rattle.model.proofs.Lists.Scan.{clash}
 use Rattle.model.proofs.Maps.Tables.{rule-at}
-use Rattle.model.proofs.Sewing.Side.{side-own, side-far, side-comes, side-past, side-all}
+use Rattle.model.proofs.Sewing.Side.{live-before, side-live, side-own, side-far, side-comes, side-past}
+use Rattle.model.proofs.Sewing.Side.{side-all, side-same}
 use Rattle.model.proofs.Sewing.Walked.{partners-some, partners-start, partners-goes, partners-into}
 use Rattle.model.proofs.Sewing.Walked.{Both, both-flip, both-back}
 
@@ -94,16 +95,23 @@ module _ {n : ℕ} {t : List ℕ} {i d : ℕ} (on : OnSide n t i d) where
   pub partner-on : OnSide n t i (link t i d)
   partner-on = record { table = on .table; index = on .index; lives = rule-at (on .table) d (on .lives) .goes i (omega arith) }
 
-  partner-into : (x : ℕ) → Marked (side n t i d) x → Marked (side n t i (link t i d)) (link t i x)
+  pub partner-into : (x : ℕ) → Marked (side n t i d) x → Marked (side n t i (link t i d)) (link t i x)
   partner-into = side-all on (λ x. Marked (side n t i (link t i d)) (link t i x))
       (λ x j h f l m. rw (side-past on x h j f l) (side-far partner-on (link t i x) j m f l)) (side-own partner-on)
 
-module _ {n : ℕ} {t : List ℕ} {i d : ℕ} (on : OnSide n t i d) where
-  partner-from : (y : ℕ) → Marked (side n t i (link t i d)) y → Marked (side n t i d) (link t i y)
-  partner-from y h = subst (λ (z : ℕ). Marked (side n t i z) (link t i y)) (side-comes on d (side-own on) i (on .index))
-      (partner-into (partner-on on) y h)
+  -- a dart is in the partner's side if its partner is in d's side ..
+  pub partner-over : (x : ℕ) → Marked (side n t i d) (link t i x) → Marked (side n t i (link t i d)) x
+  partner-over x h =
+      let lives = live-before (on .table) x i (omega arith) (side-live on (link t i x) h) in
+      subst (Marked (side n t i (link t i d))) (rule-at (on .table) x lives .comes i (omega arith)) (partner-into (link t i x) h)
 
-  pub partner-pairing : Pairing n t i d (link t i d)
+module _ {n : ℕ} {t : List ℕ} {i d : ℕ} (on : OnSide n t i d) where
+  -- .. and only then
+  pub partner-from : (x : ℕ) → Marked (side n t i (link t i d)) x → Marked (side n t i d) (link t i x)
+  partner-from x h = subst (λ (z : ℕ). Marked (side n t i z) (link t i x)) (side-comes on d (side-own on) i (on .index))
+      (partner-into (partner-on on) x h)
+
+  unfoldable pub partner-pairing : Pairing n t i d (link t i d)
   partner-pairing = record {
     f = link t i;
     start = refl;
@@ -112,3 +120,22 @@ module _ {n : ℕ} {t : List ℕ} {i d : ℕ} (on : OnSide n t i d) where
     into = partner-into on;
     onto = λ y h. (link t i y, partner-from y h, side-comes (partner-on on) y h i (on .index));
   }
+
+-- ---- where the far links are the same, the pairings are
+
+unfoldable pub pairing-same : (n : ℕ) (t u : List ℕ) (i d e : ℕ) → slots u ≡ slots t
+    → ((x j : ℕ) → Far i j → j ≤ n → link u j x ≡ link t j x) → Pairing n t i d e → Pairing n u i d e
+pairing-same n t u i d e size same old = record {
+  f = old .f;
+  start = old .start;
+  goes = λ x j h f l. rw (same x j f l, same (old .f x) j f l) (old .goes x j (rw left at h) f l);
+  one = λ x y h k. old .one x y (rw left at h) (rw left at k);
+  into = λ x h. rw right (old .into x (rw left at h));
+  onto = λ y h. let r = old .onto y (rw right at h) in (r .0, rw left (r .1), r .2);
+}
+  where
+    left : side n u i d ≡ side n t i d
+    left = side-same n t u i d size same
+
+    right : side n u i e ≡ side n t i e
+    right = side-same n t u i e size same
