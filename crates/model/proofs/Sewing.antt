@@ -5,3 +5,4 @@ pub mod Pairing
 pub mod Sew
 pub mod Unsew
 pub mod Inverse
+pub mod Counts

@@ -39,7 +39,7 @@ module _ (t : List ℕ) (whole : length t ≡ 4 * slots t) (u : List ℕ) (long 
 -- ---- links of one index made anew
 
 module _ (t : List ℕ) (whole : length t ≡ 4 * slots t) (i : ℕ) (g : ℕ → ℕ) where
-  pub relink-long : length (relink t i g) ≡ length t
+  relink-long : length (relink t i g) ≡ length t
   unfolding relink
   relink-long = length-retable t (relinkAt t i g) whole
 
@@ -47,7 +47,7 @@ module _ (t : List ℕ) (whole : length t ≡ 4 * slots t) (i : ℕ) (g : ℕ �
   unfolding relink
   relink-own x h l = link-retable t (relinkAt t i g) whole x i h l ∙ at-same t i g x
 
-  pub relink-other : (x j : ℕ) → j < 4 → j ≢ i → link (relink t i g) j x ≡ link t j x
+  relink-other : (x j : ℕ) → j < 4 → j ≢ i → link (relink t i g) j x ≡ link t j x
   unfolding relink
   relink-other x j l e = if-lt x (slots t)
       (λ h. link-retable t (relinkAt t i g) whole x j h l ∙ at-other t i g x j e)
@@ -69,7 +69,7 @@ pub record Relinked (n : ℕ) (t : List ℕ) (i : ℕ) (u : List ℕ) : Type 0 w
   pub change : Relinking n t i by
 
 module _ {n : ℕ} {t u : List ℕ} {i : ℕ} (T : MapTable n t) (low : i ≤ n) (r : Relinked n t i u) where
-  relinked-long : length u ≡ length t
+  pub relinked-long : length u ≡ length t
   relinked-long = rw (r .is) (relink-long t (T .whole) i (r .by))
 
   pub relinked-slots : slots u ≡ slots t

@@ -2,6 +2,7 @@
 -- `size-into`: by a one-to-one map; `size-onto`: by one that meets each slot. `length-ones`: the places of the ones are as many.
 use Prim.Native.Nat.{ℕ, suc, _≤_}
 use mathlib.Core.Path.{_≡_, refl, sym, ap, _∙_}
+use mathlib.Core.Logic.{_≢_}
 use mathlib.Core.Bool.{Bool, true, false}
 use mathlib.Core.List.{List, [], _∷_, map, List·Memᴰ as In, List·Memᴰ·head as here, List·Memᴰ·tail as there}
 use mathlib.Core.List.{Memᴰ·cast as in-cast, Memᴰ·map as in-map}
@@ -12,7 +13,7 @@ use lib.Dec.{eqb}
 use Rattle.model.specs.Lists.{count, onesFrom, ones}
 use Rattle.model.specs.Meaning.Sets.{Marked}
 use Rattle.model.proofs.Lists.Ones.{ones-of, ones-in, ones-distinct}
-use Rattle.model.proofs.Sets.Pigeon.{count-drop, cover, Distinct, none, more}
+use Rattle.model.proofs.Sets.Pigeon.{count-drop, cover, Distinct, more}
 
 pub length-ones : (s : List ℕ) (a : ℕ) → length (onesFrom a s) ≡ count 1 s
 unfolding onesFrom count
@@ -31,8 +32,9 @@ module _ (f : ℕ → ℕ) where
       → ((x : ℕ) → In x l → Marked r (f x)) → length l ≤ count 1 r
   distinct-into [] r d one into = omega arith
   distinct-into (z ∷ l) r (more out d) one into =
+      let apart : (x : ℕ) → In x l → f x ≢ f z = λ x i e. out (in-cast (one z x (here refl) (there i) (sym e)) i) in
       let rec = distinct-into l (set r (f z) 0) d (λ x y i j. one x y (there i) (there j))
-      (λ x i. getD-set-other r (f z) (f x) 0 0 (λ e. out (in-cast (one z x (here refl) (there i) (sym e)) i)) ∙ into x (there i)) in
+      (λ x i. getD-set-other r (f z) (f x) 0 0 (apart x i) ∙ into x (there i)) in
       let c = count-drop r (f z) (into z (here refl)) in
       omega arith
 
@@ -44,5 +46,6 @@ module _ (f : ℕ → ℕ) where
 
     pub size-onto : ((y : ℕ) → Marked r y → (x : ℕ) × Marked s x × (f x ≡ y)) → count 1 r ≤ count 1 s
     size-onto onto =
-        let many = cover (map f (ones s)) r (λ y h. let x = onto y h in in-cast (sym (x .2)) (in-map f (ones-in s (x .0) (x .1)))) in
-        rw (length-map (ones s) f, length-ones s 0) at many
+        let all : (y : ℕ) → Marked r y → In y (map f (ones s))
+        = λ y h. let x = onto y h in in-cast (sym (x .2)) (in-map f (ones-in s (x .0) (x .1))) in
+        rw (length-map (ones s) f, length-ones s 0) at (cover (map f (ones s)) r all)

@@ -33,7 +33,7 @@ pub record Found (n : ℕ) (t : List ℕ) (i d e : ℕ) : Type 0 where
   pub q : List ℕ
   pub both : Both n t i d e p q
 
-pub both-pairing : {n : ℕ} {t : List ℕ} {i d e : ℕ} {p q : List ℕ} → Both n t i d e p q → Pairing n t i d e
+both-pairing : {n : ℕ} {t : List ℕ} {i d e : ℕ} {p q : List ℕ} → Both n t i d e p q → Pairing n t i d e
 both-pairing {p = p} {q = q} both = record {
   f = λ x. getD p x unused;
   start = partners-start (both .there);

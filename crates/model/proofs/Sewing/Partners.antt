@@ -27,9 +27,6 @@ pub record Partner (p : List ℕ) (x y : ℕ) : Type 0 where
   pub is : getD p x unused ≡ y
   pub real : y ≢ unused
 
-pub partner-one : {p : List ℕ} {x y z : ℕ} → Partner p x y → Partner p x z → y ≡ z
-partner-one a b = sym (a .is) ∙ b .is
-
 -- a couple that is set: the partner of x is y, and the others are as before
 module _ (p : List ℕ) (x y : ℕ) where
   set-partner : x < length p → y ≢ unused → Partner (set p x y) x y

@@ -117,7 +117,7 @@ module _ {n : ℕ} {t : List ℕ} {i d : ℕ} (on : OnSide n t i d) where
       (λ j f l. (side-far y j (h .0) f l, goes y j (h .0) f l (h .1))) z k) x m .1
 
   -- .. and if it holds of one of them, it holds of d
-  pub side-back : (P : ℕ → Type 0) → Goes P → (x : ℕ) → Marked (side n t i d) x → P x → P d
+  side-back : (P : ℕ → Type 0) → Goes P → (x : ℕ) → Marked (side n t i d) x → P x → P d
   side-back P goes = side-all (λ x. P x → P d)
       (λ x j h f l rest p. rest (subst P (side-comes x h j l) (goes (link t j x) j (side-far x j h f l) f l p))) (λ p. p)
 
@@ -127,10 +127,17 @@ module _ {n : ℕ} {t : List ℕ} {i d : ℕ} (on : OnSide n t i d) where
       let back = rule-at (on .table) x lives .comes j (omega arith) in
       subst (Marked (side n t i d)) back (side-far (link t j x) j h f l)
 
-  -- the side of a free dart is free
+  free-goes : Goes (λ x. link t i x ≡ x)
+  free-goes x j h f l e = side-past x h j f l ∙ ap (link t j) e
+
+  -- a side with a free dart is that of a free dart ..
+  pub side-free-back : (x : ℕ) → Marked (side n t i d) x → link t i x ≡ x → link t i d ≡ d
+  side-free-back = side-back (λ x. link t i x ≡ x) free-goes
+
+  -- .. and such a side is free
   module _ (free : link t i d ≡ d) where
     pub side-free : (x : ℕ) → Marked (side n t i d) x → link t i x ≡ x
-    side-free = side-all (λ x. link t i x ≡ x) (λ x j h f l e. side-past x h j f l ∙ ap (link t j) e) free
+    side-free = side-all (λ x. link t i x ≡ x) free-goes free
 
     pub side-over : (x : ℕ) → Marked (side n t i d) (link t i x) → Marked (side n t i d) x
     side-over x h =

@@ -24,7 +24,7 @@ use Rattle.model.proofs.Sewing.Partners.{Complete, pairUp-complete}
 -- ---- where the walk begins
 
 -- no dart has a partner
-pub unpaired : (k a b : ℕ) → Partner (replicate k unused) a b → ⊥
+unpaired : (k a b : ℕ) → Partner (replicate k unused) a b → ⊥
 unpaired zero a b h = h .real (sym (h .is))
 unpaired (suc k) zero b h = h .real (sym (h .is))
 unpaired (suc k) (suc a) b h = unpaired k a b (record { is = h .is; real = h .real })
