@@ -1,7 +1,7 @@
 -- How many entries differ between two tables, counted over the slots.
 -- `changes-sum`: the changes are the links that differ, summed over the slots.
--- `changes-size`: where a slot has a changes if it is in r, and b if it is in s, they are a times r's size and b times s's size.
--- `changed-link`: where only the links i may differ, a slot has one change at most.
+-- `changes-size`: with `a` changes for each slot of r and `b` for each slot of s, they are a and b times those sizes.
+-- `changed-all`, `changed-one`, `changed-none`: a slot's changes. `changes-turn`: there are as many the other way.
 use Prim.Native.Nat.{ℕ, zero, suc, _+_, _*_, _<_}
 use mathlib.Core.Path.{_≡_, refl, sym, ap, ap₂, _∙_}
 use mathlib.Core.Logic.{_≢_, ⊎-elim}
@@ -93,11 +93,11 @@ sum-marks (y ∷ s) h =
 unfoldable pub differ : ℕ → ℕ → ℕ
 differ x y = elim (eqb x y) [ true ↦ 0 | false ↦ 1 ]
 
-pub differ-same : {x y : ℕ} → x ≡ y → differ x y ≡ 0
+differ-same : {x y : ℕ} → x ≡ y → differ x y ≡ 0
 unfolding differ
 differ-same {x} {y} h = rw (eq-eqb x y h, differ)
 
-pub differ-other : {x y : ℕ} → x ≢ y → differ x y ≡ 1
+differ-other : {x y : ℕ} → x ≢ y → differ x y ≡ 1
 unfolding differ
 differ-other {x} {y} h = rw (ne-eqb x y h, differ)
 
@@ -116,6 +116,18 @@ changes-entries e (x ∷ xs) (y ∷ ys) h =
     if-eq x y
     (λ q. let same = differ-same q in rw (eq-eqb x y q, changesFrom) (omega arith))
     (λ q. let other = differ-other q in rw (ne-eqb x y q, changesFrom) (omega arith))
+
+-- as many from the second table to the first
+pub changes-turn : (e : ℕ) (xs ys : List ℕ) → length (changesFrom e xs ys) ≡ length (changesFrom e ys xs)
+unfolding changesFrom
+changes-turn e [] [] = refl
+changes-turn e [] (y ∷ ys) = refl
+changes-turn e (x ∷ xs) [] = refl
+changes-turn e (x ∷ xs) (y ∷ ys) =
+    let rec = changes-turn (suc e) xs ys in
+    if-eq x y
+    (λ q. rw (eq-eqb x y q, eq-eqb y x (sym q), changesFrom) rec)
+    (λ q. rw (ne-eqb x y q, ne-eqb y x (λ r. q (sym r)), changesFrom) (ap suc rec))
 
 module _ (t u : List ℕ) (whole : length t ≡ 4 * slots t) (long : length u ≡ length t) where
   pub changes-sum : length (changesFrom 0 t u) ≡ sumBelow (slots t) (changedLinks t u)
@@ -136,8 +148,19 @@ module _ (t u : List ℕ) (whole : length t ≡ 4 * slots t) (long : length u �
       size : (m : List ℕ) → length m ≡ slots t → Bits m → sumBelow (slots t) (λ x. getD m x 0) ≡ count 1 m
       size m l bits = ap (λ (k : ℕ). sumBelow k (λ x. getD m x 0)) (sym l) ∙ sum-marks m bits
 
--- where only the links i may differ
-pub changed-link : (t u : List ℕ) (i x : ℕ) → i < 4 → ((j : ℕ) → j < 4 → j ≢ i → link u j x ≡ link t j x)
-    → changedLinks t u x ≡ differ (link t i x) (link u i x)
-unfolding changedLinks
-changed-link t u i x l h = sum-one 4 i (λ j. differ (link t j x) (link u j x)) l (λ j b q. differ-same (sym (h j b q)))
+-- ---- the links of a slot that differ: all, one or none
+
+module _ (t u : List ℕ) (x : ℕ) where
+  pub changed-all : ((j : ℕ) → j < 4 → link t j x ≢ link u j x) → changedLinks t u x ≡ 4
+  unfolding changedLinks sumBelow
+  changed-all h = sum-same 4 (λ j. differ (link t j x) (link u j x)) (λ _. 1) (λ j l. differ-other (h j l))
+
+  pub changed-none : ((j : ℕ) → j < 4 → link u j x ≡ link t j x) → changedLinks t u x ≡ 0
+  unfolding changedLinks
+  changed-none h = sum-zero 4 (λ j. differ (link t j x) (link u j x)) (λ j l. differ-same (sym (h j l)))
+
+  pub changed-one : (i : ℕ) → i < 4 → link t i x ≢ link u i x → ((j : ℕ) → j < 4 → j ≢ i → link u j x ≡ link t j x)
+      → changedLinks t u x ≡ 1
+  unfolding changedLinks
+  changed-one i l moved h =
+      sum-one 4 i (λ j. differ (link t j x) (link u j x)) l (λ j b q. differ-same (sym (h j b q))) ∙ differ-other moved

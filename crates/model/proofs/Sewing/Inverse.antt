@@ -27,7 +27,7 @@ module _ {n : ℕ} {t u : List ℕ} {i d : ℕ} (on : OnSide n t i d) (made : Re
       let other : j ≢ i = ⊎-elim (λ h. λ q. omega arith) (λ h. λ q. omega arith) f in
       relinked-other (on .table) (on .index) made x j (omega arith) other
 
-  relinked-side : side n u i d ≡ side n t i d
+  pub relinked-side : side n u i d ≡ side n t i d
   relinked-side = side-same n t u i d (relinked-slots (on .table) (on .index) made) far-same
 
   relinked-on : OnSide n u i d

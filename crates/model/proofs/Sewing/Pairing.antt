@@ -28,6 +28,7 @@ module _ {n : ℕ} {t : List ℕ} {i d e : ℕ} (left : OnSide n t i d) where
 
 -- ---- both walks succeed exactly if a pairing exists
 
+-- the partners that both walks find
 pub record Found (n : ℕ) (t : List ℕ) (i d e : ℕ) : Type 0 where
   pub p : List ℕ
   pub q : List ℕ
@@ -49,13 +50,16 @@ pub pairing-is : {n : ℕ} {t : List ℕ} {i d e : ℕ} {p q : List ℕ} → Bot
 unfolding both-pairing
 pairing-is both f = pairing-one (both .there .left) (both-pairing both) f
 
+-- the test, of what the two walks give
+bothSome : Option (List ℕ) → Option (List ℕ) → Bool
+bothSome a b = elim a [ none ↦ false | some p ↦ (elim b [ none ↦ false | some q ↦ true ]) ]
+
 module _ {n : ℕ} {t : List ℕ} {i d e : ℕ} (left : OnSide n t i d) (right : OnSide n t i e) where
   pub paired-found : isPaired n t i d e ≡ true → Found n t i d e
-  unfolding isPaired
+  unfolding isPaired bothSome
   paired-found = go (partners n t i d e) (partners n t i e d) refl refl
     where
-      go : (a b : Option (List ℕ)) → partners n t i d e ≡ a → partners n t i e d ≡ b
-          → (elim a as (λ _. Bool) [ none ↦ false | some p ↦ (elim b [ none ↦ false | some q ↦ true ]) ]) ≡ true → Found n t i d e
+      go : (a b : Option (List ℕ)) → partners n t i d e ≡ a → partners n t i e d ≡ b → bothSome a b ≡ true → Found n t i d e
       go none b x y h = absurd (clash h refl)
       go (some p) none x y h = absurd (clash h refl)
       go (some p) (some q) x y h = record {
@@ -68,7 +72,7 @@ module _ {n : ℕ} {t : List ℕ} {i d e : ℕ} (left : OnSide n t i d) (right :
       }
 
   pub pairing-paired : Pairing n t i d e → isPaired n t i d e ≡ true
-  unfolding isPaired
+  unfolding isPaired bothSome
   pairing-paired f = go (partners n t i d e) (partners n t i e d)
       (partners-some n t i d e (λ x y. Is x y) goes (side-own left, sym (f .start)) (λ x y z h k. h .1 ∙ sym (k .1)))
       (partners-some n t i e d (λ y x. Is x y) (λ y x. goes x y) (side-own left, sym (f .start))
@@ -80,8 +84,7 @@ module _ {n : ℕ} {t : List ℕ} {i d e : ℕ} (left : OnSide n t i d) (right :
       goes : (x y j : ℕ) → Is x y → Far i j → j ≤ n → Is (link t j x) (link t j y)
       goes x y j h far l = (side-far left x j (h .0) far l, ap (link t j) (h .1) ∙ sym (f .goes x j (h .0) far l))
 
-      go : (a b : Option (List ℕ)) → (a ≡ none → ⊥) → (b ≡ none → ⊥)
-          → (elim a as (λ _. Bool) [ none ↦ false | some p ↦ (elim b [ none ↦ false | some q ↦ true ]) ]) ≡ true
+      go : (a b : Option (List ℕ)) → (a ≡ none → ⊥) → (b ≡ none → ⊥) → bothSome a b ≡ true
       go none b x y = absurd (x refl)
       go (some p) none x y = absurd (y refl)
       go (some p) (some q) x y = refl

@@ -83,10 +83,6 @@ module _ {n : ℕ} {t : List ℕ} {i d e : ℕ} {p q : List ℕ} (able : Sewable
           outside-link (link t j x) (λ m. u (side-from (able .left) x j l f b m)) (λ m. v (side-from (able .right) x j l f b m))
           ∙ past (able .left .table) x l i j (able .left .index) b f ∙ ap (link t j) (sym (outside-link x u v))
 
-  sewTable-is : sewTable n t i d e ≡ sewn t i p q
-  unfolding sewTable
-  sewTable-is = rw (both .there .found, sewTable, both .back .found)
-
 -- ---- the table
 
 module _ {n : ℕ} {t : List ℕ} {i d e : ℕ} (able : Sewable n t i d e) where
@@ -97,8 +93,8 @@ module _ {n : ℕ} {t : List ℕ} {i d e : ℕ} (able : Sewable n t i d e) where
   new = sewnLink t i (found .p) (found .q)
 
   table-is : sewTable n t i d e ≡ relink t i new
-  unfolding sewn new
-  table-is = sewTable-is able (found .both)
+  unfolding sewTable sewn new
+  table-is = rw (found .both .there .found, sewTable, found .both .back .found)
 
   pub sew-relinked : Relinked n t i (sewTable n t i d e)
   unfolding new

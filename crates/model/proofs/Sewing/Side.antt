@@ -1,7 +1,7 @@
 -- The side of a dart.
 -- `past`: links far apart go past each other.
--- `side-all`, `side-back`: what goes with the side's links holds of each of its darts, or of none.
--- `side-same`: where the far links are the same, the sides are.
+-- `side-all`, `side-back`: what goes with the side's links holds of each of its darts, or of none; so it is with being i-free.
+-- `sides-parted`: when two sides have no dart in common. `side-same`: where the far links are the same, the sides are.
 use Prim.Native.Nat.{ℕ, suc, _+_, _*_, _≤_, _<_}
 use mathlib.Core.Path.{_≡_, refl, sym, ap, ap₂, _∙_, subst, fun-ext}
 use mathlib.Core.Logic.{inl, inr}
@@ -130,11 +130,11 @@ module _ {n : ℕ} {t : List ℕ} {i d : ℕ} (on : OnSide n t i d) where
   free-goes : Goes (λ x. link t i x ≡ x)
   free-goes x j h f l e = side-past x h j f l ∙ ap (link t j) e
 
-  -- a side with a free dart is that of a free dart ..
+  -- where one dart of the side is i-free, d is ..
   pub side-free-back : (x : ℕ) → Marked (side n t i d) x → link t i x ≡ x → link t i d ≡ d
   side-free-back = side-back (λ x. link t i x ≡ x) free-goes
 
-  -- .. and such a side is free
+  -- .. and where d is i-free, each dart of the side is; then no link i leads into it from outside
   module _ (free : link t i d ≡ d) where
     pub side-free : (x : ℕ) → Marked (side n t i d) x → link t i x ≡ x
     side-free = side-all (λ x. link t i x ≡ x) free-goes free
