@@ -20,13 +20,12 @@ use Rattle.model.specs.Everything.{everything}
 use Rattle.model.specs.Meaning.Maps.{Dim, MapTable}
 use Rattle.model.specs.Meaning.Places.{path, place}
 use Rattle.model.specs.Meaning.Sets.{Least, Marked}
-use Rattle.model.proofs.Sewing.Partners.{ltb-or}
 use Rattle.model.proofs.Maps.Dim.{dim-cases, two-cases, size-some}
-use Rattle.model.proofs.Lists.Scan.{test, bool-cases, clash, and-l, and-r, and-i, below-at, length-tabFrom}
+use Rattle.model.proofs.Lists.Scan.{test, bool-cases, clash, and-l, and-r, and-i, if-lt, below-at, length-tabFrom}
 use Rattle.model.proofs.Sets.Closure.{closure-least}
 use Rattle.model.proofs.Maps.Rules.{live-in}
 use Rattle.model.proofs.Maps.Tables.{rule-at}
-use Rattle.model.proofs.Sewing.Side.{step-in, step-of}
+use Rattle.model.proofs.Sets.Links.{step-in, step-of}
 use Rattle.model.proofs.Cells.Places.{rest, Turning, places-follow}
 use Rattle.model.proofs.Sets.Pigeon.{cover, Distinct, none, more, distinct-le}
 
@@ -185,7 +184,7 @@ module _ {n : ℕ} {t : List ℕ} (T : MapTable n t) (d : ℕ) (live-d : live t 
         low k h = in-left (tabulateFrom (cellSize n - suc b) (suc b) f) (tab-in f b 0 k (omega arith) (omega arith))
 
         back-in : (x : ℕ) → (k : ℕ) × (k < cellSize n) × (x ≡ place n t d k) → In x l
-        back-in x r = go (ℕ-discrete (r .0) b) (ltb-or (r .0) b)
+        back-in x r = go (ℕ-discrete (r .0) b) (if-lt (r .0) b inl inr)
           where
             h : r .0 < cellSize n
             h = r .1

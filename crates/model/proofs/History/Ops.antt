@@ -1,9 +1,9 @@
 -- The calls on a map and a journal in rule: none gives 4 or 5, an accepted operation changes the table and leaves a map, and check, orbit and sheet change nothing.
 use Prim.Native.Nat.{ℕ, _*_, _<_}
 use mathlib.Core.Path.{_≡_, refl, sym, ap, _∙_, subst}
-use mathlib.Core.Logic.{inl, _≢_}
+use mathlib.Core.Logic.{_≢_}
 use mathlib.Core.Bool.{true, false}
-use mathlib.Core.List.{List, [], _∷_, List·Memᴰ as In, List·Memᴰ·head as here}
+use mathlib.Core.List.{List, [], _∷_, List·Memᴰ as In}
 use native.Mathlib.Omega.{arith}
 use lib.ListN.{length, getD, take}
 use borrow.Author.Tests.{eqb-true}
@@ -14,7 +14,7 @@ use Rattle.model.specs.Cell.{cellSize}
 use Rattle.model.specs.Numbering.{cellLink, firstBit, corners, flip}
 use Rattle.model.specs.Sheet.{sheet}
 use Rattle.model.specs.Add.{addSlots, addTable}
-use Rattle.model.specs.Sew.{side, unsewTable}
+use Rattle.model.specs.Sew.{side}
 use Rattle.model.specs.Split.{splitSlots, splitTable}
 use Rattle.model.specs.Checks.{pass, dimOk, tableOk, journalOk, mapOk}
 use Rattle.model.specs.Calls.{Outcome, refused, checkCall, orbitCall, sheetCall}
@@ -27,9 +27,10 @@ use Rattle.model.proofs.Lists.Ones.{getD-in, ones-in, vacant-frees}
 use Rattle.model.proofs.Maps.Rules.{dead-link}
 use Rattle.model.proofs.Maps.Tables.{mapTable, live-below, rule-at}
 use Rattle.model.proofs.Maps.Dim.{two-cases}
-use Rattle.model.proofs.Sewing.Side.{side-least, unsew-free}
-use Rattle.model.proofs.Sewing.Sew.{paired-found}
-use Rattle.model.proofs.Sewing.Pairing.{mates-pairing, sew-there}
+use Rattle.model.proofs.Sewing.Side.{side-own}
+use Rattle.model.proofs.Sewing.Pairing.{paired-exactly}
+use Rattle.model.proofs.Sewing.Sew.{sew-there}
+use Rattle.model.proofs.Sewing.Unsew.{unsew-free}
 use Rattle.model.proofs.Cells.Add.{add-new}
 use Rattle.model.proofs.Layers.Sheet.{sheet-of, sheet-own}
 use Rattle.model.proofs.Layers.Marks.{marks-own}
@@ -38,7 +39,7 @@ use Rattle.model.proofs.Layers.Role.{new-in, split-cut}
 use Rattle.model.proofs.Calls.Pass.{not-in, Front, front-passed, check-numbers, orbit-numbers, sheet-numbers}
 use Rattle.model.proofs.Calls.Pass.{add-passed, unsew-passed, sew-passed, layer-passed, split-passed}
 use Rattle.model.proofs.Calls.Ends.{guard, weaken, op-outcome}
-use Rattle.model.proofs.Calls.Kept.{add-call, sew-call, unsew-call, remove-call, split-call}
+use Rattle.model.proofs.Calls.Kept.{unsew-side, sides-sewable, add-call, sew-call, unsew-call, remove-call, split-call}
 
 -- ---- numbers
 
@@ -104,7 +105,7 @@ positive : (n : ℕ) → Dim n → 0 < n
 positive n d = two-cases n d (λ n. 0 < n) (omega arith) (omega arith)
 
 pub op-changes : (n : ℕ) (t m j : List ℕ) (p : Op) → Passed n t m j p → t ≢ effect n t p
-unfolding effect addTable addSlots unsewTable splitTable splitSlots
+unfolding effect addTable addSlots splitTable splitSlots
 op-changes n t m j Op.add a =
     let passed = add-passed n t j a in
     let T = passed .table in
@@ -123,24 +124,14 @@ op-changes n t m j Op.add a =
     omega arith)
 op-changes n t m j (Op.sew i d e) a =
     let both = sew-passed n t j i d e a in
-    let passed = both .0 in
-    let found = paired-found n t i d e (both .1) in
-    let T = passed .table in
-    let f = mates-pairing n t i (T .dim .1) (passed .index) (T .whole) (T .few) (T .map) d e (passed .lives-d) (passed .lives-e)
-    (found .p) (found .q) (found .there) (found .back) in
-    let own = side-least n t i d (T .dim .1) (passed .index) (T .whole) (T .few) (T .map) (passed .lives-d)
-    .holds d (here refl) (live-below T d (passed .lives-d)) in
-    differs t _ i d (λ q. passed .apart (subst (Marked (side n t i d))
-    (sym (passed .free-d) ∙ q ∙ ap (λ (u : List ℕ). link u i d) (found .table)
-    ∙ sew-there n t i (T .dim .1) (passed .index) (T .whole) (T .few) (T .map) d e (passed .lives-d) (passed .lives-e)
-    (passed .apart) (passed .free-d) (passed .free-e) (found .p) (found .q) (found .there) (found .back) f d own ∙ f .start) own))
+    let able = sides-sewable (both .0) (both .1) in
+    let f = paired-exactly (able .left) (able .right) .0 (able .paired) in
+    let own = side-own (able .left) in
+    differs t _ i d (λ q. able .apart (subst (Marked (side n t i d)) (sym (able .free-left) ∙ q ∙ sew-there able f d own ∙ f .start) own))
 op-changes n t m j (Op.unsew i d) a =
     let passed = unsew-passed n t j i d a in
-    let T = passed .table in
-    let own = side-least n t i d (T .dim .1) (passed .index) (T .whole) (T .few) (T .map) (passed .lives)
-    .holds d (here refl) (live-below T d (passed .lives)) in
-    differs t _ i d (λ q. passed .sewn (q ∙ unsew-free n t i d (T .dim .1) (passed .index) (T .whole) (T .few) (T .map)
-    (passed .lives) d (passed .lives) (inl own)))
+    let on = unsew-side passed in
+    differs t _ i d (λ q. passed .sewn (q ∙ unsew-free on d (side-own on)))
 op-changes n t m j (Op.remove d) a =
     let passed = layer-passed n t j m d a in
     let B = passed .table in

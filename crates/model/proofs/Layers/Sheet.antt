@@ -21,7 +21,7 @@ use Rattle.model.proofs.Lists.Scan.{test, clash}
 use Rattle.model.proofs.Lists.Ones.{ones-of, ones-in, ones-distinct}
 use Rattle.model.proofs.Sets.Closure.{closure-least}
 use Rattle.model.proofs.Sets.Pigeon.{Distinct}
-use Rattle.model.proofs.Sewing.Side.{step-in, step-of}
+use Rattle.model.proofs.Sets.Links.{step-in, step-of}
 use Rattle.model.proofs.Maps.Tables.{mapTable, live-below, rule-at}
 
 -- distinct live darts, closed as a sheet is

@@ -94,7 +94,7 @@ module _ {n : ℕ} {t : List ℕ} (B : BlockTable n t) where
       let m₁ = at y ly .goes 1 (omega arith) in
       let m₂ = at (link t 1 y) m₁ .goes 0 (omega arith) in
       let m₃ = at (link t 0 (link t 1 y)) m₂ .goes 1 (omega arith) in
-      let c : (x : ℕ) → live t x ≡ true → (i : ℕ) → i + 2 ≤ 3 → link t i (link t 3 x) ≡ link t 3 (link t i x) = λ x lx i b. past n t x n3 (B .whole) (B .map) lx i 3 (omega arith) (omega arith) (inl b) in
+      let c : (x : ℕ) → live t x ≡ true → (i : ℕ) → i + 2 ≤ 3 → link t i (link t 3 x) ≡ link t 3 (link t i x) = λ x lx i b. past (mapTable B) x lx i 3 (omega arith) (omega arith) (inl b) in
       rw (c y ly 1 (omega arith), c (link t 1 y) m₁ 0 (omega arith), c (link t 0 (link t 1 y)) m₂ 1 (omega arith), at (link t 1 (link t 0 (link t 1 y))) m₃ .comes 3 (omega arith))
       (rw (at (link t 0 (link t 1 g)) l₂ .comes 1 (omega arith), at (link t 1 g) l₁ .comes 0 (omega arith)) (at g l .comes 1 (omega arith)))
 

@@ -91,7 +91,7 @@ module _ {n : ℕ} {t : List ℕ} (B : BlockTable n t) where
   link-back x l = rule x l .comes n low
 
   link-far : (x j : ℕ) → live t x ≡ true → j + 2 ≤ n → link t n (link t j x) ≡ link t j (link t n x)
-  link-far x j l far = past n t x (B .dim .1) (B .whole) (B .map) l n j (le-refl n) (omega arith) (inr far)
+  link-far x j l far = past (mapTable B) x l n j (le-refl n) (omega arith) (inr far)
 
   hop-live : (y : ℕ) → live t y ≡ true → live t (hop n t y) ≡ true
   unfolding hop

@@ -1,23 +1,19 @@
--- What the operations leave: darts outside of the named ones keep every link.
+-- What add, remove and split leave: darts outside of the named ones keep every link.
 use Prim.Native.Nat.{ℕ, zero, suc, _*_, _<_}
 use mathlib.Core.Path.{_≡_, refl, sym, ap, _∙_}
 use mathlib.Core.Bool.{Bool, true, false, _&&_}
 use mathlib.Core.List.{List, List·Memᴰ as In}
-use lib.ListN.{length, getD}
+use lib.ListN.{length}
 use lib.Dec.{eqb, ltb}
 use borrow.Author.Tests.{eq-eqb, ne-eqb, le-ltb}
 use Rattle.model.specs.Lists.{indexOf}
-use Rattle.model.specs.Table.{unused, slots, link, relink, relinkAt}
-use Rattle.model.specs.Reach.{inSet}
+use Rattle.model.specs.Table.{slots, link}
 use Rattle.model.specs.Add.{addedLink, added}
-use Rattle.model.specs.Sew.{unsews, unsewnLink, unsewn, sewnLink, sewn}
 use Rattle.model.specs.Sheet.{sheet, sheetMarks}
 use Rattle.model.specs.Remove.{marked, outside, removedLink, removed, removeTable}
 use Rattle.model.specs.Split.{newDart, halvedLink, halved}
-use Rattle.model.specs.Meaning.Sets.{Marked}
 use Rattle.model.proofs.Lists.Scan.{if-eq}
-use Rattle.model.proofs.Maps.Rules.{link-retable, at-same, at-other}
-use Rattle.model.proofs.Sewing.Partners.{Has}
+use Rattle.model.proofs.Maps.Rules.{link-retable}
 use Rattle.model.proofs.Lists.Ones.{index-out}
 
 -- the walk across removed cells stops at once outside of them
@@ -31,24 +27,9 @@ module _ (t : List ℕ) (fits : length t ≡ 4 * slots t) (x : ℕ) (low : x < s
   abbrev Kept : List ℕ → Type 0
   Kept u = (j : ℕ) → j < 4 → link u j x ≡ link t j x
 
-  pub relink-frame : (i : ℕ) (g : ℕ → ℕ) → g x ≡ link t i x → Kept (relink t i g)
-  unfolding relink
-  relink-frame i g e j b = link-retable t (relinkAt t i g) fits x j low b ∙ if-eq j i (λ q. rw (q, at-same t i g x) e) (λ q. at-other t i g x j q)
-
   pub add-frame : (n : ℕ) (fs : List ℕ) → (In x fs → ⊥) → Kept (added n t fs)
   unfolding added addedLink
   add-frame n fs k j b = link-retable t (addedLink n t fs) fits x j low b ∙ rw (le-ltb (indexOf x fs) (length fs) (index-out fs x k), addedLink)
-
-  pub unsew-frame : (i : ℕ) (s : List ℕ) → (Marked s x → ⊥) → (Marked s (link t i x) → ⊥) → Kept (unsewn t i s)
-  unfolding unsewn unsewnLink unsews inSet
-  unsew-frame i s a b = relink-frame i (unsewnLink t i s) (rw (ne-eqb (getD s x 0) 1 a, ne-eqb (getD s (link t i x) 0) 1 b, unsewnLink))
-
-  pub sew-frame : (i : ℕ) (p q : List ℕ) → ((y : ℕ) → Has p x y → ⊥) → ((y : ℕ) → Has q x y → ⊥) → Kept (sewn t i p q)
-  unfolding sewn sewnLink
-  sew-frame i p q a b = relink-frame i (sewnLink t i p q) (rw (eq-eqb (getD p x unused) unused (lone p a), eq-eqb (getD q x unused) unused (lone q b), sewnLink))
-    where
-      lone : (r : List ℕ) → ((y : ℕ) → Has r x y → ⊥) → getD r x unused ≡ unused
-      lone r h = if-eq (getD r x unused) unused (λ e. e) (λ e. absurd (h (getD r x unused) (record { is = refl; real = e })))
 
   pub remove-frame : (n d : ℕ) → marked (sheetMarks n t (sheet n t d)) x ≡ false
       → marked (sheetMarks n t (sheet n t d)) (link t n x) ≡ false → Kept (removeTable n t d)

@@ -19,7 +19,7 @@ use Rattle.model.specs.Meaning.Sets.{LeastSet, ByLink, SheetStep, along,
 use Rattle.model.specs.Meaning.Pairings.{Far}
 use Rattle.model.proofs.Lists.Scan.{or-cases, or-i}
 use Rattle.model.proofs.Sets.Closure.{closure-least}
-use Rattle.model.proofs.Sewing.Side.{step-in, step-of}
+use Rattle.model.proofs.Sets.Links.{step-in, step-of}
 
 -- ---- the closure of one dart, with its steps as a property
 

@@ -23,7 +23,7 @@ count-none (y ∷ ys) h = rw (ne-eqb y 1 (h 0), count) (count-none ys (λ x. h (
 -- ---- one mark taken away
 
 module _ (m : List ℕ) (y : ℕ) where
-  count-drop : Marked m y → count 1 m ≡ suc (count 1 (set m y 0))
+  pub count-drop : Marked m y → count 1 m ≡ suc (count 1 (set m y 0))
   count-drop h = count-change 1 0 m y 0 (marked-in m y h) h (λ (e : _≡_ {A = ℕ} 0 1). omega arith)
 
   drop-gone : Marked (set m y 0) y → ⊥
