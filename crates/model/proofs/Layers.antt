@@ -1,7 +1,10 @@
 pub mod Sheet
-pub mod Axes
+pub mod Marks
+pub mod Counts
 pub mod Share
+pub mod Walk
 pub mod Remove
+pub mod RemoveCounts
 pub mod Cut
 pub mod Role
 pub mod Split

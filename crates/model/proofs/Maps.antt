@@ -1,3 +1,5 @@
 pub mod Dim
 pub mod Tables
+pub mod Failing
 pub mod Rules
+pub mod Exact

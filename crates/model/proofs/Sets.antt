@@ -1,3 +1,6 @@
+pub mod Links
 pub mod Closure
 pub mod Pigeon
 pub mod Escape
+pub mod Least
+pub mod Sizes

@@ -16,3 +16,4 @@ pub mod Calls
 pub mod Runs
 pub mod Meaning
 pub mod Everything
+pub mod Worked

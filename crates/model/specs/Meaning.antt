@@ -8,3 +8,4 @@ pub mod Places
 pub mod Sheets
 pub mod Ends
 pub mod Demand
+pub mod Worked

@@ -1,5 +1,5 @@
 -- split d: "each g in S, rising, gets new darts a, b (for n = 3 also c) in the lowest unused slots in that order.
--- With the links as they were before: .." The links of a, b and c follow below, in the order of the links 0 to 3.
+-- With the links as they were before: .." The sentences on the links stand below, each with its dart.
 use Prim.Native.Nat.{ℕ, zero, suc, _+_, _*_, _/_, _%_}
 use mathlib.Core.Bool.{Bool, true, false, _&&_, _||_}
 use mathlib.Core.List.{List, [], _∷_}
@@ -21,6 +21,7 @@ newDart n gs fs r g = getD fs (n * indexOf g gs + r) unused
 
 -- link j of x, which is the new dart r of g
 unfoldable pub newDartLink : ℕ → List ℕ → List ℕ → List ℕ → ℕ → ℕ → ℕ → ℕ → ℕ
+-- "a(g).0 = g", "a(g).1 = b(g)", "a(g).2 = a(g.2)", "a(g).3 = a(g.3)", but for n = 2 the dart itself
 newDartLink n t gs fs x g zero j =
     getD
     (g
@@ -28,6 +29,7 @@ newDartLink n t gs fs x g zero j =
     ∷ newDart n gs fs 0 (link t 2 g)
     ∷ elim (eqb n 3) [ true ↦ newDart n gs fs 0 (link t 3 g) | false ↦ x ]
     ∷ []) j 0
+-- "b(g).0 = b(g.1.0.1)", "b(g).1 = a(g)", "b(g).2 = c(g)", "b(g).3 = b(g.3)"; for n = 2 "b(g).2 = b(g.0)" and the dart itself
 newDartLink n t gs fs x g (suc zero) j =
     getD
     (newDart n gs fs 1 (walk t (1 ∷ 0 ∷ 1 ∷ []) g)
@@ -35,6 +37,7 @@ newDartLink n t gs fs x g (suc zero) j =
     ∷ elim (eqb n 3) [ true ↦ newDart n gs fs 2 g | false ↦ newDart n gs fs 1 (link t 0 g) ]
     ∷ elim (eqb n 3) [ true ↦ newDart n gs fs 1 (link t 3 g) | false ↦ x ]
     ∷ []) j 0
+-- "c(g).0 = c(g.1.0.1)", "c(g).1 = c(g.2)", "c(g).2 = b(g)", "c(g).3 = c(g.0)"
 newDartLink n t gs fs x g (suc (suc r)) j =
     getD
     (newDart n gs fs 2 (walk t (1 ∷ 0 ∷ 1 ∷ []) g)

@@ -12,25 +12,25 @@ use Rattle.model.specs.Cell.{cellSize, isBlock}
 use Rattle.model.specs.Journal.{cursor, changesAt, put, unbroken}
 use Rattle.model.specs.Sheet.{sheet}
 use Rattle.model.specs.Add.{addSlots, addTable}
-use Rattle.model.specs.Sew.{isPaired, sewn, sewTable, unsewn, unsewTable}
-use Rattle.model.specs.Remove.{removeTable}
+use Rattle.model.specs.Sew.{isPaired, sewTable}
 use Rattle.model.specs.Split.{splitTable}
 use Rattle.model.specs.Checks.{Check, pass, refuse, inOrder, stepChecks, undoOk, redoOk}
 use Rattle.model.specs.Calls.{Outcome, refused, addCall, sewCall, unsewCall, removeCall, splitCall, stepOutcome, undoCall, redoCall}
 use Rattle.model.specs.Runs.{Op, effect}
 use Rattle.model.specs.Meaning.Ends.{numbers}
 use Rattle.model.specs.Meaning.Maps.{MapTable, BlockTable, Keeps, KeepsAt, BlockMap}
+use Rattle.model.specs.Meaning.Pairings.{OnSide, Sewable}
 use Rattle.model.proofs.Lists.Ones.{vacant-frees}
 use Rattle.model.proofs.Maps.Rules.{Relinking, relink-table, of-map}
 use Rattle.model.proofs.Cells.Chart.{block-of, of-block, relink-block}
 use Rattle.model.proofs.Cells.Add.{add-map, add-block}
-use Rattle.model.proofs.Sewing.Side.{unsew-change}
-use Rattle.model.proofs.Sewing.Sew.{sew-change, paired-found}
-use Rattle.model.proofs.Layers.Sheet.{remove-sheet}
+use Rattle.model.proofs.Sewing.Sew.{sew-relinked}
+use Rattle.model.proofs.Sewing.Unsew.{unsew-relinked}
+use Rattle.model.proofs.Layers.Remove.{remove-block}
 use Rattle.model.proofs.Layers.Cut.{split-cuts}
 use Rattle.model.proofs.Layers.Halves.{split-block}
 use Rattle.model.proofs.Calls.Pass.{Numbered, not-in, front, step-numbers, undo-number, redo-number}
-use Rattle.model.proofs.Calls.Pass.{SidesPassed, add-passed, unsew-passed, sew-passed, layer-passed, split-passed}
+use Rattle.model.proofs.Calls.Pass.{SidesPassed, UnsewPassed, add-passed, unsew-passed, sew-passed, layer-passed, split-passed}
 use Rattle.model.proofs.Calls.Ends.{guard, accepted, add-outcome, unsew-outcome, sew-outcome, remove-outcome, split-outcome}
 
 -- ---- add
@@ -57,25 +57,33 @@ keeps-at {n} {t} {i} {g} T low c = (
       (λ (c : Relinking n t n g). of-block n _ (relink-block (block-of n t T h) c)) c,
 )
 
+pub unsew-side : {n : ℕ} {t : List ℕ} {i d : ℕ} → UnsewPassed n t i d → OnSide n t i d
+unsew-side passed = record { table = passed .table; index = passed .index; lives = passed .lives }
+
+pub sides-sewable : {n : ℕ} {t : List ℕ} {i d e : ℕ} → SidesPassed n t i d e → isPaired n t i d e ≡ true → Sewable n t i d e
+sides-sewable passed h = record {
+  left = record { table = passed .table; index = passed .index; lives = passed .lives-d };
+  right = record { table = passed .table; index = passed .index; lives = passed .lives-e };
+  apart = passed .apart;
+  free-left = passed .free-d;
+  free-right = passed .free-e;
+  paired = h;
+}
+
 module _ (n : ℕ) (t j : List ℕ) (i d : ℕ) where
   pub unsew-call : unsewCall n t j i d .number ≡ 0 → KeepsAt i n t (unsewCall n t j i d .table)
-  unfolding member indexOf effect unsewTable unsewn
+  unfolding member indexOf effect
   unsew-call h =
       let r = accepted (not-in (numbers 1 2 4 5 (Op.unsew i d)) 0 refl) (unsew-outcome n t [] j (front n t j) i d) h in
       let passed = unsew-passed n t j i d (r .0) in
-      let T = passed .table in
-      rw (r .1) (keeps-at T (passed .index)
-      (unsew-change n t i d (T .dim .1) (passed .index) (T .whole) (T .few) (T .map) (passed .lives)))
+      let made = unsew-relinked (unsew-side passed) in
+      rw (r .1, made .is) (keeps-at (passed .table) (passed .index) (made .change))
 
 module _ (n : ℕ) (t j : List ℕ) (i d e : ℕ) where
   sew-keeps : SidesPassed n t i d e → isPaired n t i d e ≡ true → KeepsAt i n t (sewTable n t i d e)
-  unfolding sewn
   sew-keeps passed h =
-      let found = paired-found n t i d e h in
-      let T = passed .table in
-      rw (found .table) (keeps-at T (passed .index)
-      (sew-change n t i (T .dim .1) (passed .index) (T .whole) (T .few) (T .map) d e (passed .lives-d) (passed .lives-e)
-      (passed .apart) (passed .free-d) (passed .free-e) (found .p) (found .q) (found .there) (found .back)))
+      let made = sew-relinked (sides-sewable passed h) in
+      rw (made .is) (keeps-at (passed .table) (passed .index) (made .change))
 
   pub sew-call : sewCall n t j i d e .number ≡ 0 → KeepsAt i n t (sewCall n t j i d e .table)
   unfolding member indexOf effect
@@ -91,11 +99,11 @@ module _ (n : ℕ) (t m j : List ℕ) (d : ℕ) where
   block-map u U = (of-map n u (U .map), of-block n u U)
 
   pub remove-call : removeCall n t m j d .number ≡ 0 → BlockMap n (removeCall n t m j d .table)
-  unfolding member indexOf effect removeTable
+  unfolding member indexOf effect
   remove-call h =
       let r = accepted (not-in (numbers 1 2 4 5 (Op.remove d)) 0 refl) (remove-outcome n t m j (front n t j) d) h in
       let passed = layer-passed n t j m d (r .0) in
-      rw (r .1) (block-map _ (remove-sheet (passed .table) d (passed .lives)))
+      rw (r .1) (block-map _ (remove-block passed))
 
   pub split-call : splitCall n t m j d .number ≡ 0 → BlockMap n (splitCall n t m j d .table)
   unfolding member indexOf effect splitTable
@@ -104,7 +112,7 @@ module _ (n : ℕ) (t m j : List ℕ) (d : ℕ) where
       let gs = ones (sheet n t d) in
       let passed = layer-passed n t j m d (r .0 .0) in
       let split = split-passed n t j (sheet n t d) gs (r .0 .1) in
-      let cuts = split-cuts (record { table = passed .table; lives = passed .lives; uncrossed = split .uncrossed; room = split .room }) in
+      let cuts = split-cuts (record { dart = passed; uncrossed = split .uncrossed; room = split .room }) in
       rw (r .1) (block-map _ (split-block cuts))
 
 -- ---- undo, redo

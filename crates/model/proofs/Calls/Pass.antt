@@ -23,8 +23,9 @@ use Rattle.model.specs.Checks.{sewnOk, pairingOk, crossingOk, addRoomOk,
 use Rattle.model.specs.Checks.{checkChecks, orbitChecks, sheetChecks, addChecks, sidesChecks, sewChecks, unsewChecks}
 use Rattle.model.specs.Checks.{layerChecks, splitChecks, stepChecks}
 use Rattle.model.specs.Calls.{refused, commit}
-use Rattle.model.specs.Meaning.Maps.{Dim, Map, MapTable, BlockTable}
+use Rattle.model.specs.Meaning.Maps.{Dim, Map, MapTable}
 use Rattle.model.specs.Meaning.Sets.{Marked}
+use Rattle.model.specs.Meaning.Sheets.{BlockDart}
 use Rattle.model.proofs.Lists.Ones.{in-member}
 use Rattle.model.proofs.Lists.Scan.{clash, test, and-l, and-r}
 use Rattle.model.proofs.Cells.Places.{or-cases}
@@ -259,11 +260,6 @@ pub record SidesPassed (n : ℕ) (t : List ℕ) (i d e : ℕ) : Type 0 where
   pub free-d : link t i d ≡ d
   pub free-e : link t i e ≡ e
 
--- of remove, and of the first checks of split
-pub record LayerPassed (n : ℕ) (t : List ℕ) (d : ℕ) : Type 0 where
-  pub table : BlockTable n t
-  pub lives : live t d ≡ true
-
 pub record SplitPassed (n : ℕ) (t s gs : List ℕ) : Type 0 where
   pub uncrossed : crosses t s gs ≡ false
   pub room : length (splitSlots n t gs) ≡ n * length gs
@@ -307,7 +303,8 @@ module _ (n : ℕ) (t j : List ℕ) where
       let r = passed-append (sidesChecks n t j i d e) _ a in
       (sides-passed i d e (r .0), must-pass _ 12 (pass-at _ (r .1) 0))
 
-  pub layer-passed : (m : List ℕ) (d : ℕ) → inOrder (layerChecks n t m j d) ≡ pass → LayerPassed n t d
+  -- of remove, and of the first checks of split
+  pub layer-passed : (m : List ℕ) (d : ℕ) → inOrder (layerChecks n t m j d) ≡ pass → BlockDart n t d
   unfolding layerChecks
   layer-passed m d a =
       let q = pass-at (layerChecks n t m j d) a in

@@ -18,15 +18,14 @@ use Rattle.model.specs.Cell.{cellWords, cellSize, cellOf, turns, allTurn
 use Rattle.model.specs.Numbering.{cellLink}
 use Rattle.model.specs.Everything.{everything}
 use Rattle.model.specs.Meaning.Maps.{Dim, MapTable}
-use Rattle.model.specs.Meaning.Places.{path, paths2, paths3, place}
+use Rattle.model.specs.Meaning.Places.{path, place}
 use Rattle.model.specs.Meaning.Sets.{Least, Marked}
-use Rattle.model.proofs.Sewing.Partners.{ltb-or}
 use Rattle.model.proofs.Maps.Dim.{dim-cases, two-cases, size-some}
-use Rattle.model.proofs.Lists.Scan.{test, bool-cases, clash, and-l, and-r, and-i, below-at, length-tabFrom}
+use Rattle.model.proofs.Lists.Scan.{test, bool-cases, clash, and-l, and-r, and-i, if-lt, below-at, length-tabFrom}
 use Rattle.model.proofs.Sets.Closure.{closure-least}
 use Rattle.model.proofs.Maps.Rules.{live-in}
 use Rattle.model.proofs.Maps.Tables.{rule-at}
-use Rattle.model.proofs.Sewing.Side.{step-in, step-of}
+use Rattle.model.proofs.Sets.Links.{step-in, step-of}
 use Rattle.model.proofs.Cells.Places.{rest, Turning, places-follow}
 use Rattle.model.proofs.Sets.Pigeon.{cover, Distinct, none, more, distinct-le}
 
@@ -50,7 +49,7 @@ pub rows-in : (n i k : ℕ) → Dim n → i < n → k < cellSize n → cellLink 
 rows-in n i k n23 hi hk = ltb-true _ _ (below-at (λ i. ltb (cellLink n i k) (cellSize n)) n (below-at (λ k. allBelow n (λ i. ltb (cellLink n i k) (cellSize n))) (cellSize n) (rows-true n n23) k hk) i hi)
 
 place-0 : (n : ℕ) → Dim n → (t : List ℕ) (d : ℕ) → d ≡ place n t d 0
-unfolding place path paths2 paths3 walk
+unfolding place path walk
 place-0 n n23 t d = two-cases n n23 (λ n. d ≡ place n t d 0) refl refl
 
 -- every marked dart turns
@@ -185,7 +184,7 @@ module _ {n : ℕ} {t : List ℕ} (T : MapTable n t) (d : ℕ) (live-d : live t 
         low k h = in-left (tabulateFrom (cellSize n - suc b) (suc b) f) (tab-in f b 0 k (omega arith) (omega arith))
 
         back-in : (x : ℕ) → (k : ℕ) × (k < cellSize n) × (x ≡ place n t d k) → In x l
-        back-in x r = go (ℕ-discrete (r .0) b) (ltb-or (r .0) b)
+        back-in x r = go (ℕ-discrete (r .0) b) (if-lt (r .0) b inl inr)
           where
             h : r .0 < cellSize n
             h = r .1
@@ -237,7 +236,7 @@ cell-words {n} {t} T d live-d good v w hv hw e =
 -- ---- the other way: a cell whose places follow the rows, and are distinct, is good
 
 path-small : (n : ℕ) → Dim n → allBelow (cellSize n) (λ k. small n (path n k)) ≡ true
-unfolding everything path paths2 paths3 small
+unfolding everything path small
 path-small n n23 = two-cases n n23 (λ n. allBelow (cellSize n) (λ k. small n (path n k)) ≡ true) refl refl
 
 -- the words of the rule return in the rows

@@ -16,13 +16,14 @@ use Rattle.model.specs.Cell.{cellWords, cellSize, cellOf, goodCell, isBl
 use Rattle.model.specs.Numbering.{cellLink}
 use Rattle.model.specs.Everything.{everything}
 use Rattle.model.specs.Meaning.Maps.{Dim, Map, MapTable, BlockTable}
-use Rattle.model.specs.Meaning.Places.{path, paths2, paths3, place}
+use Rattle.model.specs.Meaning.Places.{path, place}
 use Rattle.model.specs.Meaning.Sets.{Marked}
 use Rattle.model.proofs.Maps.Dim.{two-cases, size-some}
-use Rattle.model.proofs.Lists.Scan.{test, if-eq, if-lt, clash, and-l, and-r, below-at, least-end, least-all}
-use Rattle.model.proofs.Sets.Closure.{least-unique}
+use Rattle.model.proofs.Lists.Scan.{test, if-eq, if-lt, clash, and-l, and-r, below-at}
+use Rattle.model.proofs.Sets.Closure.{least-set-unique}
 use Rattle.model.proofs.Maps.Rules.{live-in, live-by, Relinking, relink-table, relink-slots, relink-live, relink-link, at-other}
 use Rattle.model.proofs.Maps.Tables.{mapTable, live-below, rule-at}
+use Rattle.model.proofs.Maps.Failing.{failing, none-failing}
 use Rattle.model.proofs.Cells.Cell.{cell-least, cell-step, cell-goes, rowWalk, small, walk-rows, place-in, good-of, follows, distinct, d-place, rows-in, all-places}
 
 -- ---- a map by its live slots
@@ -91,7 +92,7 @@ module _ {n : ℕ} {t : List ℕ} (T : MapTable n t) where
       let b = back d ld x h in
       let c = cell-least T d ld in
       let e = cell-least T x (b .0) in
-      least-unique (steps t (cellWords n)) (slots t) (x ∷ []) (cellOf n t x) (cellOf n t d) e (record {
+      least-set-unique e (record {
         long = c .long;
         bits = c .bits;
         holds = λ z i _. subst (Marked (cellOf n t d)) (sym (sole i)) h;
@@ -110,7 +111,7 @@ path-rows : ℕ → ℕ → Bool
 path-rows n k = small n (path n k) && eqb (rowWalk n (path n k) 0) k
 
 path-rows-true : (n : ℕ) → Dim n → allBelow (cellSize n) (path-rows n) ≡ true
-unfolding everything path paths2 paths3 small rowWalk path-rows
+unfolding everything path small rowWalk path-rows
 path-rows-true n n23 = two-cases n n23 (λ n. allBelow (cellSize n) (path-rows n) ≡ true) refl refl
 
 -- a path is a word of the cell's links, and leads from the place 0 to its place
@@ -242,30 +243,16 @@ relink-block {n} {t} {g} B c = block-by table charted
 -- ---- the test and the property
 
 module _ (n : ℕ) (t : List ℕ) where
-  wrong-live : (d : ℕ) → live t d ≡ true → inWrongCell n t d ≡ not (goodCell n t (cellOf n t d))
-  unfolding inWrongCell
-  wrong-live d e = rw (e, inWrongCell)
-
-  wrong-dead : (d : ℕ) → live t d ≡ false → inWrongCell n t d ≡ false
-  unfolding inWrongCell
-  wrong-dead d e = rw (e, inWrongCell)
-
   pub block-of : MapTable n t → isBlock n t ≡ true → BlockTable n t
-  unfolding isBlock leastWrong least
+  unfolding isBlock leastWrong inWrongCell failing
   block-of T h = record {
     dim = T .dim;
     whole = T .whole;
     few = T .few;
     map = T .map;
-    good = λ d l.
-        let e = eqb-true (leastWrong n t) (slots t) h in
-        let b = live-below T d l in
-        not-false _ (sym (wrong-live d l) ∙ least-end (inWrongCell n t) (slots t) 0 (omega arith) d (omega arith) (omega arith));
+    good = λ d l. none-failing t (λ d. goodCell n t (cellOf n t d)) .0 (eqb-true _ _ h) d (live-below T d l) l;
   }
 
   pub of-block : BlockTable n t → isBlock n t ≡ true
-  unfolding isBlock leastWrong least
-  of-block B =
-      let none : (d : ℕ) → 0 ≤ d → d < 0 + slots t → inWrongCell n t d ≡ false = λ d _ b. test (live t d) (λ l. wrong-live d l ∙ ap not (B .good d l)) (λ l. wrong-dead d l) in
-      let e = least-all (inWrongCell n t) (slots t) 0 none in
-      eq-eqb (leastWrong n t) (slots t) (omega arith)
+  unfolding isBlock leastWrong inWrongCell failing
+  of-block B = eq-eqb _ _ (none-failing t (λ d. goodCell n t (cellOf n t d)) .1 (λ d _ l. B .good d l))

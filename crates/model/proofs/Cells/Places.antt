@@ -14,7 +14,7 @@ use Rattle.model.specs.Cell.{cellSize}
 use Rattle.model.specs.Numbering.{cellLink}
 use Rattle.model.specs.Everything.{everything}
 use Rattle.model.specs.Meaning.Maps.{Dim}
-use Rattle.model.specs.Meaning.Places.{path, paths2, paths3, place}
+use Rattle.model.specs.Meaning.Places.{path, place}
 use Rattle.model.proofs.Maps.Dim.{two-cases}
 use Rattle.model.proofs.Lists.Scan.{bool-cases, clash, and-l, and-r, below-at, getD-tab}
 
@@ -212,7 +212,7 @@ module _ (n : ℕ) (t : List ℕ) (d : ℕ) (C : ℕ → Type 0) (n3 : n ≤ 3) 
   follow r h i k hi hk = rounds-sound r i k (below-at (λ i. known (rounds n r) i k) n (below-at (λ k. allBelow n (λ i. known (rounds n r) i k)) (cellSize n) h k hk) i hi) hi hk
 
 full-true : (n : ℕ) → Dim n → full n (rounds n 9) ≡ true
-unfolding full rounds round bit why someLeads rest leads known allLess everything path paths2 paths3
+unfolding full rounds round bit why someLeads rest leads known allLess everything path
 full-true n n23 = two-cases n n23 (λ n. full n (rounds n 9) ≡ true) refl refl
 
 pub places-follow : (n : ℕ) (t : List ℕ) (d : ℕ) (C : ℕ → Type 0) → Dim n → Turning n t C → C d

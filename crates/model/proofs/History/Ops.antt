@@ -1,9 +1,9 @@
 -- The calls on a map and a journal in rule: none gives 4 or 5, an accepted operation changes the table and leaves a map, and check, orbit and sheet change nothing.
 use Prim.Native.Nat.{ℕ, _<_}
 use mathlib.Core.Path.{_≡_, refl, sym, ap, _∙_, subst}
-use mathlib.Core.Logic.{inl, _≢_}
+use mathlib.Core.Logic.{_≢_}
 use mathlib.Core.Bool.{true, false}
-use mathlib.Core.List.{List, [], _∷_, List·Memᴰ as In, List·Memᴰ·head as here}
+use mathlib.Core.List.{List, [], _∷_, List·Memᴰ as In}
 use native.Mathlib.Omega.{arith}
 use lib.ListN.{getD, take}
 use borrow.Author.Tests.{eqb-true}
@@ -12,10 +12,9 @@ use Rattle.model.specs.Table.{unused, link, live}
 use Rattle.model.specs.Map.{isMap}
 use Rattle.model.specs.Cell.{cellSize}
 use Rattle.model.specs.Numbering.{cellLink, firstBit, corners, flip}
-use Rattle.model.specs.Sheet.{sheet, sheetMarks}
+use Rattle.model.specs.Sheet.{sheet}
 use Rattle.model.specs.Add.{addSlots, addTable}
-use Rattle.model.specs.Sew.{side, unsewTable}
-use Rattle.model.specs.Remove.{removeTable}
+use Rattle.model.specs.Sew.{side}
 use Rattle.model.specs.Split.{splitTable}
 use Rattle.model.specs.Checks.{pass, dimOk, tableOk, journalOk, mapOk}
 use Rattle.model.specs.Calls.{Outcome, refused, checkCall, orbitCall, sheetCall}
@@ -28,17 +27,19 @@ use Rattle.model.proofs.Lists.Ones.{getD-in, ones-in, vacant-frees}
 use Rattle.model.proofs.Maps.Rules.{dead-link}
 use Rattle.model.proofs.Maps.Tables.{mapTable, live-below, rule-at}
 use Rattle.model.proofs.Maps.Dim.{two-cases}
-use Rattle.model.proofs.Sewing.Side.{side-least, unsew-free}
-use Rattle.model.proofs.Sewing.Sew.{paired-found}
-use Rattle.model.proofs.Sewing.Pairing.{mates-pairing, sew-there}
+use Rattle.model.proofs.Sewing.Side.{side-own}
+use Rattle.model.proofs.Sewing.Pairing.{paired-exactly}
+use Rattle.model.proofs.Sewing.Sew.{sew-there}
+use Rattle.model.proofs.Sewing.Unsew.{unsew-free}
 use Rattle.model.proofs.Cells.Add.{add-new}
-use Rattle.model.proofs.Layers.Sheet.{sheet-own, marks-own, marks-live, marks-cell}
-use Rattle.model.proofs.Layers.Remove.{remove-gone}
+use Rattle.model.proofs.Layers.Sheet.{sheet-own}
+use Rattle.model.proofs.Layers.Marks.{marks-own}
+use Rattle.model.proofs.Layers.Remove.{remove-removes}
 use Rattle.model.proofs.Layers.Cut.{split-cuts, new-in, split-cut}
 use Rattle.model.proofs.Calls.Pass.{not-in, Front, front-passed, check-numbers, orbit-numbers, sheet-numbers}
 use Rattle.model.proofs.Calls.Pass.{add-passed, unsew-passed, sew-passed, layer-passed, split-passed}
 use Rattle.model.proofs.Calls.Ends.{guard, weaken, op-outcome}
-use Rattle.model.proofs.Calls.Kept.{add-call, sew-call, unsew-call, remove-call, split-call}
+use Rattle.model.proofs.Calls.Kept.{unsew-side, sides-sewable, add-call, sew-call, unsew-call, remove-call, split-call}
 
 -- ---- numbers
 
@@ -104,7 +105,7 @@ positive : (n : ℕ) → Dim n → 0 < n
 positive n d = two-cases n d (λ n. 0 < n) (omega arith) (omega arith)
 
 pub op-changes : (n : ℕ) (t m j : List ℕ) (p : Op) → Passed n t m j p → t ≢ effect n t p
-unfolding effect addTable addSlots unsewTable removeTable splitTable
+unfolding effect addTable addSlots splitTable
 op-changes n t m j Op.add a =
     let passed = add-passed n t j a in
     let T = passed .table in
@@ -123,31 +124,20 @@ op-changes n t m j Op.add a =
     omega arith)
 op-changes n t m j (Op.sew i d e) a =
     let both = sew-passed n t j i d e a in
-    let passed = both .0 in
-    let found = paired-found n t i d e (both .1) in
-    let T = passed .table in
-    let f = mates-pairing n t i (T .dim .1) (passed .index) (T .whole) (T .few) (T .map) d e (passed .lives-d) (passed .lives-e)
-    (found .p) (found .q) (found .there) (found .back) in
-    let own = side-least n t i d (T .dim .1) (passed .index) (T .whole) (T .few) (T .map) (passed .lives-d)
-    .holds d (here refl) (live-below T d (passed .lives-d)) in
-    differs t _ i d (λ q. passed .apart (subst (Marked (side n t i d))
-    (sym (passed .free-d) ∙ q ∙ ap (λ (u : List ℕ). link u i d) (found .table)
-    ∙ sew-there n t i (T .dim .1) (passed .index) (T .whole) (T .few) (T .map) d e (passed .lives-d) (passed .lives-e)
-    (passed .apart) (passed .free-d) (passed .free-e) (found .p) (found .q) (found .there) (found .back) f d own ∙ f .start) own))
+    let able = sides-sewable (both .0) (both .1) in
+    let f = paired-exactly (able .left) (able .right) .0 (able .paired) in
+    let own = side-own (able .left) in
+    differs t _ i d (λ q. able .apart (subst (Marked (side n t i d)) (sym (able .free-left) ∙ q ∙ sew-there able f d own ∙ f .start) own))
 op-changes n t m j (Op.unsew i d) a =
     let passed = unsew-passed n t j i d a in
-    let T = passed .table in
-    let own = side-least n t i d (T .dim .1) (passed .index) (T .whole) (T .few) (T .map) (passed .lives)
-    .holds d (here refl) (live-below T d (passed .lives)) in
-    differs t _ i d (λ q. passed .sewn (q ∙ unsew-free n t i d (T .dim .1) (passed .index) (T .whole) (T .few) (T .map)
-    (passed .lives) d (passed .lives) (inl own)))
+    let on = unsew-side passed in
+    differs t _ i d (λ q. passed .sewn (q ∙ unsew-free on d (side-own on)))
 op-changes n t m j (Op.remove d) a =
     let passed = layer-passed n t j m d a in
     let B = passed .table in
     let l = passed .lives in
-    let mk = sheetMarks n t (sheet n t d) in
     differs t _ 0 d (λ q.
-    let new = remove-gone B mk (marks-live B d l) (marks-cell B d l) d 0 (omega arith) (marks-own B d l) in
+    let new = remove-removes passed .gone d 0 (omega arith) (marks-own passed) in
     let low = live-below (mapTable B) (link t 0 d) (rule-at (mapTable B) d l .goes 0 (omega arith)) in
     let few = B .few in
     let same : link t 0 d ≡ unused = q ∙ new in
@@ -158,8 +148,8 @@ op-changes n t m j (Op.split d) a =
     let l = passed .lives in
     let s = sheet n t d in
     let split = split-passed n t j s (ones s) (a .1) in
-    let cuts = split-cuts (record { table = B; lives = l; uncrossed = split .uncrossed; room = split .room }) in
-    let i = ones-in s d (sheet-own B d l) in
+    let cuts = split-cuts (record { dart = passed; uncrossed = split .uncrossed; room = split .room }) in
+    let i = ones-in s d (sheet-own passed) in
     differs t _ 0 d (λ q. clash (rule-at (mapTable B) d l .goes 0 (omega arith))
     (ap (live t) (q ∙ split-cut cuts d i) ∙ cuts .vacant .dead _ (new-in cuts 0 d (positive n (B .dim)) i)))
 

@@ -12,18 +12,18 @@ use Rattle.model.specs.Table.{unused, slots, link, live}
 use Rattle.model.specs.Sheet.{sheet}
 use Rattle.model.specs.Split.{crosses, newDart, newDartLink, halvedLink, halved, splitSlots}
 use Rattle.model.specs.Meaning.Maps.{BlockTable, Dim}
+use Rattle.model.specs.Meaning.Sheets.{BlockDart}
 use Rattle.model.proofs.Lists.Scan.{clash}
 use Rattle.model.proofs.Lists.Ones.{Vacant, vacant-frees, getD-in, index-getD, index-out, index-in, getD-index}
 use Rattle.model.proofs.Maps.Dim.{two-cases}
 use Rattle.model.proofs.Maps.Rules.{link-retable, slots-retable, length-retable}
 use Rattle.model.proofs.Maps.Tables.{mapTable, live-below}
 use Rattle.model.proofs.Operations.Frame.{split-frame}
-use Rattle.model.proofs.Layers.Sheet.{Sheet, sheet-of, sheet-parted}
+use Rattle.model.proofs.Layers.Sheet.{Sheet, sheet-of, crosses-none}
 
--- split of d passes its checks but 15: a block map, a live dart, not 13, not 14
+-- split of d passes its checks but 15: a live dart of a block map, not 13, not 14
 pub record Splits (n : ℕ) (t : List ℕ) (d : ℕ) : Type 0 where
-  pub table : BlockTable n t
-  pub lives : live t d ≡ true
+  pub dart : BlockDart n t d
   pub uncrossed : crosses t (sheet n t d) (ones (sheet n t d)) ≡ false
   pub room : length (splitSlots n t (ones (sheet n t d))) ≡ n * length (ones (sheet n t d))
 
@@ -38,9 +38,9 @@ pub record Cut (n : ℕ) (t gs fs : List ℕ) : Type 0 where
 pub split-cuts : {n : ℕ} {t : List ℕ} {d : ℕ} → Splits n t d → Cut n t (ones (sheet n t d)) (splitSlots n t (ones (sheet n t d)))
 unfolding splitSlots
 split-cuts {n} {t} {d} s = record {
-  table = s .table;
-  sheet = sheet-of (s .table) d (s .lives);
-  parted = sheet-parted (s .table) d (s .lives) (s .uncrossed);
+  table = s .dart .table;
+  sheet = sheet-of (s .dart);
+  parted = crosses-none t (sheet n t d) (s .uncrossed);
   vacant = vacant-frees t (n * length (ones (sheet n t d)));
   enough = s .room;
 }

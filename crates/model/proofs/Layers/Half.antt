@@ -14,12 +14,11 @@ use Rattle.model.specs.Cell.{cellSize}
 use Rattle.model.specs.Numbering.{cellLink}
 use Rattle.model.specs.Everything.{everything}
 use Rattle.model.specs.Meaning.Maps.{BlockTable, Dim}
-use Rattle.model.specs.Meaning.Places.{path, paths2, paths3, place}
+use Rattle.model.specs.Meaning.Places.{path, place}
 use Rattle.model.specs.Meaning.Sheets.{half}
-use Rattle.model.proofs.Lists.Scan.{clash, and-l, and-r, below-at}
+use Rattle.model.proofs.Lists.Scan.{clash, and-l, and-r, below-at, or-cases}
 use Rattle.model.proofs.Maps.Dim.{two-cases}
 use Rattle.model.proofs.Cells.Cell.{rows-in}
-use Rattle.model.proofs.Cells.Places.{or-cases}
 use Rattle.model.proofs.Cells.Chart.{place-chart}
 use Rattle.model.proofs.Layers.Sheet.{Sheet}
 use Rattle.model.proofs.Layers.Role.{keepsSheet, sheet-walk}
@@ -31,7 +30,7 @@ halfPath : ℕ → ℕ → Bool
 halfPath n p = ltb p (cellSize n) && keepsSheet (path n p)
 
 half-paths : (n : ℕ) → Dim n → allBelow (half n) (halfPath n) ≡ true
-unfolding everything halfPath half keepsSheet path paths2 paths3
+unfolding everything halfPath half keepsSheet path
 half-paths n dim = two-cases n dim (λ n. allBelow (half n) (halfPath n) ≡ true) refl refl
 
 -- from any other place link 1 leads to such a place, or for n = 3 link 1 after link 2 does

@@ -101,7 +101,7 @@ module _ {n : ℕ} {t : List ℕ} {d : ℕ} (s : Splits n t d) where
       i = ones-in (sheet n t d) g m
 
       two : 2 ≤ n
-      two = s .table .dim .0
+      two = s .dart .table .dim .0
 
       low : 1 ≤ n
       low = omega arith
@@ -111,14 +111,14 @@ module _ {n : ℕ} {t : List ℕ} {d : ℕ} (s : Splits n t d) where
       → link (splitTable n t d) j x ≡ link t j x
   unfolding splitTable
   split-stays x j b out k = if-lt x (slots t)
-      (λ low. split-frame t (s .table .whole) x low n _ (newSlots n t d) out j b (λ e i. k e (ones-of (sheet n t d) x i)))
+      (λ low. split-frame t (s .dart .table .whole) x low n _ (newSlots n t d) out j b (λ e i. k e (ones-of (sheet n t d) x i)))
       (λ high.
       let same = split-slots cut in
-      link-out (splitTable n t d) x (split-whole cut) (omega arith) j ∙ sym (link-out t x (s .table .whole) high j))
+      link-out (splitTable n t d) x (split-whole cut) (omega arith) j ∙ sym (link-out t x (s .dart .table .whole) high j))
 
   pub split-length : length (splitTable n t d) ≡ length t
   unfolding splitTable
-  split-length = let same = split-slots cut in split-whole cut ∙ ap (λ (k : ℕ). 4 * k) same ∙ sym (s .table .whole)
+  split-length = let same = split-slots cut in split-whole cut ∙ ap (λ (k : ℕ). 4 * k) same ∙ sym (s .dart .table .whole)
 
   -- ---- the new darts
 
@@ -152,8 +152,8 @@ module _ {n : ℕ} {t : List ℕ} {d : ℕ} (s : Splits n t d) where
   -- "Place: first new slot", which is the lowest unused one
   pub split-place : (y : ℕ) → y < slots t → live t y ≡ false → getD (newSlots n t d) 0 0 ≤ y
   split-place =
-      let own = sheet-own (s .table) d (s .lives) in
-      let two = s .table .dim .0 in
+      let own = sheet-own (s .dart) in
+      let two = s .dart .table .dim .0 in
       let some = index-in (newSlots n t d) _ (new-in-slot 0 d (omega arith) own) in
       lowest-first split-lowest (omega arith)
 

@@ -8,14 +8,14 @@ use mathlib.Core.List.{List, List·Memᴰ as In, Memᴰ·cast as in-cast}
 use native.Mathlib.Omega.{arith}
 use lib.Dec.{ltb}
 use borrow.Author.Tests.{eq-eqb, ne-eqb, ltb-true, lt-ltb, le-ltb, not-true, not-false}
-use Rattle.model.specs.Lists.{allBelow}
+use Rattle.model.specs.Lists.{allBelow, member}
 use Rattle.model.specs.Table.{link, walk, live}
 use Rattle.model.specs.Cell.{cellSize}
 use Rattle.model.specs.Numbering.{cellLink}
 use Rattle.model.specs.Split.{newDart, halved}
 use Rattle.model.specs.Meaning.Maps.{BlockTable, Dim}
-use Rattle.model.specs.Meaning.Places.{path, paths2, paths3, place}
-use Rattle.model.specs.Meaning.Sheets.{half, inSheet}
+use Rattle.model.specs.Meaning.Places.{path, place}
+use Rattle.model.specs.Meaning.Sheets.{half}
 use Rattle.model.proofs.Lists.Scan.{test, if-eq, if-lt, clash, and-l, and-r, below-at, below-not}
 use Rattle.model.proofs.Lists.Ones.{member-in, in-member}
 use Rattle.model.proofs.Maps.Dim.{two-cases, size-some}
@@ -138,7 +138,7 @@ module _ {n : ℕ} {t gs fs : List ℕ} (C : Cut n t gs fs) where
     }
 
     pub half-own : g ≡ halfDart n t gs fs g 0
-    unfolding halfDart spotDart roleDart spotAt path paths2 paths3 place walk
+    unfolding halfDart spotDart roleDart spotAt path place walk
     half-own = two-cases n dim (λ n. g ≡ halfDart n t gs fs g 0) refl refl
 
     pub half-live : live after (halfDart n t gs fs g 0) ≡ true
@@ -205,7 +205,7 @@ module _ {n : ℕ} {t gs fs : List ℕ} (C : Cut n t gs fs) where
 
   pub half-or : {P : Type 0} (x : ℕ) → live t x ≡ true → ((g : ℕ) → In g gs → InHalf n t gs fs g x → P) → (Untouched x → P) → P
   half-or x l f k =
-      let off : ℕ → Bool = λ p. not (inSheet n t gs x p) in
+      let off : ℕ → Bool = λ p. not (member gs (place n t x p)) in
       test (allBelow (cellSize n) off)
       (λ h. k (λ p hp i. clash (in-member gs _ i) (not-true _ (below-at off (cellSize n) h p hp))))
       (λ h.

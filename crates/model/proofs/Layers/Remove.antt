@@ -1,464 +1,253 @@
--- Remove keeps a map, and a block map.
-use Prim.Native.Nat.{ℕ, zero, suc, _+_, _*_, _-_, _≤_, _<_}
-use mathlib.Core.Path.{_≡_, refl, sym, ap, _∙_, subst}
-use mathlib.Core.Logic.{_⊎_, inl, inr}
-use mathlib.Core.Bool.{Bool, true, false, _&&_}
-use mathlib.Core.List.{List, [], _∷_, _++_}
-use native.Mathlib.Decide.{ℕ-discrete}
-use native.Mathlib.Nat.{le-refl}
+-- remove: its table is as document 01 says (remove-removes), and a block map (remove-block). The new link n of a remaining
+-- dart is mutual (remove-mutual), and leads to the dart itself where the walk turns at a free side (remove-turns).
+use Prim.Native.Nat.{ℕ, _+_, _*_, _≤_, _<_}
+use mathlib.Core.Path.{_≡_, refl, sym, ap, _∙_}
+use mathlib.Core.Logic.{inl, inr, _≢_, _↔_}
+use mathlib.Core.Bool.{true, false}
+use mathlib.Core.List.{List}
 use native.Mathlib.Omega.{arith}
 use lib.ListN.{length}
-use lib.Dec.{eqb}
-use borrow.Author.Tests.{eqb-true}
-use Rattle.model.specs.Lists.{allBelow}
-use Rattle.model.specs.Table.{unused, slots, link, walk, live, relink, relinkAt}
+use borrow.Author.Tests.{eq-eqb, ne-eqb}
+use Rattle.model.specs.Table.{unused, slots, link, walk, live}
 use Rattle.model.specs.Cell.{cellSize}
-use Rattle.model.specs.Remove.{opposite, marked, outside, removedLink, removed}
-use Rattle.model.specs.Everything.{everything}
-use Rattle.model.specs.Meaning.Maps.{Dim, Map, MapTable, BlockTable, Rule}
-use Rattle.model.specs.Meaning.Pairings.{Far}
+use Rattle.model.specs.Remove.{opposite, marked, outside, removedLink, removed, removeTable}
+use Rattle.model.specs.Meaning.Maps.{MapTable, BlockTable, Rule}
 use Rattle.model.specs.Meaning.Places.{place}
-use Rattle.model.specs.Meaning.Walks.{hop, FirstOutside, stop, onward}
-use Rattle.model.proofs.Lists.Scan.{bool-cases, clash, and-l, and-r, below-at}
-use Rattle.model.proofs.Maps.Rules.{Relinking, relink-table, relink-link, relink-slots, relink-live, live-in, live-by, dead-by, dead-link, slots-retable, length-retable, link-retable, relink-fits, at-same, at-other}
-use Rattle.model.proofs.Sewing.Side.{past}
-use Rattle.model.proofs.Cells.Cell.{cell-words, rowWalk, small}
-use Rattle.model.proofs.Maps.Tables.{mapTable, rule-at}
-use Rattle.model.proofs.Maps.Dim.{two-cases, size-some}
-use Rattle.model.proofs.Cells.Chart.{keep, block-by, Charted, place-chart, place-zero, place-live, place-keep, chart-kept}
-use Rattle.model.proofs.Sets.Escape.{out, escapes}
-use Rattle.model.proofs.Sewing.Partners.{ltb-or}
+use Rattle.model.specs.Meaning.Sheets.{BlockDart, marksOf}
+use Rattle.model.specs.Meaning.Walks.{Layer, Reaches, arrived, FirstOutside, Removes}
+use Rattle.model.proofs.Lists.Scan.{test, if-eq, if-lt, clash}
+use Rattle.model.proofs.Maps.Rules.{live-in, dead-by, dead-link, link-out, length-retable, link-retable, slots-retable}
+use Rattle.model.proofs.Maps.Dim.{size-some}
+use Rattle.model.proofs.Maps.Tables.{mapTable, live-below, rule-at}
+use Rattle.model.proofs.Cells.Chart.{Ruled, ruled-table, live-of, of-live, live-same}
+use Rattle.model.proofs.Cells.Chart.{block-by, Charted, place-chart, place-zero, place-live, place-keep, chart-kept}
+use Rattle.model.proofs.Operations.Frame.{outside-stops}
+use Rattle.model.proofs.Layers.Walk.{outside-unique, stays-outside, walk-ends, walk-live, walk-back, walk-far, walk-turns}
+use Rattle.model.proofs.Layers.Marks.{sheet-layer}
 
--- ---- cells taken away
+-- ---- the links of the new table
 
--- a set of slots is closed under the links of a map, and u has those slots unused and the others as they were
-pub record Cleared (t u : List ℕ) (R : ℕ → Bool) : Type 0 where
-  pub slots-same : slots u ≡ slots t
-  pub gone : (x j : ℕ) → x < slots t → j < 4 → R x ≡ true → link u j x ≡ unused
-  pub kept : (x j : ℕ) → x < slots t → j < 4 → R x ≡ false → link u j x ≡ link t j x
-  pub shut : (x j : ℕ) → j < 4 → live t x ≡ true → R x ≡ false → R (link t j x) ≡ false
+module _ (n : ℕ) (t m : List ℕ) (x : ℕ) where
+  gone-link : (j : ℕ) → marked m x ≡ true → removedLink n t m x j ≡ unused
+  unfolding removedLink
+  gone-link j e = rw (e, removedLink)
 
-module _ {n : ℕ} {t u : List ℕ} {R : ℕ → Bool} (T : MapTable n t) (c : Cleared t u R) where
-  rule : (y : ℕ) → live t y ≡ true → Rule n t y
-  rule y h = rule-at T y h
+  stays-link : (j : ℕ) → marked m x ≡ false → j ≢ n → removedLink n t m x j ≡ link t j x
+  unfolding removedLink
+  stays-link j e ne = rw (e, ne-eqb j n ne, removedLink)
 
-  stays : (x : ℕ) → x < slots t → R x ≡ false → live t x ≡ true → live u x ≡ true
-  stays x l r h = live-by u x (λ q.
-      let a = live-in t (link t 0 x) (T .whole) (rule x h .goes 0 (omega arith)) in
-      let b = c .kept x 0 l (omega arith) r in
-      omega arith)
+  found-link : marked m x ≡ false → removedLink n t m x n ≡ outside n t m (slots t) (link t n x)
+  unfolding removedLink
+  found-link e = rw (e, eq-eqb n n refl, removedLink)
 
-  was : (x : ℕ) → x < slots t → live u x ≡ true → (R x ≡ false) × (live t x ≡ true)
-  was x l h = go (bool-cases (R x)) (bool-cases (live t x))
+module _ {n : ℕ} {t m : List ℕ} (L : Layer n t m) where
+  abbrev whole : length t ≡ 4 * slots t
+  whole = L .table .whole
+
+  low : n < 4
+  low = let dim = L .table .dim in omega arith
+
+  -- an unused slot is not marked, and its link n does not lead to a marked one
+  unmarked : (x : ℕ) → live t x ≡ false → marked m x ≡ false
+  unmarked x dead = test (marked m x) (λ e. absurd (clash (L .lives x e) dead)) (λ e. e)
+
+  next-lives : (x : ℕ) → marked m (link t n x) ≡ true → live t x ≡ true
+  next-lives x e = test (live t x) (λ l. l) (λ dead.
+      let below = live-in t (link t n x) whole (L .lives (link t n x) e) in
+      let few = L .table .few in
+      let at = dead-link t x dead n low in
+      absurd (omega arith))
+
+  -- link j of x is v, where the rule gives v, and v is `unused` past the slots
+  new-link : (x j v : ℕ) → j < 4 → removedLink n t m x j ≡ v → (slots t ≤ x → unused ≡ v) → link (removed n t m) j x ≡ v
+  unfolding removed
+  new-link x j v b e beyond = if-lt x (slots t) (λ low. link-retable t (removedLink n t m) whole x j low b ∙ e)
+      (λ out. link-out (removed n t m) x fits (rw same out) j ∙ beyond out)
     where
-      off : ((j : ℕ) → j < 4 → link u j x ≡ unused) → ⊥
-      off k = clash h (dead-by u x (k 0 (omega arith)) (k 1 (omega arith)) (k 2 (omega arith)) (k 3 (omega arith)))
+      same : slots (removed n t m) ≡ slots t
+      same = slots-retable t (removedLink n t m) whole
 
-      go : (R x ≡ true) ⊎ (R x ≡ false) → (live t x ≡ true) ⊎ (live t x ≡ false) → (R x ≡ false) × (live t x ≡ true)
-      go (inl r) e = absurd (off (λ j b. c .gone x j l b r))
-      go (inr r) (inl e) = (r, e)
-      go (inr r) (inr e) = absurd (off (λ j b. c .kept x j l b r ∙ dead-link t x e j b))
+      fits : length (removed n t m) ≡ 4 * slots (removed n t m)
+      fits = rw same (length-retable t (removedLink n t m) whole ∙ whole)
 
-  pub clear-map : Map n u
-  clear-map = record { rule = λ d l h. let b = rw (c .slots-same) at l in let w = was d b h in at d b (w .0) (w .1) }
+  layer-removes : Removes n t m (removed n t m)
+  unfolding removed
+  layer-removes = record {
+    long = length-retable t (removedLink n t m) whole;
+    gone = λ x j b e. new-link x j unused b (gone-link n t m x j e) (λ _. refl);
+    found = λ x out e.
+        let l = next-lives x e in
+        let at = link-retable t (removedLink n t m) whole x n (live-in t x whole l) low ∙ found-link n t m x out in
+        rw at (walk-ends L x l out);
+    stays = λ x j b ne e. new-link x j (link t j x) b (stays-link n t m x j e ne) (λ out. sym (link-out t x whole out j));
+    keeps = λ x e next.
+        let stops = outside-stops n t m (slots t) (link t n x) next in
+        new-link x n (link t n x) low (found-link n t m x e ∙ stops) (λ out. sym (link-out t x whole out n));
+  }
+
+-- ---- what follows of any such table
+
+module _ {n : ℕ} {t m u : List ℕ} (L : Layer n t m) (R : Removes n t m u) where
+  abbrev B : BlockTable n t
+  B = L .table
+
+  -- a dart that is live and not taken away
+  abbrev Remains : ℕ → Type 0
+  Remains x = (live t x ≡ true) × (marked m x ≡ false)
+
+  pub layer-slots : slots u ≡ slots t
+  unfolding slots
+  layer-slots = rw (R .long)
+
+  -- the new link n of a remaining dart is the first dart outside on the walk; where that begins outside, it is the old one
+  layer-walk : (x : ℕ) → marked m x ≡ false → FirstOutside n t m (link u n x) (link t n x)
+  layer-walk x out = test (marked m (link t n x)) (R .found x out) (λ e.
+      let same = R .keeps x out e in
+      record { reached = arrived (sym same); outside = ap (marked m) same ∙ e })
+
+  new-remains : (x : ℕ) → Remains x → Remains (link u n x)
+  new-remains x (l, out) = let w = layer-walk x out in (walk-live L x l out w, w .outside)
+
+  layer-mutual : (x : ℕ) → live t x ≡ true → marked m x ≡ false → link u n (link u n x) ≡ x
+  layer-mutual x l out =
+      let w = layer-walk x out in
+      outside-unique (layer-walk (link u n x) (w .outside)) (walk-back L x l out w)
+
+  link-remains : (x j : ℕ) → j < 4 → j ≢ n → Remains x → Remains (link t j x)
+  link-remains x j b ne (l, out) = if-lt j n (λ h. (rule-at (mapTable B) x l .goes j b, stays-outside L x j h l out)) (λ h.
+      let dim = B .dim in
+      let three : j ≡ 3 = omega arith in
+      rw (three, rule-at (mapTable B) x l .plane (omega arith)) (l, out))
+
+  new-far : (x j : ℕ) → j + 2 ≤ n → Remains x → link u n (link t j x) ≡ link t j (link u n x)
+  new-far x j far (l, out) =
+      let four = low L in
+      let next = link-remains x j (omega arith) (omega arith) (l, out) in
+      outside-unique (layer-walk (link t j x) (next .1)) (walk-far L x l out j far (layer-walk x out))
+
+  stays : (x j : ℕ) → j < 4 → j ≢ n → Remains x → link u j x ≡ link t j x
+  stays x j b ne r = R .stays x j b ne (r .1)
+
+  -- a slot that was unused stays so
+  stays-unused : (x : ℕ) → live t x ≡ false → live u x ≡ false
+  stays-unused x dead = live-same t u x (λ j b. if-eq j n (λ e. rw e (R .keeps x out next)) (λ ne. R .stays x j b ne out)) ∙ dead
     where
-      at : (d : ℕ) → d < slots t → R d ≡ false → live t d ≡ true → Rule n u d
-      at d l r e = record {
-        goes = λ j b. rw (hop d j l b r e) (stays (link t j d) (inn d j b e) (c .shut d j b e r) (rule d e .goes j b));
-        comes = λ j b. rw (hop d j l b r e, hop (link t j d) j (inn d j b e) b (c .shut d j b e r) (rule d e .goes j b)) (rule d e .comes j b);
-        cross = λ a b ab bn. four a b (omega arith) (omega arith) ∙ rule d e .cross a b ab bn;
-        plane = λ p. hop d 3 l (omega arith) r e ∙ rule d e .plane p;
-      }
-        where
-          hop : (x j : ℕ) → x < slots t → j < 4 → R x ≡ false → live t x ≡ true → link u j x ≡ link t j x
-          hop x j l′ b r′ e′ = c .kept x j l′ b r′
+      out : marked m x ≡ false
+      out = unmarked L x dead
 
-          inn : (x j : ℕ) → j < 4 → live t x ≡ true → link t j x < slots t
-          inn x j b e′ = live-in t (link t j x) (T .whole) (rule x e′ .goes j b)
+      next : marked m (link t n x) ≡ false
+      next = test (marked m (link t n x)) (λ e. absurd (clash (next-lives L x e) dead)) (λ e. e)
 
-          four : (a b : ℕ) → a < 4 → b < 4 → link u b (link u a (link u b (link u a d))) ≡ link t b (link t a (link t b (link t a d)))
-          four a b ha hb =
-              let e₁ = rule d e .goes a ha in
-              let r₁ = c .shut d a ha e r in
-              let e₂ = rule (link t a d) e₁ .goes b hb in
-              let r₂ = c .shut (link t a d) b hb e₁ r₁ in
-              let e₃ = rule (link t b (link t a d)) e₂ .goes a ha in
-              let r₃ = c .shut (link t b (link t a d)) a ha e₂ r₂ in
-              rw (
-                c .kept d a l ha r,
-                c .kept (link t a d) b (live-in t _ (T .whole) e₁) hb r₁,
-                c .kept (link t b (link t a d)) a (live-in t _ (T .whole) e₂) ha r₂,
-                c .kept (link t a (link t b (link t a d))) b (live-in t _ (T .whole) e₃) hb r₃,
-              )
-
--- ---- the opposite side, in a block map
-
-abbrev opp : ℕ → List ℕ → ℕ → ℕ
-opp n t x = walk t (opposite n) x
-
-pub walk-append : (t v w : List ℕ) (x : ℕ) → walk t (v ++ w) x ≡ walk t w (walk t v x)
-unfolding walk
-walk-append t [] w x = refl
-walk-append t (i ∷ v) w x = walk-append t v w (link t i x)
-
--- the facts of the rows, computed
-opp-rows : ℕ → Bool
-opp-rows n =
-    small n (opposite n) && small n (opposite n ++ opposite n) && eqb (rowWalk n (opposite n ++ opposite n) 0) (rowWalk n [] 0)
-    && allBelow (n - 1) (λ j. small n (j ∷ opposite n) && small n (opposite n ++ (j ∷ [])) && eqb (rowWalk n (j ∷ opposite n) 0) (rowWalk n (opposite n ++ (j ∷ [])) 0))
-
-opp-rows-true : (n : ℕ) → Dim n → opp-rows n ≡ true
-unfolding everything opp-rows rowWalk small
-opp-rows-true n n23 = two-cases n n23 (λ n. opp-rows n ≡ true) refl refl
-
-module _ {n : ℕ} {t : List ℕ} (B : BlockTable n t) where
-  o : List ℕ
-  o = opposite n
-
-  rows : opp-rows n ≡ true
-  rows = opp-rows-true n (B .dim)
-
-  n3 : n ≤ 3
-  n3 = B .dim .1
-
-  rule′ : (y : ℕ) → live t y ≡ true → Rule n t y
-  rule′ y h = rule-at (mapTable B) y h
-
-  agree : (d : ℕ) → live t d ≡ true → (v w : List ℕ) → small n v ≡ true → small n w ≡ true → rowWalk n v 0 ≡ rowWalk n w 0 → walk t v d ≡ walk t w d
-  agree d l = cell-words (mapTable B) d l (B .good d l)
-
-  opp-opp : (d : ℕ) → live t d ≡ true → opp n t (opp n t d) ≡ d
-  unfolding opp-rows small walk
-  opp-opp d l = sym (walk-append t (opposite n) (opposite n) d) ∙ agree d l (opposite n ++ opposite n) [] s₂ refl (eqb-true _ _ e)
+  ruled : Ruled n u Remains
+  ruled = record {
+    few = rw layer-slots (B .few);
+    inside = λ x r. rw layer-slots (live-in t x (B .whole) (r .0));
+    other = λ x _. test (live t x) (λ l. test (marked m x) (λ e. inr (gone x e)) (λ e. inl (l, e))) (λ l. inr (stays-unused x l));
+    goes = λ x j b r. if-eq j n (λ e. rw e (new-remains x r)) (λ ne. rw (stays x j b ne r) (link-remains x j b ne r));
+    comes = λ x j b r. if-eq j n (λ e. rw e (layer-mutual x (r .0) (r .1)))
+        (λ ne. rw (stays x j b ne r, stays (link t j x) j b ne (link-remains x j b ne r)) (rule x r .comes j b));
+    cross = λ x i j far le r.
+        if-eq j n (λ e. rw e (cross-n x i (omega arith) r)) (λ ne. cross-stays x i j far (omega arith) r);
+    plane = λ x two r. stays x 3 (omega arith) (omega arith) r ∙ rule x r .plane two;
+  }
     where
-      a : Bool
-      a = small n (opposite n)
+      rule : (x : ℕ) → Remains x → Rule n t x
+      rule x r = rule-at (mapTable B) x (r .0)
 
-      b : Bool
-      b = small n (opposite n ++ opposite n)
+      gone : (x : ℕ) → marked m x ≡ true → live u x ≡ false
+      gone x e = let at : (j : ℕ) → j < 4 → link u j x ≡ unused = λ j b. R .gone x j b e in
+          dead-by u x (at 0 (omega arith)) (at 1 (omega arith)) (at 2 (omega arith)) (at 3 (omega arith))
 
-      q : Bool
-      q = eqb (rowWalk n (opposite n ++ opposite n) 0) (rowWalk n [] 0)
+      cross-n : (x i : ℕ) → i + 2 ≤ n → Remains x → link u n (link u i (link u n (link u i x))) ≡ x
+      cross-n x i far r =
+          let four = low L in
+          let next = new-remains x r in
+          let back = link-remains (link u n x) i (omega arith) (omega arith) next in
+          rw (
+            stays x i (omega arith) (omega arith) r,
+            new-far x i far r,
+            stays (link t i (link u n x)) i (omega arith) (omega arith) back,
+            rule (link u n x) next .comes i (omega arith),
+          ) (layer-mutual x (r .0) (r .1))
 
-      abq : (a && b && q) ≡ true
-      abq = and-l (a && b && q) _ rows
+      cross-stays : (x i j : ℕ) → i + 2 ≤ j → j < n → Remains x → link u j (link u i (link u j (link u i x))) ≡ x
+      cross-stays x i j far b r =
+          let four = low L in
+          let first = link-remains x i (omega arith) (omega arith) r in
+          let second = link-remains (link t i x) j (omega arith) (omega arith) first in
+          let third = link-remains (link t j (link t i x)) i (omega arith) (omega arith) second in
+          rw (
+            stays x i (omega arith) (omega arith) r,
+            stays (link t i x) j (omega arith) (omega arith) first,
+            stays (link t j (link t i x)) i (omega arith) (omega arith) second,
+            stays (link t i (link t j (link t i x))) j (omega arith) (omega arith) third,
+          )
+          (rule x r .cross i j far (omega arith))
 
-      s₂ : b ≡ true
-      s₂ = and-r a b (and-l (a && b) q abq)
+  layer-table : MapTable n u
+  layer-table = ruled-table (B .dim) (rw layer-slots (R .long ∙ B .whole)) ruled
 
-      e : q ≡ true
-      e = and-r (a && b) q abq
+  -- the live slots are the remaining ones
+  pub layer-live : (x : ℕ) → (live u x ≡ true) ↔ ((live t x ≡ true) × (marked m x ≡ false))
+  layer-live x = (λ l. of-live n u Remains ruled x (live-below layer-table x l) l, live-of n u Remains ruled x)
 
-  opp-far : (d j : ℕ) → live t d ≡ true → j + 2 ≤ n → opp n t (link t j d) ≡ link t j (opp n t d)
-  unfolding opp-rows walk
-  opp-far d j l h = agree d l (j ∷ opposite n) (opposite n ++ (j ∷ [])) (and-l p q pq) (and-r p q pq) (eqb-true _ _ (and-r (p && q) r pqr)) ∙ walk-append t (opposite n) (j ∷ []) d
+  layer-block : BlockTable n u
+  layer-block = block-by layer-table (λ x l. charted x (layer-live x .0 l))
     where
-      p : Bool
-      p = small n (j ∷ opposite n)
+      charted : (x : ℕ) → Remains x → Charted n u x
+      charted x (l, out) =
+          let some = size-some n (B .dim) in
+          let at : (k : ℕ) → k < cellSize n → Remains (place n t x k)
+          = λ k b. (place-live B x k l b, place-keep B (λ y. marked m y ≡ false) (λ y j. stays-outside L y j) x k l b out) in
+          record {
+            c = place n t x;
+            chart = chart-kept B u (place n t x) (place-chart B x l)
+                (λ i k b low. stays (place n t x k) i (omega arith) (omega arith) (at k low));
+            base = layer-live (place n t x 0) .1 (at 0 some);
+            k = 0;
+            low = some;
+            is = place-zero B x l;
+          }
 
-      q : Bool
-      q = small n (opposite n ++ (j ∷ []))
+  layer-turns : (x y : ℕ) → live t x ≡ true → marked m x ≡ false → Reaches n t m y (link t n x) → marked m y ≡ true
+      → link t n (walk t (opposite n) y) ≡ walk t (opposite n) y → link u n x ≡ x
+  layer-turns x y l out p e free = outside-unique (layer-walk x out) (walk-turns L x l out y p e free)
 
-      r : Bool
-      r = eqb (rowWalk n (j ∷ opposite n) 0) (rowWalk n (opposite n ++ (j ∷ [])) 0)
+  layer-all : ((x : ℕ) → live t x ≡ true → marked m x ≡ true) → (x : ℕ) → live u x ≡ false
+  layer-all all x = test (live u x) (λ e. let r = layer-live x .0 e in absurd (clash (all x (r .0)) (r .1))) (λ e. e)
 
-      pqr : (p && q && r) ≡ true
-      pqr = below-at (λ j. small n (j ∷ opposite n) && small n (opposite n ++ (j ∷ [])) && eqb (rowWalk n (j ∷ opposite n) 0) (rowWalk n (opposite n ++ (j ∷ [])) 0)) (n - 1)
-          (and-r (small n (opposite n) && small n (opposite n ++ opposite n) && eqb (rowWalk n (opposite n ++ opposite n) 0) (rowWalk n [] 0)) _ rows) j (omega arith)
+-- ---- remove, with the marks of a sheet
 
-      pq : (p && q) ≡ true
-      pq = and-l (p && q) r pqr
+module _ {n : ℕ} {t : List ℕ} {d : ℕ} (D : BlockDart n t d) where
+  abbrev L : Layer n t (marksOf n t d)
+  L = sheet-layer D
 
-  opp-small : small n (opposite n) ≡ true
-  unfolding opp-rows
-  opp-small = and-l (small n (opposite n)) (small n (opposite n ++ opposite n)) (and-l (small n (opposite n) && small n (opposite n ++ opposite n)) _ (and-l (small n (opposite n) && small n (opposite n ++ opposite n) && eqb (rowWalk n (opposite n ++ opposite n) 0) (rowWalk n [] 0)) _ rows))
+  pub remove-removes : Removes n t (marksOf n t d) (removeTable n t d)
+  unfolding removeTable
+  remove-removes = layer-removes L
 
-  opp-live : (x : ℕ) → live t x ≡ true → live t (opp n t x) ≡ true
-  opp-live x l = keep B (λ _. Unit {0}) (λ x j b l _. tt) (opposite n) opp-small x l tt .0
+  pub remove-block : BlockTable n (removeTable n t d)
+  remove-block = layer-block L remove-removes
 
-  -- ---- the walk across the removed cells
+  -- the walk from a remaining dart ends, at a live dart: its new link n
+  pub remove-walk : (x : ℕ) → live t x ≡ true → marked (marksOf n t d) x ≡ false
+      → FirstOutside n t (marksOf n t d) (link (removeTable n t d) n x) (link t n x)
+      × (live t (link (removeTable n t d) n x) ≡ true)
+  remove-walk x l out = let w = layer-walk L remove-removes x out in (w, walk-live L x l out w)
 
-  module _ (mk : List ℕ) (R-live : (x : ℕ) → marked mk x ≡ true → live t x ≡ true)
-      (R-cell : (x j : ℕ) → j < n → live t x ≡ true → marked mk x ≡ true → marked mk (link t j x) ≡ true) where
-    abbrev R : ℕ → Bool
-    R x = marked mk x
+  pub remove-live : (x : ℕ) → (live (removeTable n t d) x ≡ true) ↔ ((live t x ≡ true) × (marked (marksOf n t d) x ≡ false))
+  remove-live = layer-live L remove-removes
 
-    abbrev h : ℕ → ℕ
-    h y = hop n t y
+  pub remove-mutual : (x : ℕ) → live t x ≡ true → marked (marksOf n t d) x ≡ false
+      → link (removeTable n t d) n (link (removeTable n t d) n x) ≡ x
+  remove-mutual = layer-mutual L remove-removes
 
-    R-off : (x j : ℕ) → j < n → live t x ≡ true → R x ≡ false → R (link t j x) ≡ false
-    R-off x j b l r = go (bool-cases (marked mk (link t j x)))
-      where
-        go : (marked mk (link t j x) ≡ true) ⊎ (marked mk (link t j x) ≡ false) → marked mk (link t j x) ≡ false
-        go (inl e) =
-            let c = n3 in
-            absurd (clash (subst (λ (z : ℕ). marked mk z ≡ true) (rule′ x l .comes j (omega arith)) (R-cell (link t j x) j b (rule′ x l .goes j (omega arith)) e)) r)
-        go (inr e) = e
+  -- where the walk from x meets a dart y whose opposite side is n-free, x becomes n-free
+  pub remove-turns : (x y : ℕ) → live t x ≡ true → marked (marksOf n t d) x ≡ false
+      → Reaches n t (marksOf n t d) y (link t n x) → marked (marksOf n t d) y ≡ true
+      → link t n (walk t (opposite n) y) ≡ walk t (opposite n) y → link (removeTable n t d) n x ≡ x
+  remove-turns = layer-turns L remove-removes
 
-    R-opp : (x : ℕ) → R x ≡ true → R (opp n t x) ≡ true
-    R-opp x r = keep B (λ y. marked mk y ≡ true) (λ y j b l p. R-cell y j b l p) (opposite n) opp-small x (R-live x r) r .1
-
-    h-live : (y : ℕ) → live t y ≡ true → live t (h y) ≡ true
-    unfolding hop
-    h-live y l = let c = n3 in rule′ (opp n t y) (opp-live y l) .goes n (omega arith)
-
-    h-back : (y : ℕ) → live t y ≡ true → link t n (h y) ≡ opp n t y
-    unfolding hop
-    h-back y l = let c = n3 in rule′ (opp n t y) (opp-live y l) .comes n (omega arith)
-
-    abbrev Run : ℕ → ℕ → Type 0
-    Run z y = FirstOutside n t mk z y
-
-    -- there is one only
-    pub run-one : (z w y : ℕ) → FirstOutside n t mk z y → FirstOutside n t mk w y → z ≡ w
-    run-one z w y (stop r e) (stop r′ e′) = sym e ∙ e′
-    run-one z w y (stop r e) (onward r′ q) = absurd (clash r′ r)
-    run-one z w y (onward r p) (stop r′ e′) = absurd (clash r r′)
-    run-one z w y (onward r p) (onward r′ q) = run-one z w (h y) p q
-
-    run-live : (z y : ℕ) → live t y ≡ true → Run z y → (live t z ≡ true) × (R z ≡ false)
-    run-live z y l (stop r e) = (subst (λ (k : ℕ). live t k ≡ true) e l, subst (λ (k : ℕ). R k ≡ false) e r)
-    run-live z y l (onward r p) = run-live z (h y) (h-live y l) p
-
-    turned : (y : ℕ) → live t y ≡ true → link t n y ≡ h (opp n t y)
-    unfolding hop
-    turned y l = ap (link t n) (sym (opp-opp y l))
-
-    run-back : (x z y : ℕ) → live t y ≡ true → Run z y → Run x (link t n y) → Run x (link t n z)
-    run-back x z y l (stop r e) q = subst (λ (k : ℕ). Run x (link t n k)) e q
-    run-back x z y l (onward r p) q =
-        run-back x z (h y) (h-live y l) p (subst (Run x) (sym (h-back y l)) (onward (R-opp y r) (subst (Run x) (turned y l) q)))
-
-    beside : (y j : ℕ) → live t y ≡ true → j + 2 ≤ n → h (link t j y) ≡ link t j (h y)
-    unfolding hop
-    beside y j l f = ap (link t n) (opp-far y j l f) ∙ past n t (opp n t y) n3 (B .whole) (B .map) (opp-live y l) n j (le-refl n) (omega arith) (inr f)
-
-    run-far : (z y j : ℕ) → live t y ≡ true → j + 2 ≤ n → Run z y → Run (link t j z) (link t j y)
-    run-far z y j l f (stop r e) = stop (R-off y j (omega arith) l r) (ap (link t j) e)
-    run-far z y j l f (onward r p) = onward (R-cell y j (omega arith) l r) (subst (Run (link t j z)) (sym (beside y j l f)) (run-far z (h y) j (h-live y l) f p))
-
-    -- ---- a dart's new link
-
-    out-step : (k y : ℕ) → R y ≡ true → outside n t mk (suc k) y ≡ outside n t mk k (h y)
-    unfolding outside hop
-    out-step k y e = rw (e, outside)
-
-    out-stop : (k y : ℕ) → R y ≡ false → outside n t mk k y ≡ y
-    unfolding outside
-    out-stop zero y e = refl
-    out-stop (suc k) y e = rw (e, outside)
-
-    run-out : (k y : ℕ) → R (outside n t mk k y) ≡ false → Run (outside n t mk k y) y
-    unfolding outside
-    run-out zero y r = stop r refl
-    run-out (suc k) y r = go (run-out k (h y)) (bool-cases (R y))
-      where
-        go : (R (outside n t mk k (h y)) ≡ false → Run (outside n t mk k (h y)) (h y)) → (R y ≡ true) ⊎ (R y ≡ false) → Run (outside n t mk (suc k) y) y
-        go rec (inl e) = subst (λ (z : ℕ). Run z y) (sym (out-step k y e)) (onward e (rec (subst (λ (z : ℕ). R z ≡ false) (out-step k y e) r)))
-        go rec (inr e) = stop e (sym (out-stop (suc k) y e))
-
-    out-same : (one : (y z : ℕ) → R y ≡ true → R z ≡ true → h y ≡ h z → y ≡ z) (y₀ : ℕ) (fresh : (y : ℕ) → R y ≡ true → h y ≡ y₀ → ⊥)
-        → (k y : ℕ) → outside n t mk k y ≡ out (slots t) R h y₀ (λ y r. live-in t y (B .whole) (R-live y r)) one fresh k y
-    unfolding outside out
-    out-same one y₀ fresh zero y = refl
-    out-same one y₀ fresh (suc k) y = go (out-same one y₀ fresh k (h y)) (bool-cases (R y))
-      where
-        ins : (y : ℕ) → R y ≡ true → y < slots t
-        ins y r = live-in t y (B .whole) (R-live y r)
-
-        go : outside n t mk k (h y) ≡ out (slots t) R h y₀ ins one fresh k (h y) → (R y ≡ true) ⊎ (R y ≡ false) → outside n t mk (suc k) y ≡ out (slots t) R h y₀ ins one fresh (suc k) y
-        go rec (inl e) = out-step k y e ∙ rec ∙ rw (e, out)
-        go rec (inr e) = out-stop (suc k) y e ∙ rw (e, out)
-
-    leaves : (x : ℕ) → live t x ≡ true → R x ≡ false → R (outside n t mk (slots t) (link t n x)) ≡ false
-    leaves x l r = ap R (out-same one (link t n x) fresh (slots t) (link t n x)) ∙ escapes (slots t) R h (link t n x) (λ y q. live-in t y (B .whole) (R-live y q)) one fresh
-      where
-        one : (y z : ℕ) → R y ≡ true → R z ≡ true → h y ≡ h z → y ≡ z
-        one y z a b e = sym (opp-opp y (R-live y a)) ∙ ap (opp n t) (sym (h-back y (R-live y a)) ∙ ap (link t n) e ∙ h-back z (R-live z b)) ∙ opp-opp z (R-live z b)
-
-        fresh : (y : ℕ) → R y ≡ true → h y ≡ link t n x → ⊥
-        fresh y a e = let c = n3 in clash (subst (λ (z : ℕ). R z ≡ true) (sym (h-back y (R-live y a)) ∙ ap (link t n) e ∙ rule′ x l .comes n (omega arith)) (R-opp y a)) r
-
-    g : ℕ → ℕ
-    g x = elim (R x) [ true ↦ x | false ↦ outside n t mk (slots t) (link t n x) ]
-
-    g-gone : (x : ℕ) → R x ≡ true → g x ≡ x
-    unfolding g
-    g-gone x e = rw (e, g)
-
-    g-stays : (x : ℕ) → R x ≡ false → g x ≡ outside n t mk (slots t) (link t n x)
-    unfolding g
-    g-stays x e = rw (e, g)
-
-    g-run : (x : ℕ) → live t x ≡ true → R x ≡ false → Run (g x) (link t n x)
-    g-run x l r = subst (λ (z : ℕ). Run z (link t n x)) (sym (g-stays x r)) (run-out (slots t) (link t n x) (leaves x l r))
-
-    n-live : (x : ℕ) → live t x ≡ true → live t (link t n x) ≡ true
-    n-live x l = let c = n3 in rule′ x l .goes n (omega arith)
-
-    remove-change : Relinking n t n g
-    remove-change = record {
-      goes = λ x l. goes x l (bool-cases (R x));
-      comes = λ x l. comes x l (bool-cases (R x));
-      far = λ x j l f b. far x j l (near f b) (bool-cases (R x));
-      dead = λ x e. dead x e;
-    }
-      where
-        near : {j : ℕ} → Far n j → j ≤ n → j + 2 ≤ n
-        near (inl f) b = absurd (omega arith)
-        near (inr f) b = f
-
-        goes : (x : ℕ) → live t x ≡ true → (R x ≡ true) ⊎ (R x ≡ false) → live t (g x) ≡ true
-        goes x l (inl e) = rw (g-gone x e) l
-        goes x l (inr e) = run-live (g x) (link t n x) (n-live x l) (g-run x l e) .0
-
-        comes : (x : ℕ) → live t x ≡ true → (R x ≡ true) ⊎ (R x ≡ false) → g (g x) ≡ x
-        comes x l (inl e) = ap g (g-gone x e) ∙ g-gone x e
-        comes x l (inr e) =
-            let c = n3 in
-            let a = g-run x l e in
-            let z = run-live (g x) (link t n x) (n-live x l) a in
-            run-one (g (g x)) x (link t n (g x)) (g-run (g x) (z .0) (z .1)) (run-back x (g x) (link t n x) (n-live x l) a (stop (ap R (rule′ x l .comes n (omega arith)) ∙ e) (rule′ x l .comes n (omega arith))))
-
-        far : (x j : ℕ) → live t x ≡ true → j + 2 ≤ n → (R x ≡ true) ⊎ (R x ≡ false) → g (link t j x) ≡ link t j (g x)
-        far x j l f (inl e) = g-gone (link t j x) (R-cell x j (omega arith) l e) ∙ ap (link t j) (sym (g-gone x e))
-        far x j l f (inr e) =
-            let c = n3 in
-            let b = rule′ x l .goes j (omega arith) in
-            run-one (g (link t j x)) (link t j (g x)) (link t n (link t j x)) (g-run (link t j x) b (R-off x j (omega arith) l e))
-            (subst (Run (link t j (g x))) (sym (past n t x n3 (B .whole) (B .map) l n j (le-refl n) (omega arith) (inr f))) (run-far (g x) (link t n x) j (n-live x l) f (g-run x l e)))
-
-        dead : (x : ℕ) → live t x ≡ false → g x ≡ unused
-        dead x e = g-stays x (not-live x e) ∙ ap (outside n t mk (slots t)) q ∙ out-stop (slots t) unused far-off
-          where
-            not-live : (x : ℕ) → live t x ≡ false → R x ≡ false
-            not-live x e = go (bool-cases (R x))
-              where
-                go : (R x ≡ true) ⊎ (R x ≡ false) → R x ≡ false
-                go (inl r) = absurd (clash (R-live x r) e)
-                go (inr r) = r
-
-            q : link t n x ≡ unused
-            q = let c = n3 in dead-link t x e n (omega arith)
-
-            far-off : R unused ≡ false
-            far-off = go (bool-cases (R unused))
-              where
-                go : (R unused ≡ true) ⊎ (R unused ≡ false) → R unused ≡ false
-                go (inl r) = let a = live-in t unused (B .whole) (R-live unused r) in let b = B .few in absurd (omega arith)
-                go (inr r) = r
-
-    -- ---- and the removed table
-
-    gone-at : (x j : ℕ) → R x ≡ true → removedLink n t mk x j ≡ unused
-    unfolding removedLink
-    gone-at x j e = rw (e, removedLink)
-
-    stays-at : (x j : ℕ) → R x ≡ false → removedLink n t mk x j ≡ relinkAt t n g x j
-    unfolding removedLink relinkAt
-    stays-at x j e = go (bool-cases (eqb j n))
-      where
-        go : (eqb j n ≡ true) ⊎ (eqb j n ≡ false) → removedLink n t mk x j ≡ relinkAt t n g x j
-        go (inl q) = rw (e, q, removedLink, relinkAt) (sym (g-stays x e))
-        go (inr q) = rw (e, q, removedLink, relinkAt)
-
-    relinked : MapTable n (relink t n g)
-    relinked = relink-table (mapTable B) (le-refl n) remove-change
-
-    same-slots : slots (relink t n g) ≡ slots t
-    same-slots = relink-slots (mapTable B) (le-refl n) remove-change
-
-    new-link : (x j : ℕ) → x < slots t → j < 4 → link (relink t n g) j x ≡ relinkAt t n g x j
-    new-link = relink-link (mapTable B) (le-refl n) remove-change
-
-    cleared : Cleared (relink t n g) (removed n t mk) R
-    unfolding removed
-    cleared = record {
-      slots-same = slots-retable t (removedLink n t mk) (B .whole) ∙ sym same-slots;
-      gone = λ x j l b e. link-retable t (removedLink n t mk) (B .whole) x j (rw same-slots at l) b ∙ gone-at x j e;
-      kept = λ x j l b e. link-retable t (removedLink n t mk) (B .whole) x j (rw same-slots at l) b ∙ stays-at x j e ∙ sym (new-link x j (rw same-slots at l) b);
-      shut = λ x j b l e. shut x j b l e;
-    }
-      where
-        shut : (x j : ℕ) → j < 4 → live (relink t n g) x ≡ true → R x ≡ false → R (link (relink t n g) j x) ≡ false
-        shut x j b l e = ap R (new-link x j hx b) ∙ go (ℕ-discrete j n) (ltb-or j n)
-          where
-            hx : x < slots t
-            hx = rw same-slots at (live-in (relink t n g) x (relink-fits t n g (B .whole)) l)
-
-            lx : live t x ≡ true
-            lx = sym (relink-live (mapTable B) (le-refl n) remove-change x hx) ∙ l
-
-            go : Dec (j ≡ n) → (j < n) ⊎ (n ≤ j) → R (relinkAt t n g x j) ≡ false
-            go (yes q) z = ap (λ (k : ℕ). R (relinkAt t n g x k)) q ∙ ap R (at-same t n g x) ∙ run-live (g x) (link t n x) (n-live x lx) (g-run x lx e) .1
-            go (no q) (inl z) = ap R (at-other t n g x j q) ∙ R-off x j z lx e
-            go (no q) (inr z) =
-                let c = n3 in
-                let two : n ≡ 2 = two-cases n (B .dim) (λ k. k < j → k ≡ 2) (λ _. refl) (λ w. absurd (omega arith)) (omega arith) in
-                let j3 : j ≡ 3 = omega arith in
-                ap R (at-other t n g x j q ∙ ap (λ (k : ℕ). link t k x) j3 ∙ rule′ x lx .plane two) ∙ e
-
-    pub remove-map : Map n (removed n t mk)
-    remove-map = clear-map relinked cleared
-
-    abbrev v : List ℕ
-    v = removed n t mk
-
-    v-slots : slots v ≡ slots t
-    unfolding removed
-    v-slots = slots-retable t (removedLink n t mk) (B .whole)
-
-    v-fits : length v ≡ 4 * slots v
-    unfolding removed
-    v-fits = length-retable t (removedLink n t mk) (B .whole) ∙ B .whole ∙ ap (λ (k : ℕ). 4 * k) (sym v-slots)
-
-    -- a dart that is not removed keeps its links below n
-    pub remove-stays : (x j : ℕ) → j < n → live t x ≡ true → R x ≡ false → link v j x ≡ link t j x
-    unfolding removed
-    remove-stays x j b l e = let c = n3 in link-retable t (removedLink n t mk) (B .whole) x j (live-in t x (B .whole) l) (omega arith) ∙ stays-at x j e ∙ at-other t n g x j (omega arith)
-
-    -- its link n leads to the first dart outside on the walk
-    pub remove-walk : (x : ℕ) → live t x ≡ true → R x ≡ false → FirstOutside n t mk (link v n x) (link t n x)
-    unfolding removed
-    remove-walk x l e = let c = n3 in
-        subst (λ (z : ℕ). Run z (link t n x)) (sym (link-retable t (removedLink n t mk) (B .whole) x n (live-in t x (B .whole) l) (omega arith) ∙ stays-at x n e ∙ at-same t n g x)) (g-run x l e)
-
-    -- and a removed dart is unused
-    pub remove-gone : (x j : ℕ) → j < 4 → R x ≡ true → link v j x ≡ unused
-    unfolding removed
-    remove-gone x j b e = link-retable t (removedLink n t mk) (B .whole) x j (live-in t x (B .whole) (R-live x e)) b ∙ gone-at x j e
-
-    pub remove-live : (x : ℕ) → live v x ≡ true → (R x ≡ false) × (live t x ≡ true)
-    remove-live x l =
-        let b : x < slots t = rw v-slots at (live-in v x v-fits l) in
-        let c = same-slots in
-        let w = was relinked cleared x (omega arith) l in
-        (w .0, sym (relink-live (mapTable B) (le-refl n) remove-change x b) ∙ w .1)
-
-    live-stays : (x : ℕ) → live t x ≡ true → R x ≡ false → live v x ≡ true
-    live-stays x l e = live-by v x (λ q.
-        let c = n3 in
-        let p : 0 < n = let two = B .dim .0 in omega arith in
-        let a = remove-stays x 0 p l e in
-        let h = live-in t (link t 0 x) (B .whole) (rule′ x l .goes 0 (omega arith)) in
-        let f = B .few in
-        omega arith)
-
-    remove-table : MapTable n v
-    remove-table = record { dim = B .dim; whole = v-fits; few = let a = v-slots in let b = B .few in omega arith; map = remove-map }
-
-    pub remove-block : BlockTable n (removed n t mk)
-    remove-block = block-by remove-table (λ x l. charted x (remove-live x l))
-      where
-        stays : (x k : ℕ) → live t x ≡ true → R x ≡ false → k < cellSize n → R (place n t x k) ≡ false
-        stays x k l e h = place-keep B (λ y. R y ≡ false) (λ y j b ly p. R-off y j b ly p) x k l h e
-
-        charted : (x : ℕ) → (R x ≡ false) × (live t x ≡ true) → Charted n v x
-        charted x w = record {
-          c = place n t x;
-          chart = chart-kept B v (place n t x) (place-chart B x (w .1)) (λ i k hi hk. remove-stays (place n t x k) i hi (place-live B x k (w .1) hk) (stays x k (w .1) (w .0) hk));
-          base = live-stays (place n t x 0) (place-live B x 0 (w .1) (size-some n (B .dim))) (stays x 0 (w .1) (w .0) (size-some n (B .dim)));
-          k = 0;
-          low = size-some n (B .dim);
-          is = place-zero B x (w .1);
-        }
+  -- "Removing all is accepted."
+  pub remove-all : ((x : ℕ) → live t x ≡ true → marked (marksOf n t d) x ≡ true) → (x : ℕ) → live (removeTable n t d) x ≡ false
+  remove-all = layer-all L remove-removes

@@ -12,9 +12,9 @@ use borrow.Author.Tests.{eqb-false, eq-eqb, ne-eqb, ltb-true, not-true}
 use Rattle.model.specs.Table.{link, walk}
 use Rattle.model.specs.Split.{newDart, newDartLink, halved}
 use Rattle.model.specs.Meaning.Maps.{BlockTable, Rule}
-use Rattle.model.proofs.Lists.Scan.{and-l, and-r, if-eq}
+use Rattle.model.proofs.Lists.Scan.{and-l, and-r, if-eq, or-cases}
 use Rattle.model.proofs.Maps.Tables.{mapTable, rule-at}
-use Rattle.model.proofs.Cells.Places.{same, same-eq, or-cases}
+use Rattle.model.proofs.Cells.Places.{same, same-eq}
 use Rattle.model.proofs.Layers.Sheet.{Sheet}
 use Rattle.model.proofs.Layers.Cut.{Cut, split-cut, new-link, split-kept}
 

@@ -1,92 +1,151 @@
--- A sheet whose darts do not cross meets each cell in no dart, or in 4 (n = 2) or 16 (n = 3).
-use Prim.Native.Nat.{ℕ, _<_}
-use mathlib.Core.Path.{_≡_, sym, ap, _∙_, subst}
-use mathlib.Core.Logic.{_⊎_, inl, inr}
-use mathlib.Core.Bool.{Bool, true, not}
-use mathlib.Core.List.{List, List·Memᴰ as In, Memᴰ·cast as in-cast}
+-- How a sheet meets a cell: where 13 is not given, in no dart or in exactly 4 (n = 2) or 16 (n = 3) (sheet-share);
+-- 13 is given exactly if it meets some cell in more (crosses-share).
+use Prim.Native.Nat.{ℕ, _≤_, _<_}
+use mathlib.Core.Path.{_≡_, sym, ap, _∙_}
+use mathlib.Core.Logic.{_⊎_, inl, inr, _↔_, ⊎-elim}
+use mathlib.Core.Bool.{true, false, _&&_}
+use mathlib.Core.List.{List, _∷_, List·Memᴰ as In, List·Memᴰ·cases-cons as in-cons, Memᴰ·cast as in-cast}
 use native.Mathlib.Omega.{arith}
-use borrow.Author.Tests.{not-true, not-false}
-use Rattle.model.specs.Lists.{allBelow, count, tabulateFrom}
-use Rattle.model.specs.Table.{link, live, walk}
-use Rattle.model.specs.Cell.{cellSize}
-use Rattle.model.specs.Meaning.Maps.{BlockTable, Dim}
-use Rattle.model.specs.Meaning.Places.{path, place}
+use lib.ListN.{length}
+use borrow.Author.Tests.{eqb-true, eq-eqb}
+use Rattle.model.specs.Lists.{ones, tabulateFrom}
+use Rattle.model.specs.Table.{slots, link, live}
+use Rattle.model.specs.Reach.{inSet}
+use Rattle.model.specs.Cell.{cellSize, cellOf}
+use Rattle.model.specs.Numbering.{cellLink}
+use Rattle.model.specs.Sheet.{sheet}
+use Rattle.model.specs.Split.{crosses}
+use Rattle.model.specs.Everything.{everything}
+use Rattle.model.specs.Meaning.Maps.{Dim, MapTable, BlockTable}
+use Rattle.model.specs.Meaning.Places.{place}
 use Rattle.model.specs.Meaning.Sets.{Marked}
-use Rattle.model.specs.Meaning.Sheets.{half, inSheet, hit, shared}
-use Rattle.model.proofs.Lists.Scan.{test, if-lt, clash, below-at, below-not, getD-tab, length-tab, length-tabFrom}
-use Rattle.model.proofs.Sets.Closure.{marked-in}
-use Rattle.model.proofs.Sets.Pigeon.{cover, distinct-le, count-none}
-use Rattle.model.proofs.Lists.Ones.{member-in, in-member}
-use Rattle.model.proofs.Cells.Cell.{rowWalk, walk-rows, row-walk-in, tab-in, in-tab, distinct-tab}
-use Rattle.model.proofs.Cells.Chart.{path-small, place-chart, place-live, place-back, place-one}
-use Rattle.model.proofs.Layers.Sheet.{Sheet}
+use Rattle.model.specs.Meaning.Sheets.{BlockDart, shared, half}
+use Rattle.model.proofs.Lists.Scan.{test, if-lt, and-l, and-r, and-i, length-tabFrom}
+use Rattle.model.proofs.Lists.Ones.{ones-of, ones-in}
+use Rattle.model.proofs.Sets.Pigeon.{Distinct, more}
+use Rattle.model.proofs.Maps.Tables.{mapTable, live-below}
+use Rattle.model.proofs.Maps.Dim.{two-cases, size-some}
+use Rattle.model.proofs.Cells.Cell.{rows-in, all-places, place-in, tab-in, in-tab, distinct-tab}
+use Rattle.model.proofs.Cells.Chart.{Chart, place-chart, place-zero, place-one, cell-same}
+use Rattle.model.proofs.Layers.Counts.{howMany-least, howMany-most, howMany-none}
+use Rattle.model.proofs.Layers.Sheet.{sheet-live, sheet-of, crosses-some, crosses-none}
 use Rattle.model.proofs.Layers.Half.{half-size, in-half, out-crosses}
 
-module _ {n : ℕ} {t : List ℕ} (B : BlockTable n t) (gs : List ℕ) (sh : Sheet n t gs) (parted : (x : ℕ) → In x gs → In (link t 1 x) gs → ⊥) (x : ℕ) (l : live t x ≡ true) where
-  abbrev hits : List ℕ
-  hits = shared n t gs x
+of-both : (r s : List ℕ) (y : ℕ) → (inSet r y && inSet s y) ≡ true → Marked r y × Marked s y
+unfolding inSet
+of-both r s y h = (eqb-true _ _ (and-l (inSet r y) (inSet s y) h), eqb-true _ _ (and-r (inSet r y) (inSet s y) h))
 
-  abbrev spot : ℕ → Bool
-  spot = inSheet n t gs x
+-- in the rows, link 1 leads from the first places to another
+next-out : (n : ℕ) → Dim n → half n ≤ cellLink n 1 0
+unfolding everything half
+next-out n dim = two-cases n dim (λ n. half n ≤ cellLink n 1 0) (omega arith) (omega arith)
 
-  hit-in : (k : ℕ) → Marked hits k → (k < cellSize n) × In (place n t x k) gs
-  unfolding shared hit
-  hit-in k m =
-      let b : k < cellSize n = subst (λ (z : ℕ). k < z) (length-tab (hit n t gs x) (cellSize n)) (marked-in hits k m) in
-      let v = getD-tab (hit n t gs x) (cellSize n) k 0 b in
-      (b, test (spot k) (λ e. member-in gs _ e) (λ e. let z : hit n t gs x k ≡ 0 = rw (e, hit) in absurd (omega arith)))
+module _ {n : ℕ} {t : List ℕ} {d : ℕ} (D : BlockDart n t d) where
+  abbrev B : BlockTable n t
+  B = D .table
 
-  in-hit : (k : ℕ) → k < cellSize n → In (place n t x k) gs → Marked hits k
-  unfolding shared hit
-  in-hit k b i = getD-tab (hit n t gs x) (cellSize n) k 0 b ∙ rw (in-member gs _ i, hit)
+  abbrev T : MapTable n t
+  T = mapTable B
 
-  -- seen from a place of the sheet
-  module _ (k₀ : ℕ) (b₀ : k₀ < cellSize n) (i₀ : In (place n t x k₀) gs) where
-    abbrev g : ℕ
-    g = place n t x k₀
+  abbrev S : List ℕ
+  S = sheet n t d
 
-    -- the place of x that is the place p of g
-    seen : ℕ → ℕ
-    seen p = rowWalk n (path n p) k₀
+  -- seen from a dart g of S
+  module _ (g : ℕ) (in-s : Marked S g) where
+    lives : live t g ≡ true
+    lives = sheet-live D g in-s
 
-    seen-in : (p : ℕ) → p < cellSize n → seen p < cellSize n
-    unfolding seen
-    seen-in p h = row-walk-in n (path n p) k₀ (B .dim) (path-small n p (B .dim) h) b₀
+    -- the darts of its cell at the first places
+    abbrev first : List ℕ
+    first = tabulateFrom (half n) 0 (place n t g)
 
-    seen-is : (p : ℕ) → p < cellSize n → place n t g p ≡ place n t x (seen p)
-    unfolding seen place
-    seen-is p h = walk-rows n t (place n t x) (B .dim) (place-chart B x l .follow) (path n p) k₀ (path-small n p (B .dim) h) b₀
+    in-both : (y : ℕ) → Marked S y → Marked (cellOf n t g) y → (y < slots t) × ((inSet S y && inSet (cellOf n t g) y) ≡ true)
+    unfolding inSet
+    in-both y s c = (live-below T y (sheet-live D y s), and-i (eq-eqb _ _ s) (eq-eqb _ _ c))
 
-    all-seen : (k : ℕ) → k < cellSize n → (p : ℕ) × (p < cellSize n) × (place n t x k ≡ place n t g p)
-    unfolding place
-    all-seen k h =
-        let r = place-back B x k₀ l b₀ in (
-          rowWalk n (path n k) (r .0),
-          row-walk-in n (path n k) (r .0) (B .dim) (path-small n k (B .dim) h) (r .1),
-          ap (walk t (path n k)) (r .2) ∙ walk-rows n t (place n t g) (B .dim) (place-chart B g (place-live B x k₀ l b₀) .follow) (path n k) (r .0) (path-small n k (B .dim) h) (r .1),
-        )
+    place-cell : (k : ℕ) → k < cellSize n → Marked (cellOf n t g) (place n t g k)
+    place-cell k low = let chart = place-chart B g lives in place-in T g lives (chart .follow) (chart .apart) k low
 
-    seen-half : (k : ℕ) → Marked hits k → In k (tabulateFrom (half n) 0 seen)
-    seen-half k m =
-        let h = hit-in k m in
-        let r = all-seen k (h .0) in
-        if-lt (r .0) (half n)
-        (λ a. in-cast (place-one B x k (seen (r .0)) l (h .0) (seen-in (r .0) (r .1)) (r .2 ∙ seen-is (r .0) (r .1))) (tab-in seen (half n) 0 (r .0) (omega arith) (omega arith)))
-        (λ a. let c = out-crosses B sh g (r .0) i₀ a (r .1) (subst (λ (z : ℕ). In z gs) (r .2) (h .1)) in absurd (parted (c .0) (c .1) (c .2)))
+    first-both : (y : ℕ) → In y first → (y < slots t) × ((inSet S y && inSet (cellOf n t g) y) ≡ true)
+    first-both y i =
+        let (k, _, low, at) = in-tab (place n t g) (half n) 0 y i in
+        let below : k < half n = omega arith in
+        rw at (in-both (place n t g k) (ones-of S _ (in-half B (sheet-of D) g k (ones-in S g in-s) below))
+        (place-cell k (half-size n (B .dim) k below)))
 
-    share : count 1 hits ≡ half n
-    share =
-        let ls = tabulateFrom (half n) 0 seen in
-        let a = cover ls hits seen-half in
-        let b = distinct-le ls hits
-        (distinct-tab seen (half n) 0 (λ k j kj h e. let hk = half-size n (B .dim) k (omega arith) in let hj = half-size n (B .dim) j (omega arith) in
-        let q = place-one B g k j (place-live B x k₀ l b₀) hk hj (seen-is k hk ∙ ap (place n t x) e ∙ sym (seen-is j hj)) in omega arith))
-        (λ y i. let r = in-tab seen (half n) 0 y i in let c = r .2 in let h : r .0 < half n = omega arith in let z = half-size n (B .dim) (r .0) h in
-        subst (Marked hits) (sym (r .3)) (in-hit (seen (r .0)) (seen-in (r .0) z) (subst (λ (w : ℕ). In w gs) (seen-is (r .0) z) (in-half B sh g (r .0) i₀ h)))) in
-        let e = length-tabFrom seen (half n) 0 in
-        omega arith
+    first-distinct : Distinct first
+    first-distinct = distinct-tab (place n t g) (half n) 0 (λ a b ab h e.
+        let size : b < cellSize n = half-size n (B .dim) b (omega arith) in
+        let same = place-one B g a b lives (omega arith) size e in
+        omega arith)
 
-  pub sheet-share : (count 1 (shared n t gs x) ≡ 0) ⊎ (count 1 (shared n t gs x) ≡ half n)
-  sheet-share = test (allBelow (cellSize n) (λ k. not (spot k)))
-      (λ h. inl (count-none hits (λ k m. let r = hit-in k m in clash (in-member gs _ (r .1)) (not-true _ (below-at (λ k. not (spot k)) (cellSize n) h k (r .0))))))
-      (λ h. let r = below-not (λ k. not (spot k)) (cellSize n) h in inr (share (r .0) (r .1) (member-in gs _ (not-false _ (r .2)))))
+    first-long : length first ≡ half n
+    first-long = length-tabFrom (place n t g) (half n) 0
+
+    share-least : half n ≤ shared n t S g
+    unfolding shared
+    share-least = rw first-long at (howMany-least (slots t) _ first first-distinct first-both)
+
+    -- where no dart of S has its link 1 in S, the other places have no dart of S
+    only-first : crosses t S (ones S) ≡ false → (y : ℕ) → Marked S y → Marked (cellOf n t g) y → In y first
+    only-first uncrossed y s c =
+        let (k, low, at) = all-places T g lives (B .good g lives) y c in
+        if-lt k (half n) (λ b. in-cast at (tab-in (place n t g) (half n) 0 k (omega arith) (omega arith))) (λ b.
+        let (x, i, j) = out-crosses B (sheet-of D) g k (ones-in S g in-s) b low (ones-in S _ (rw at at s)) in
+        absurd (crosses-none t S uncrossed x i j))
+
+    share-most : crosses t S (ones S) ≡ false → shared n t S g ≤ half n
+    unfolding shared
+    share-most uncrossed = rw first-long at
+        (howMany-most (slots t) _ first (λ y _ h. let (s, c) = of-both S (cellOf n t g) y h in only-first uncrossed y s c))
+
+    -- where g.1 is in S, its place is no first one
+    share-more : Marked S (link t 1 g) → half n < shared n t S g
+    unfolding shared
+    share-more next = rw first-long at (howMany-least (slots t) _ (link t 1 g ∷ first) (more apart first-distinct)
+        (λ y i. ⊎-elim (λ (e : y ≡ link t 1 g). rw e both) (first-both y) (in-cons i)))
+      where
+        chart : Chart n t (place n t g)
+        chart = place-chart B g lives
+
+        k : ℕ
+        k = cellLink n 1 0
+
+        low : k < cellSize n
+        low = rows-in n 1 0 (B .dim) (B .dim .0) (size-some n (B .dim))
+
+        at : link t 1 g ≡ place n t g k
+        at = ap (link t 1) (place-zero B g lives) ∙ chart .follow 1 0 (B .dim .0) (size-some n (B .dim))
+
+        apart : In (link t 1 g) first → ⊥
+        apart i =
+            let (j, _, b, e) = in-tab (place n t g) (half n) 0 (link t 1 g) i in
+            let same = place-one B g k j lives low (half-size n (B .dim) j (omega arith)) (sym at ∙ e) in
+            let out = next-out n (B .dim) in
+            omega arith
+
+        both : (link t 1 g < slots t) × ((inSet S (link t 1 g) && inSet (cellOf n t g) (link t 1 g)) ≡ true)
+        both = in-both (link t 1 g) next (rw at (place-cell k low))
+
+  -- where 13 is not given
+  pub sheet-share : crosses t (sheet n t d) (ones (sheet n t d)) ≡ false → (x : ℕ) → live t x ≡ true
+      → (shared n t (sheet n t d) x ≡ 0) ⊎ (shared n t (sheet n t d) x ≡ half n)
+  unfolding shared
+  sheet-share uncrossed x l = ⊎-elim inl some (howMany-none (slots t) (λ y. inSet S y && inSet (cellOf n t x) y))
+    where
+      some : (g : ℕ) × (g < slots t) × ((inSet S g && inSet (cellOf n t x) g) ≡ true)
+          → (shared n t S x ≡ 0) ⊎ (shared n t S x ≡ half n)
+      some (g, _, h) =
+          let (s, c) = of-both S (cellOf n t x) g h in
+          let least = share-least g s in
+          let most = share-most g s uncrossed in
+          let same : shared n t S g ≡ shared n t S x = rw (cell-same T x g l c) in
+          inr (omega arith)
+
+  pub crosses-share : (crosses t (sheet n t d) (ones (sheet n t d)) ≡ true)
+      ↔ ((x : ℕ) × (live t x ≡ true) × (half n < shared n t (sheet n t d) x))
+  crosses-share = (
+    λ h. let (g, s, next) = crosses-some t S .0 h in (g, sheet-live D g s, share-more g s next),
+    λ (x, l, above). test (crosses t S (ones S)) (λ e. e) (λ e. absurd (⊎-elim (λ (h : shared n t S x ≡ 0). omega arith)
+        (λ (h : shared n t S x ≡ half n). omega arith) (sheet-share e x l))),
+  )

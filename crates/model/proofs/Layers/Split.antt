@@ -14,16 +14,16 @@ use Rattle.model.specs.Table.{slots, link, walk, live}
 use Rattle.model.specs.Split.{halved}
 use Rattle.model.specs.Everything.{everything}
 use Rattle.model.specs.Meaning.Maps.{BlockTable, MapTable, Dim, Rule}
-use Rattle.model.proofs.Lists.Scan.{test, if-eq, clash, and-l, and-r, below-at}
+use Rattle.model.proofs.Lists.Scan.{test, if-eq, clash, and-l, and-r, below-at, or-cases}
 use Rattle.model.proofs.Lists.Ones.{in-or}
 use Rattle.model.proofs.Maps.Dim.{two-cases}
 use Rattle.model.proofs.Maps.Tables.{mapTable, live-below, rule-at}
 use Rattle.model.proofs.Sewing.Side.{past}
 use Rattle.model.proofs.Cells.Cell.{rowWalk, small, cell-words}
-use Rattle.model.proofs.Cells.Places.{same, same-eq, or-cases}
+use Rattle.model.proofs.Cells.Places.{same, same-eq}
 use Rattle.model.proofs.Cells.Chart.{Ruled, ruled-table, live-of, of-live, live-same, keep}
 use Rattle.model.proofs.Operations.Frame.{split-frame}
-use Rattle.model.proofs.Layers.Remove.{walk-append}
+use Rattle.model.proofs.Layers.Walk.{walk-append}
 use Rattle.model.proofs.Layers.Cut.{Cut, IsNew, slot-new, new-in, split-slots, split-whole, split-kept}
 use Rattle.model.proofs.Layers.Role.{roleTo, roleWord, roleDart, opposed, keepsSheet, sheet-walk, role-link, role-plane}
 
@@ -58,7 +58,7 @@ module _ {n : ℕ} {t : List ℕ} (B : BlockTable n t) where
       let rest = walk-past e w (link t i x) in
       test (ltb i 2)
       (λ q. let b = ltb-true i 2 q in
-      ap (walk t w) (past n t x (B .dim .1) (B .whole) (B .map) l i 3 (omega arith) (omega arith) (inl (omega arith)))
+      ap (walk t w) (past (mapTable B) x l i 3 (omega arith) (omega arith) (inl (omega arith)))
       ∙ rest (rw (q, small) at h) (rule x l .goes i (omega arith)))
       (λ q. absurd (clash h (rw (q, small))))
 

@@ -14,12 +14,11 @@ use Rattle.model.specs.Cell.{cellSize}
 use Rattle.model.specs.Numbering.{cellLink}
 use Rattle.model.specs.Everything.{everything}
 use Rattle.model.specs.Meaning.Maps.{Dim}
-use Rattle.model.specs.Meaning.Places.{path, paths2, paths3}
+use Rattle.model.specs.Meaning.Places.{path}
 use Rattle.model.specs.Meaning.Sheets.{half}
-use Rattle.model.proofs.Lists.Scan.{clash, and-l, and-r, and-i, below-at, below-not}
+use Rattle.model.proofs.Lists.Scan.{clash, and-l, and-r, and-i, below-at, below-not, or-cases}
 use Rattle.model.proofs.Maps.Dim.{two-cases}
 use Rattle.model.proofs.Cells.Cell.{rowWalk, small}
-use Rattle.model.proofs.Cells.Places.{or-cases}
 use Rattle.model.proofs.Layers.Role.{roleTo, roleWord}
 
 -- a role of a place
@@ -63,7 +62,7 @@ spot-same (spot r p) (spot s q) h = and-i (eq-eqb r s (cc)) (eq-eqb p q (cc))
 
 -- to unfold `spots` is to unfold all that the tests below compute with
 spots : Unit {0}
-unfolding everything spotLink spotAt valid across sameSpot half roleTo roleWord rowWalk small path paths2 paths3
+unfolding everything spotLink spotAt valid across sameSpot half roleTo roleWord rowWalk small path
 spots = tt
 
 -- ---- the spots follow the numbering

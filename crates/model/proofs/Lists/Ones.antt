@@ -1,9 +1,11 @@
--- Lists of distinct slots: the places of the ones, the unused slots, and the index of an entry.
+-- Lists of distinct slots: the index of an entry, the places of the ones, the unused slots.
+-- Main theorems: `index-getD` and `getD-index`; `ones-of` and `ones-in`; `vacant-frees`.
 use Prim.Native.Nat.{ℕ, zero, suc, _+_, _≤_, _<_}
 use mathlib.Core.Path.{_≡_, refl, sym, ap, _∙_}
 use mathlib.Core.Logic.{_⊎_, inl, inr, _≢_, ⊎-elim}
 use mathlib.Core.Bool.{true, false}
-use mathlib.Core.List.{List, [], _∷_, List·Memᴰ as In, List·Memᴰ·not-nil as not-nil, List·Memᴰ·cases-cons as in-cons, List·Memᴰ·head as here, List·Memᴰ·tail as there, Memᴰ·cast as in-cast}
+use mathlib.Core.List.{List, [], _∷_, List·Memᴰ as In, List·Memᴰ·not-nil as not-nil, List·Memᴰ·cases-cons as in-cons}
+use mathlib.Core.List.{List·Memᴰ·head as here, List·Memᴰ·tail as there, Memᴰ·cast as in-cast}
 use native.Mathlib.Nat.{add-zero}
 use native.Mathlib.Omega.{arith}
 use lib.ListN.{length, getD, take}
@@ -26,15 +28,21 @@ module _ (x y : ℕ) (l : List ℕ) where
   unfolding indexOf
   index-there e = rw (ne-eqb x y e, indexOf)
 
+in-later : {x y : ℕ} {l : List ℕ} → In x (y ∷ l) → x ≢ y → In x l
+in-later {x} {y} i e = ⊎-elim (λ (h : x ≡ y). absurd (e h)) (λ j. j) (in-cons i)
+
 pub index-in : (l : List ℕ) (x : ℕ) → In x l → indexOf x l < length l
 index-in [] x i = absurd (not-nil i)
-index-in (y ∷ l) x i = let rec = index-in l x in if-eq x y (λ e. let q = index-here x y l e in omega arith)
-    (λ e. let q = index-there x y l e in let r = rec (⊎-elim (λ (h : x ≡ y). absurd (e h)) (λ (j : In x l). j) (in-cons i)) in omega arith)
+index-in (y ∷ l) x i =
+    let rec = index-in l x in
+    if-eq x y (λ e. let q = index-here x y l e in omega arith)
+    (λ e. let q = index-there x y l e in let r = rec (in-later i e) in omega arith)
 
 pub getD-index : (l : List ℕ) (x d : ℕ) → In x l → getD l (indexOf x l) d ≡ x
 getD-index [] x d i = absurd (not-nil i)
-getD-index (y ∷ l) x d i = let rec = getD-index l x d in if-eq x y (λ e. rw (index-here x y l e) (sym e))
-    (λ e. rw (index-there x y l e) (rec (⊎-elim (λ (h : x ≡ y). absurd (e h)) (λ (j : In x l). j) (in-cons i))))
+getD-index (y ∷ l) x d i =
+    let rec = getD-index l x d in
+    if-eq x y (λ e. rw (index-here x y l e) (sym e)) (λ e. rw (index-there x y l e) (rec (in-later i e)))
 
 pub getD-in : (l : List ℕ) (k d : ℕ) → k < length l → In (getD l k d) l
 getD-in [] k d h = absurd (omega arith)
@@ -44,16 +52,22 @@ getD-in (y ∷ l) (suc k) d h = there (getD-in l k d (omega arith))
 pub index-getD : (l : List ℕ) (k d : ℕ) → Distinct l → k < length l → indexOf (getD l k d) l ≡ k
 index-getD [] k d p h = absurd (omega arith)
 index-getD (y ∷ l) zero d p h = index-here y y l refl
-index-getD (y ∷ l) (suc k) d (more q p) h =
-    index-there (getD l k d) y l (λ e. q (in-cast (sym e) (getD-in l k d (omega arith)))) ∙ ap suc (index-getD l k d p (omega arith))
+index-getD (y ∷ l) (suc k) d (more once p) h =
+    let other : getD l k d ≢ y = λ e. once (in-cast (sym e) (getD-in l k d (omega arith))) in
+    index-there (getD l k d) y l other ∙ ap suc (index-getD l k d p (omega arith))
 
 pub index-out : (l : List ℕ) (x : ℕ) → (In x l → ⊥) → length l ≤ indexOf x l
 index-out [] x h = omega arith
-index-out (y ∷ l) x h = let q = index-there x y l (λ e. h (here e)) in let r = index-out l x (λ i. h (there i)) in omega arith
+index-out (y ∷ l) x h =
+    let q = index-there x y l (λ e. h (here e)) in
+    let r = index-out l x (λ i. h (there i)) in
+    omega arith
 
 pub in-or : (l : List ℕ) (x : ℕ) → In x l ⊎ (In x l → ⊥)
 in-or [] x = inr not-nil
-in-or (y ∷ l) x = let rec = in-or l x in if-eq x y (λ e. inl (here e)) (λ e. ⊎-elim (λ i. inl (there i)) (λ k. inr (λ i. ⊎-elim e k (in-cons i))) rec)
+in-or (y ∷ l) x =
+    let rec = in-or l x in
+    if-eq x y (λ e. inl (here e)) (λ e. ⊎-elim (λ i. inl (there i)) (λ out. inr (λ i. out (in-later i e))) rec)
 
 pub member-in : (l : List ℕ) (x : ℕ) → member l x ≡ true → In x l
 unfolding member
@@ -65,15 +79,15 @@ in-member l x i = lt-ltb _ _ (index-in l x i)
 
 -- ---- the first entries
 
-pub in-take : (n : ℕ) (l : List ℕ) (x : ℕ) → In x (take n l) → In x l
+in-take : (n : ℕ) (l : List ℕ) (x : ℕ) → In x (take n l) → In x l
 in-take zero l x i = absurd (not-nil i)
 in-take (suc n) [] x i = i
 in-take (suc n) (y ∷ l) x i = ⊎-elim here (λ j. there (in-take n l x j)) (in-cons i)
 
-pub distinct-take : (n : ℕ) (l : List ℕ) → Distinct l → Distinct (take n l)
+distinct-take : (n : ℕ) (l : List ℕ) → Distinct l → Distinct (take n l)
 distinct-take zero l p = none
 distinct-take (suc n) [] p = p
-distinct-take (suc n) (y ∷ l) (more q p) = more (λ i. q (in-take n l y i)) (distinct-take n l p)
+distinct-take (suc n) (y ∷ l) (more once p) = more (λ i. once (in-take n l y i)) (distinct-take n l p)
 
 -- ---- the places of the ones
 
@@ -91,11 +105,17 @@ unfolding onesFrom
 ones-from [] a x i = absurd (not-nil i)
 ones-from (y ∷ l) a x i =
     let rec = ones-from l (suc a) x in
-    let up : In x (onesFrom (suc a) l) → (k : ℕ) × (x ≡ a + k) × Marked (y ∷ l) k = λ j. let r = rec j in let e = r .1 in (suc (r .0), omega arith, r .2) in
-    if-eq y 1 (λ e. ⊎-elim (λ h. (0, omega arith, e)) up (in-cons (rw (ones-one a y l e) at i))) (λ e. up (rw (ones-other a y l e) at i))
+    let later : In x (onesFrom (suc a) l) → (k : ℕ) × (x ≡ a + k) × Marked (y ∷ l) k = λ j.
+    let (k, e, h) = rec j in
+    (suc k, omega arith, h) in
+    if-eq y 1 (λ e. ⊎-elim (λ h. (0, omega arith, e)) later (in-cons (rw (ones-one a y l e) at i)))
+    (λ e. later (rw (ones-other a y l e) at i))
 
 pub ones-of : (l : List ℕ) (x : ℕ) → In x (onesFrom 0 l) → Marked l x
-ones-of l x i = let r = ones-from l 0 x i in let e = r .1 in let q : x ≡ r .0 = omega arith in rw q (r .2)
+ones-of l x i =
+    let (k, e, h) = ones-from l 0 x i in
+    let q : x ≡ k = omega arith in
+    rw q h
 
 ones-at : (l : List ℕ) (a k : ℕ) → Marked l k → In (a + k) (onesFrom a l)
 unfolding onesFrom
@@ -113,7 +133,8 @@ unfolding onesFrom
 ones-distinct [] a = none
 ones-distinct (y ∷ l) a =
     let rec = ones-distinct l (suc a) in
-    if-eq y 1 (λ e. rw (ones-one a y l e) (more (λ i. let r = ones-from l (suc a) a i in let q = r .1 in omega arith) rec)) (λ e. rw (ones-other a y l e) rec)
+    let once : In a (onesFrom (suc a) l) → ⊥ = λ i. let (k, e, h) = ones-from l (suc a) a i in omega arith in
+    if-eq y 1 (λ e. rw (ones-one a y l e) (more once rec)) (λ e. rw (ones-other a y l e) rec)
 
 -- ---- the unused slots
 
@@ -125,19 +146,25 @@ pub record Vacant (t fs : List ℕ) : Type 0 where
 
 pub vacant-frees : (t : List ℕ) (k : ℕ) → Vacant t (take k (unusedSlots t))
 unfolding unusedSlots
-vacant-frees t k = record { once = distinct-take k (unusedSlots t) (ones-distinct m 0); inside = λ x i. size x (at x i); dead = λ x i. off x (at x i) }
+vacant-frees t k = record {
+  once = distinct-take k (unusedSlots t) (ones-distinct marks 0);
+  inside = λ x i. below x (marked x i);
+  dead = λ x i. off x (marked x i);
+}
   where
-    f : ℕ → ℕ
-    f d = elim (live t d) [ true ↦ 0 | false ↦ 1 ]
+    mark : ℕ → ℕ
+    mark d = elim (live t d) [ true ↦ 0 | false ↦ 1 ]
 
-    m : List ℕ
-    m = tabulate (slots t) f
+    marks : List ℕ
+    marks = tabulate (slots t) mark
 
-    at : (x : ℕ) → In x (take k (unusedSlots t)) → Marked m x
-    at x i = ones-of m x (in-take k (unusedSlots t) x i)
+    marked : (x : ℕ) → In x (take k (unusedSlots t)) → Marked marks x
+    marked x i = ones-of marks x (in-take k (unusedSlots t) x i)
 
-    size : (x : ℕ) → Marked m x → x < slots t
-    size x h = rw length-tab at (marked-in m x h)
+    below : (x : ℕ) → Marked marks x → x < slots t
+    below x h = rw length-tab at (marked-in marks x h)
 
-    off : (x : ℕ) → Marked m x → live t x ≡ false
-    off x h = test (live t x) (λ e. let z : f x ≡ 0 = rw (e, f) in let w = getD-tab f (slots t) x 0 (size x h) in absurd (omega arith)) (λ e. e)
+    off : (x : ℕ) → Marked marks x → live t x ≡ false
+    off x h =
+        let v = getD-tab mark (slots t) x 0 (below x h) in
+        test (live t x) (λ e. let z : mark x ≡ 0 = rw (e, mark) in absurd (omega arith)) (λ e. e)

@@ -5,7 +5,7 @@ use mathlib.Core.Bool.{true}
 use mathlib.Core.List.{List}
 use Rattle.model.specs.Table.{slots, live}
 use Rattle.model.specs.Meaning.Maps.{Rule, MapTable, BlockTable}
-use Rattle.model.proofs.Maps.Rules.{live-in}
+use Rattle.model.proofs.Maps.Rules.{live-in, live-rule}
 
 pub mapTable : {n : ℕ} {t : List ℕ} → BlockTable n t → MapTable n t
 mapTable B = record { dim = B .dim; whole = B .whole; few = B .few; map = B .map }
@@ -15,4 +15,4 @@ module _ {n : ℕ} {t : List ℕ} (T : MapTable n t) (x : ℕ) (lives : live t x
   live-below = live-in t x (T .whole) lives
 
   pub rule-at : Rule n t x
-  rule-at = T .map .rule x live-below lives
+  rule-at = live-rule t x (T .whole) (T .map) lives

@@ -1,13 +1,14 @@
--- A walk by a step that can be undone leaves a set of slots, if it begins where no step of the set leads.
+-- A walk whose step is one-to-one on a set of slots, and that begins where no step of the set leads, leaves the set: `escapes`.
 use Prim.Native.Nat.{ℕ, zero, suc, _+_, _≤_, _<_}
 use mathlib.Core.Path.{_≡_, refl, ap, _∙_}
-use mathlib.Core.Logic.{_⊎_, inl, inr}
+use mathlib.Core.Logic.{_⊎_, inl, inr, ⊎-elim}
 use mathlib.Core.Bool.{Bool, true, false}
-use mathlib.Core.List.{List, [], _∷_, List·Memᴰ as In, List·Memᴰ·not-nil as not-nil, List·Memᴰ·cases-cons as in-cons, List·Memᴰ·head as here, List·Memᴰ·tail as there, Memᴰ·cast as in-cast}
+use mathlib.Core.List.{List, [], _∷_, List·Memᴰ as In, List·Memᴰ·not-nil as not-nil, List·Memᴰ·cases-cons as in-cons}
+use mathlib.Core.List.{List·Memᴰ·head as here, List·Memᴰ·tail as there, Memᴰ·cast as in-cast}
 use native.Mathlib.Omega.{arith}
 use lib.ListN.{length, replicate, getD-replicate}
 use Rattle.model.specs.Lists.{count}
-use Rattle.model.proofs.Lists.Scan.{bool-cases}
+use Rattle.model.proofs.Lists.Scan.{test}
 use Rattle.model.proofs.Sets.Pigeon.{Distinct, none, more, distinct-le}
 
 count-ones : (n : ℕ) → count 1 (replicate n 1) ≡ n
@@ -16,76 +17,64 @@ count-ones zero = refl
 count-ones (suc n) = ap suc (count-ones n)
 
 -- distinct numbers below n are at most n
-pub distinct-below : (n : ℕ) (l : List ℕ) → Distinct l → ((x : ℕ) → In x l → x < n) → length l ≤ n
+distinct-below : (n : ℕ) (l : List ℕ) → Distinct l → ((x : ℕ) → In x l → x < n) → length l ≤ n
 distinct-below n l d h = rw count-ones at (distinct-le l (replicate n 1) d (λ x i. getD-replicate n x 1 0 (h x i)))
 
-module _ (N : ℕ) (R : ℕ → Bool) (h : ℕ → ℕ) (y₀ : ℕ) (inside : (y : ℕ) → R y ≡ true → y < N)
-    (one : (y z : ℕ) → R y ≡ true → R z ≡ true → h y ≡ h z → y ≡ z) (fresh : (y : ℕ) → R y ≡ true → h y ≡ y₀ → ⊥) where
-  -- the darts met, the last one first
+-- the first of y, step y, step (step y), .. that is not in the set, or the last one where the fuel ends
+unfoldable pub leave : (ℕ → Bool) → (ℕ → ℕ) → ℕ → ℕ → ℕ
+leave set step zero y = y
+leave set step (suc fuel) y = elim (set y) [ true ↦ leave set step fuel (step y) | false ↦ y ]
+
+-- the step is one-to-one on a set of numbers below `size`, and leads from none of them to the start
+pub record OneWay (size : ℕ) (set : ℕ → Bool) (step : ℕ → ℕ) (start : ℕ) : Type 0 where
+  pub below : (y : ℕ) → set y ≡ true → y < size
+  pub one : (y z : ℕ) → set y ≡ true → set z ≡ true → step y ≡ step z → y ≡ z
+  pub first : (y : ℕ) → set y ≡ true → step y ≡ start → ⊥
+
+module _ {size : ℕ} {set : ℕ → Bool} {step : ℕ → ℕ} {start : ℕ} (way : OneWay size set step start) where
+  -- the numbers met, the last one first
   data Trail : List ℕ → Type 0 where
-    begin : Trail (y₀ ∷ [])
-    step : {z : ℕ} {l : List ℕ} → R z ≡ true → Trail (z ∷ l) → Trail (h z ∷ z ∷ l)
+    begin : Trail (start ∷ [])
+    on : {z : ℕ} {l : List ℕ} → set z ≡ true → Trail (z ∷ l) → Trail (step z ∷ z ∷ l)
 
-  before : {z : ℕ} {l : List ℕ} → Trail (z ∷ l) → (w : ℕ) → In w (z ∷ l) → (w ≡ y₀) ⊎ ((v : ℕ) × In v l × (w ≡ h v))
-  before begin w i = go (in-cons i)
-    where
-      go : (w ≡ y₀) ⊎ In w [] → (w ≡ y₀) ⊎ ((v : ℕ) × In v [] × (w ≡ h v))
-      go (inl e) = inl e
-      go (inr j) = absurd (not-nil j)
-  before (step {z = z} {l = l} r t) w i = go (λ j. before t w j) (in-cons i)
-    where
-      up : (w ≡ y₀) ⊎ ((v : ℕ) × In v l × (w ≡ h v)) → (w ≡ y₀) ⊎ ((v : ℕ) × In v (z ∷ l) × (w ≡ h v))
-      up (inl e) = inl e
-      up (inr k) = inr (k .0, there (k .1), k .2)
+  -- a number met is the start, or the step from one met before
+  Stepped : List ℕ → ℕ → Type 0
+  Stepped l w = (w ≡ start) ⊎ ((v : ℕ) × In v l × (w ≡ step v))
 
-      go : (In w (z ∷ l) → (w ≡ y₀) ⊎ ((v : ℕ) × In v l × (w ≡ h v))) → (w ≡ h z) ⊎ In w (z ∷ l) → (w ≡ y₀) ⊎ ((v : ℕ) × In v (z ∷ l) × (w ≡ h v))
-      go rec (inl e) = inr (z, here refl, e)
-      go rec (inr j) = up (rec j)
+  trail-step : {z : ℕ} {l : List ℕ} → Trail (z ∷ l) → (w : ℕ) → In w (z ∷ l) → Stepped l w
+  unfolding Stepped
+  trail-step begin w i = ⊎-elim inl (λ j. absurd (not-nil j)) (in-cons i)
+  trail-step (on {z = z} {l = l} r t) w i =
+      let rec : In w (z ∷ l) → Stepped l w = λ j. trail-step t w j in
+      ⊎-elim (λ (e : w ≡ step z). inr (z, here refl, e))
+      (λ (j : In w (z ∷ l)). ⊎-elim inl (λ k. inr (k .0, there (k .1), k .2)) (rec j)) (in-cons i)
 
-  trail-in : {z : ℕ} {l : List ℕ} → Trail (z ∷ l) → (v : ℕ) → In v l → R v ≡ true
+  trail-in : {z : ℕ} {l : List ℕ} → Trail (z ∷ l) → (v : ℕ) → In v l → set v ≡ true
   trail-in begin v i = absurd (not-nil i)
-  trail-in (step {z = z} {l = l} r t) v i = go (λ j. trail-in t v j) (in-cons i)
-    where
-      go : (In v l → R v ≡ true) → (v ≡ z) ⊎ In v l → R v ≡ true
-      go rec (inl e) = ap R e ∙ r
-      go rec (inr j) = rec j
+  trail-in (on r t) v i = ⊎-elim (λ e. ap set e ∙ r) (λ j. trail-in t v j) (in-cons i)
 
   trail-distinct : {z : ℕ} {l : List ℕ} → Trail (z ∷ l) → Distinct (z ∷ l)
+  unfolding Stepped
   trail-distinct begin = more not-nil none
-  trail-distinct (step {z = z} {l = l} r t) = let d = trail-distinct t in more (λ i. go d (before t (h z) i)) d
+  trail-distinct (on {z = z} {l = l} r t) = let d = trail-distinct t in more (λ i. new d (trail-step t (step z) i)) d
     where
       apart : Distinct (z ∷ l) → In z l → ⊥
       apart (more k d) = k
 
-      go : Distinct (z ∷ l) → (h z ≡ y₀) ⊎ ((v : ℕ) × In v l × (h z ≡ h v)) → ⊥
-      go d (inl e) = fresh z r e
-      go d (inr k) = apart d (in-cast (one z (k .0) r (trail-in t (k .0) (k .1)) (k .2)) (k .1))
+      new : Distinct (z ∷ l) → Stepped l (step z) → ⊥
+      new d (inl e) = way .first z r e
+      new d (inr k) = apart d (in-cast (way .one z (k .0) r (trail-in t (k .0) (k .1)) (k .2)) (k .1))
 
-  -- a trail of darts of the set is no longer than the slots
-  trail-short : {z : ℕ} {l : List ℕ} → Trail (z ∷ l) → R z ≡ true → length (z ∷ l) ≤ N
-  trail-short {z} {l} t r = distinct-below N (z ∷ l) (trail-distinct t) (λ x i. go x (in-cons i))
-    where
-      go : (x : ℕ) → (x ≡ z) ⊎ In x l → x < N
-      go x (inl e) = inside x (ap R e ∙ r)
-      go x (inr i) = inside x (trail-in t x i)
+  trail-short : {z : ℕ} {l : List ℕ} → Trail (z ∷ l) → set z ≡ true → length (z ∷ l) ≤ size
+  trail-short {z} {l} t r = distinct-below size (z ∷ l) (trail-distinct t)
+      (λ x i. ⊎-elim (λ (e : x ≡ z). way .below x (ap set e ∙ r)) (λ (j : In x l). way .below x (trail-in t x j)) (in-cons i))
 
-  -- the walk with fuel, and where it ends
-  unfoldable pub out : ℕ → ℕ → ℕ
-  out zero y = y
-  out (suc k) y = elim (R y) [ true ↦ out k (h y) | false ↦ y ]
+  leave-out : (fuel y : ℕ) (l : List ℕ) → Trail (y ∷ l) → size < fuel + length (y ∷ l) → set (leave set step fuel y) ≡ false
+  unfolding leave
+  leave-out zero y l t s = test (set y) (λ e. let a = trail-short t e in absurd (omega arith)) (λ e. e)
+  leave-out (suc fuel) y l t s =
+      let rec = leave-out fuel (step y) (y ∷ l) in
+      test (set y) (λ e. rw (e, leave) (rec (on e t) (omega arith))) (λ e. rw (e, leave) e)
 
-  out-of : (k y : ℕ) (l : List ℕ) → Trail (y ∷ l) → N < k + length (y ∷ l) → R (out k y) ≡ false
-  unfolding out
-  out-of zero y l t s = go (bool-cases (R y))
-    where
-      go : (R y ≡ true) ⊎ (R y ≡ false) → R y ≡ false
-      go (inl e) = let a = trail-short t e in absurd (omega arith)
-      go (inr e) = e
-  out-of (suc k) y l t s = go (out-of k (h y) (y ∷ l)) (bool-cases (R y))
-    where
-      go : (Trail (h y ∷ y ∷ l) → N < k + length (h y ∷ y ∷ l) → R (out k (h y)) ≡ false) → (R y ≡ true) ⊎ (R y ≡ false) → R (out (suc k) y) ≡ false
-      go rec (inl e) = rw (e, out) (rec (step e t) (omega arith))
-      go rec (inr e) = rw (e, out) e
-
-  pub escapes : R (out N y₀) ≡ false
-  escapes = out-of N y₀ [] begin (omega arith)
+  pub escapes : set (leave set step size start) ≡ false
+  escapes = leave-out size start [] begin (omega arith)

@@ -1,17 +1,18 @@
--- Pigeonholes over lists of marks: a list that has every marked slot is at least as long as their number, and one of distinct marked slots at most.
-use Prim.Native.Nat.{ℕ, zero, suc, _≤_, _<_}
-use mathlib.Core.Path.{_≡_, refl, sym, ap, _∙_, subst}
-use mathlib.Core.Logic.{_⊎_, inl, inr}
-use mathlib.Core.Bool.{Bool, true, false}
-use mathlib.Core.List.{List, [], _∷_, List·Memᴰ as In, List·Memᴰ·not-nil as not-nil, List·Memᴰ·cases-cons as in-cons, List·Memᴰ·head as here, List·Memᴰ·tail as there}
-use native.Mathlib.Decide.{ℕ-discrete}
+-- Pigeonholes over lists of marks: a list that has every marked slot is at least as long as they are many, and one of distinct
+-- marked slots at most. Main theorems: `cover`, `distinct-le`; `count-by` and `apart-by` (the marked slots are f 0, f 1, ..).
+use Prim.Native.Nat.{ℕ, zero, suc, _+_, _-_, _≤_, _<_}
+use mathlib.Core.Path.{_≡_, refl, sym, ap, _∙_}
+use mathlib.Core.Logic.{_≢_, ⊎-elim}
+use mathlib.Core.List.{List, [], _∷_, _++_, List·Memᴰ as In, List·Memᴰ·not-nil as not-nil, List·Memᴰ·cases-cons as in-cons}
+use mathlib.Core.List.{List·Memᴰ·head as here, List·Memᴰ·tail as there, Memᴰ·cast as in-cast}
+use mathlib.Core.List.{Memᴰ·append-left as in-left, Memᴰ·append-right as in-right}
 use native.Mathlib.Omega.{arith}
-use lib.ListN.{length, set, length-set}
+use lib.ListN.{length, set, length-set, length-append}
 use lib.Seq.{getD-set-same, getD-set-other}
-use lib.Dec.{eqb}
-use borrow.Author.Tests.{ne-eqb, eq-eqb}
-use Rattle.model.specs.Lists.{count}
+use borrow.Author.Tests.{ne-eqb}
+use Rattle.model.specs.Lists.{count, tabulateFrom}
 use Rattle.model.specs.Meaning.Sets.{Marked}
+use Rattle.model.proofs.Lists.Scan.{if-eq, if-lt, count-change, count-le, length-tabFrom, tab-in, in-tab}
 use Rattle.model.proofs.Sets.Closure.{marked-in}
 
 pub count-none : (m : List ℕ) → ((x : ℕ) → Marked m x → ⊥) → count 1 m ≡ 0
@@ -19,56 +20,36 @@ unfolding count
 count-none [] h = refl
 count-none (y ∷ ys) h = rw (ne-eqb y 1 (h 0), count) (count-none ys (λ x. h (suc x)))
 
-pub count-drop : (m : List ℕ) (x : ℕ) → Marked m x → count 1 m ≡ suc (count 1 (set m x 0))
-unfolding count
-count-drop [] x h = absurd (omega arith)
-count-drop (y ∷ ys) zero h = rw (eq-eqb y 1 h, count)
-count-drop (y ∷ ys) (suc x) h = go (eqb y 1) (count 1 ys) (count 1 (set ys x 0)) (count-drop ys x h)
-  where
-    go : (b : Bool) (c d : ℕ) → c ≡ suc d → (elim b [ true ↦ suc c | false ↦ c ]) ≡ suc (elim b [ true ↦ suc d | false ↦ d ])
-    go true c d e = ap suc e
-    go false c d e = e
+-- ---- one mark taken away
 
 module _ (m : List ℕ) (y : ℕ) where
-  drop-other : (x : ℕ) → Marked (set m y 0) x → (x ≡ y → ⊥) × Marked m x
-  drop-other x h = go (ℕ-discrete x y)
-    where
-      go : Dec (x ≡ y) → (x ≡ y → ⊥) × Marked m x
-      go (yes e) =
-          let h′ : Marked (set m y 0) y = rw e at h in
-          let l : y < length m = rw length-set at (marked-in (set m y 0) y h′) in
-          let z = getD-set-same m y 0 0 l in
-          absurd (omega arith)
-      go (no e) = (e, sym (getD-set-other m y x 0 0 e) ∙ h)
+  pub count-drop : Marked m y → count 1 m ≡ suc (count 1 (set m y 0))
+  count-drop h = count-change 1 0 m y 0 (marked-in m y h) h (λ (e : _≡_ {A = ℕ} 0 1). omega arith)
 
-  drop-keeps : (x : ℕ) → (x ≡ y → ⊥) → Marked m x → Marked (set m y 0) x
+  drop-gone : Marked (set m y 0) y → ⊥
+  drop-gone h =
+      let l : y < length m = rw length-set at (marked-in (set m y 0) y h) in
+      let z = getD-set-same m y 0 0 l in
+      omega arith
+
+  drop-other : (x : ℕ) → Marked (set m y 0) x → (x ≢ y) × Marked m x
+  drop-other x h = if-eq x y (λ e. absurd (drop-gone (rw e at h))) (λ e. (e, sym (getD-set-other m y x 0 0 e) ∙ h))
+
+  drop-keeps : (x : ℕ) → x ≢ y → Marked m x → Marked (set m y 0) x
   drop-keeps x e h = getD-set-other m y x 0 0 e ∙ h
 
-count-le : (m : List ℕ) (x : ℕ) → count 1 m ≤ suc (count 1 (set m x 0))
-unfolding count
-count-le [] x = omega arith
-count-le (y ∷ ys) zero = go (eqb y 1)
-  where
-    go : (b : Bool) → (elim b [ true ↦ suc (count 1 ys) | false ↦ count 1 ys ]) ≤ suc (count 1 ys)
-    go true = omega arith
-    go false = omega arith
-count-le (y ∷ ys) (suc x) = go (eqb y 1) (count-le ys x)
-  where
-    go : (b : Bool) → count 1 ys ≤ suc (count 1 (set ys x 0)) → (elim b [ true ↦ suc (count 1 ys) | false ↦ count 1 ys ]) ≤ suc (elim b [ true ↦ suc (count 1 (set ys x 0)) | false ↦ count 1 (set ys x 0) ])
-    go true h = omega arith
-    go false h = omega arith
+-- ---- the two pigeonholes
 
 -- every marked slot is in the list: it is as long as they are many
 pub cover : (l m : List ℕ) → ((x : ℕ) → Marked m x → In x l) → count 1 m ≤ length l
 cover [] m h = let e = count-none m (λ x p. not-nil (h x p)) in omega arith
 cover (y ∷ l) m h =
-    let r = cover l (set m y 0) (λ x p. let q = drop-other m y x p in rest x (q .0) (in-cons (h x (q .1)))) in
-    let c = count-le m y in
+    let rest : (x : ℕ) → Marked (set m y 0) x → In x l = λ x p.
+    let (other, q) = drop-other m y x p in
+    ⊎-elim (λ (e : x ≡ y). absurd (other e)) (λ i. i) (in-cons (h x q)) in
+    let r = cover l (set m y 0) rest in
+    let c = count-le 1 0 m y in
     omega arith
-  where
-    rest : (x : ℕ) → (x ≡ y → ⊥) → (x ≡ y) ⊎ In x l → In x l
-    rest x ne (inl e) = absurd (ne e)
-    rest x ne (inr i) = i
 
 pub data Distinct : List ℕ → Type 0 where
   none : Distinct []
@@ -77,7 +58,55 @@ pub data Distinct : List ℕ → Type 0 where
 -- a list of distinct marked slots is at most as long as they are many
 pub distinct-le : (l m : List ℕ) → Distinct l → ((x : ℕ) → In x l → Marked m x) → length l ≤ count 1 m
 distinct-le [] m d h = omega arith
-distinct-le (y ∷ l) m (more no-y d) h =
-    let r = distinct-le l (set m y 0) d (λ x i. drop-keeps m y x (λ e. no-y (subst (λ (z : ℕ). In z l) e i)) (h x (there i))) in
+distinct-le (y ∷ l) m (more once d) h =
+    let r = distinct-le l (set m y 0) d (λ x i. drop-keeps m y x (λ e. once (in-cast (sym e) i)) (h x (there i))) in
     let c = count-drop m y (h y (here refl)) in
     omega arith
+
+-- ---- the marked slots by a rule: f 0, f 1, .., k of them
+
+pub distinct-tab : (f : ℕ → ℕ) (n a : ℕ) → ((k l : ℕ) → k < l → l < a + n → f k ≡ f l → ⊥) → Distinct (tabulateFrom n a f)
+unfolding tabulateFrom
+distinct-tab f zero a h = none
+distinct-tab f (suc n) a h =
+    let once : In (f a) (tabulateFrom n (suc a) f) → ⊥ = λ i.
+    let (k, l, u, e) = in-tab f n (suc a) (f a) i in
+    h a k (omega arith) (omega arith) e in
+    more once (distinct-tab f n (suc a) (λ k l kl b. h k l kl (omega arith)))
+
+module _ (m : List ℕ) (f : ℕ → ℕ) (k : ℕ) (all : (x : ℕ) → Marked m x → (j : ℕ) × (j < k) × (x ≡ f j)) where
+  -- each of them marked, no two the same: they are k
+  pub count-by : ((j : ℕ) → j < k → Marked m (f j)) → ((a b : ℕ) → a < b → b < k → f a ≡ f b → ⊥) → count 1 m ≡ k
+  count-by marks apart =
+      let l = tabulateFrom k 0 f in
+      let a = cover l m (λ x h. let (j, b, e) = all x h in in-cast e (tab-in f k 0 j (omega arith) (omega arith))) in
+      let b = distinct-le l m (distinct-tab f k 0 (λ a b ab h. apart a b ab (omega arith)))
+      (λ x i. let (j, _, h, e) = in-tab f k 0 x i in rw e (marks j (omega arith))) in
+      let c = length-tabFrom f k 0 in
+      omega arith
+
+  -- they are k: no two the same
+  pub apart-by : count 1 m ≡ k → (a b : ℕ) → a < b → b < k → f a ≡ f b → ⊥
+  apart-by size a b ab hb same =
+      let r = cover (below ++ above) m (λ x h. kept x (all x h)) in
+      let u = length-append below above in
+      let v = length-tabFrom f b 0 in
+      let w = length-tabFrom f (k - suc b) (suc b) in
+      omega arith
+    where
+      below : List ℕ
+      below = tabulateFrom b 0 f
+
+      above : List ℕ
+      above = tabulateFrom (k - suc b) (suc b) f
+
+      low : (j : ℕ) → j < b → In (f j) (below ++ above)
+      low j h = in-left above (tab-in f b 0 j (omega arith) (omega arith))
+
+      high : (j : ℕ) → b < j → j < k → In (f j) (below ++ above)
+      high j h u = in-right below (tab-in f (k - suc b) (suc b) j h (omega arith))
+
+      kept : (x : ℕ) → (j : ℕ) × (j < k) × (x ≡ f j) → In x (below ++ above)
+      kept x (j, h, e) =
+          let twin : j ≡ b → In x (below ++ above) = λ q. in-cast (e ∙ ap f q ∙ sym same) (low a ab) in
+          if-lt j b (λ l. in-cast e (low j l)) (λ l. if-eq j b twin (λ q. in-cast e (high j (omega arith) h)))

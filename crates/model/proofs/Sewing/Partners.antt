@@ -1,258 +1,226 @@
--- The walk of both sides: what it finds is the least relation that holds the two darts and goes with the words.
+-- Partners: the walk of both sides at once, for any words.
+-- What it finds is the least relation that holds the couples to do and goes with the words: `pairUp-within`, `pairUp-complete`.
+-- It fails only where no such relation gives each dart one partner: `pairUp-finds`.
 use Prim.Native.Nat.{ℕ, zero, suc, _+_, _*_, _≤_, _<_}
-use mathlib.Core.Path.{_≡_, refl, sym, ap, _∙_, subst, subst₂}
-use mathlib.Core.Logic.{_⊎_, inl, inr, _≢_}
+use mathlib.Core.Path.{_≡_, refl, sym, ap, _∙_, subst₂}
+use mathlib.Core.Logic.{_⊎_, inl, inr, _≢_, ⊎-elim}
 use mathlib.Core.Bool.{Bool, true, false}
-use mathlib.Core.Option.{none, some}
-use mathlib.Core.List.{List, [], _∷_, _++_, List·Memᴰ as In, List·Memᴰ·not-nil as not-nil, List·Memᴰ·cases-cons as in-cons, List·Memᴰ·append-cases as in-append}
-use mathlib.Core.List.{List·Memᴰ·head as here, List·Memᴰ·tail as there, Memᴰ·append-left as in-left, Memᴰ·append-right as in-right}
+use mathlib.Core.Option.{Option, none, some}
+use mathlib.Core.List.{List, [], _∷_, _++_, List·Memᴰ as In, List·Memᴰ·not-nil as not-nil, List·Memᴰ·cases-cons as in-cons}
+use mathlib.Core.List.{List·Memᴰ·head as here, List·Memᴰ·tail as there, List·Memᴰ·append-cases as in-append}
+use mathlib.Core.List.{Memᴰ·append-left as in-left, Memᴰ·append-right as in-right, Memᴰ·cast as in-cast}
 use native.Mathlib.Nat.{mul-suc}
-use native.Mathlib.Decide.{ℕ-discrete}
 use native.Mathlib.Omega.{arith}
 use lib.ListN.{length, getD, set, length-set, length-append, List·getD-eq-default}
 use lib.Seq.{getD-set-same, getD-set-other, set-out}
-use lib.Dec.{eqb, ltb}
-use borrow.Author.Tests.{eqb-true, eqb-false, eq-eqb, ne-eqb, ltb-true, ltb-false}
+use lib.Dec.{eqb}
+use borrow.Author.Tests.{eqb-true, eqb-false, eq-eqb, ne-eqb}
 use Rattle.model.specs.Lists.{count}
 use Rattle.model.specs.Table.{unused, walk}
 use Rattle.model.specs.Sew.{Couple, couple, coupleSteps, pairUp}
-use Rattle.model.proofs.Lists.Scan.{bool-cases}
+use Rattle.model.proofs.Lists.Scan.{test, if-eq, if-lt}
+
+-- ---- partners
 
 -- y is the partner of x
-pub record Has (p : List ℕ) (x y : ℕ) : Type 0 where
+pub record Partner (p : List ℕ) (x y : ℕ) : Type 0 where
   pub is : getD p x unused ≡ y
   pub real : y ≢ unused
 
-pub has-one : {p : List ℕ} {x y z : ℕ} → Has p x y → Has p x z → y ≡ z
-has-one a b = sym (a .is) ∙ b .is
+-- a couple that is set: the partner of x is y, and the others are as before
+module _ (p : List ℕ) (x y : ℕ) where
+  set-partner : x < length p → y ≢ unused → Partner (set p x y) x y
+  set-partner l real = record { is = getD-set-same p x y unused l; real = real }
 
-pub ltb-or : (a b : ℕ) → (a < b) ⊎ (b ≤ a)
-ltb-or a b = go (bool-cases (ltb a b))
-  where
-    go : (ltb a b ≡ true) ⊎ (ltb a b ≡ false) → (a < b) ⊎ (b ≤ a)
-    go (inl e) = inl (ltb-true a b e)
-    go (inr e) = inr (ltb-false a b e)
+  set-keeps : getD p x unused ≡ unused → (a b : ℕ) → Partner p a b → Partner (set p x y) a b
+  set-keeps e a b h =
+      let other : a ≢ x = λ q. h .real (sym (h .is) ∙ ap (λ (z : ℕ). getD p z unused) q ∙ e) in
+      record { is = getD-set-other p x a y unused other ∙ h .is; real = h .real }
 
-count-fill : (p : List ℕ) (x y : ℕ) → x < length p → getD p x unused ≡ unused → y ≢ unused → count unused p ≡ suc (count unused (set p x y))
+  set-only : (a b : ℕ) → Partner (set p x y) a b → ((a ≡ x) × (b ≡ y)) ⊎ Partner p a b
+  set-only a b h = if-eq a x
+      (λ e. let at : getD (set p x y) x unused ≡ b = ap (λ (z : ℕ). getD (set p x y) z unused) (sym e) ∙ h .is in
+      if-lt x (length p) (λ l. inl (e, sym at ∙ getD-set-same p x y unused l))
+      (λ l. absurd (h .real (sym at ∙ ap (λ (z : List ℕ). getD z x unused) (set-out p x y l) ∙ List·getD-eq-default p unused l))))
+      (λ e. inr (record { is = sym (getD-set-other p x a y unused e) ∙ h .is; real = h .real }))
+
+-- one entry v fewer, where another number is put for one
+count-set : (v : ℕ) (p : List ℕ) (x y : ℕ) → x < length p → getD p x v ≡ v → y ≢ v → count v p ≡ suc (count v (set p x y))
 unfolding count
-count-fill [] x y l h n = absurd (omega arith)
-count-fill (z ∷ zs) zero y l h n = rw (eq-eqb z unused h, ne-eqb y unused n, count)
-count-fill (z ∷ zs) (suc x) y l h n = go (eqb z unused) (count unused zs) (count unused (set zs x y)) (count-fill zs x y (omega arith) h n)
+count-set v [] x y l h other = absurd (omega arith)
+count-set v (z ∷ zs) zero y l h other = rw (eq-eqb z v h, ne-eqb y v other, count)
+count-set v (z ∷ zs) (suc x) y l h other =
+    let rec = count-set v zs x y (omega arith) h other in
+    go (eqb z v) (count v zs) (count v (set zs x y)) rec
   where
     go : (b : Bool) (c d : ℕ) → c ≡ suc d → (elim b [ true ↦ suc c | false ↦ c ]) ≡ suc (elim b [ true ↦ suc d | false ↦ d ])
     go true c d e = ap suc e
     go false c d e = e
 
+-- ---- the couples one step away
+
+-- what holds of x and y holds of each couple that is x and y
+pub at-couple : (R : ℕ → ℕ → Type 0) {x y a b : ℕ} → R x y → couple a b ≡ couple x y → R a b
+at-couple R {x} {y} {a} {b} h q = subst₂ R (sym (cc)) (sym (cc)) h
+
 module _ (t : List ℕ) where
-  pair-of : (ws : List (List ℕ)) (x y : ℕ) (z : Couple) → In z (coupleSteps t ws x y) → (w : List ℕ) × In w ws × (z ≡ couple (walk t w x) (walk t w y))
+  couple-of : (ws : List (List ℕ)) (x y : ℕ) (c : Couple) → In c (coupleSteps t ws x y)
+      → (w : List ℕ) × In w ws × (c ≡ couple (walk t w x) (walk t w y))
   unfolding coupleSteps
-  pair-of [] x y z i = absurd (not-nil i)
-  pair-of (w ∷ ws) x y z i = go (pair-of ws x y z) (in-cons i)
-    where
-      go : (In z (coupleSteps t ws x y) → (v : List ℕ) × In v ws × (z ≡ couple (walk t v x) (walk t v y))) → (z ≡ couple (walk t w x) (walk t w y)) ⊎ In z (coupleSteps t ws x y)
-          → (v : List ℕ) × In v (w ∷ ws) × (z ≡ couple (walk t v x) (walk t v y))
-      go rec (inl e) = (w, here refl, e)
-      go rec (inr j) = let r = rec j in (r .0, there (r .1), r .2)
+  couple-of [] x y c i = absurd (not-nil i)
+  couple-of (v ∷ ws) x y c i =
+      let rec = couple-of ws x y c in
+      ⊎-elim (λ e. (v, here refl, e)) (λ j. let r = rec j in (r .0, there (r .1), r .2)) (in-cons i)
 
-  pair-in : (ws : List (List ℕ)) (x y : ℕ) (w : List ℕ) → In w ws → In (couple (walk t w x) (walk t w y)) (coupleSteps t ws x y)
+  couple-in : (ws : List (List ℕ)) (x y : ℕ) (w : List ℕ) → In w ws → In (couple (walk t w x) (walk t w y)) (coupleSteps t ws x y)
   unfolding coupleSteps
-  pair-in [] x y w i = absurd (not-nil i)
-  pair-in (v ∷ ws) x y w i = go (pair-in ws x y w) (in-cons i)
-    where
-      go : (In w ws → In (couple (walk t w x) (walk t w y)) (coupleSteps t ws x y)) → (w ≡ v) ⊎ In w ws → In (couple (walk t w x) (walk t w y)) (couple (walk t v x) (walk t v y) ∷ coupleSteps t ws x y)
-      go rec (inl e) = here (ap (λ (u : List ℕ). couple (walk t u x) (walk t u y)) e)
-      go rec (inr j) = there (rec j)
+  couple-in [] x y w i = absurd (not-nil i)
+  couple-in (v ∷ ws) x y w i =
+      let rec = couple-in ws x y w in
+      ⊎-elim (λ e. here (ap (λ (u : List ℕ). couple (walk t u x) (walk t u y)) e)) (λ j. there (rec j)) (in-cons i)
 
-  length-pairs : (ws : List (List ℕ)) (x y : ℕ) → length (coupleSteps t ws x y) ≡ length ws
+  couple-many : (ws : List (List ℕ)) (x y : ℕ) → length (coupleSteps t ws x y) ≡ length ws
   unfolding coupleSteps
-  length-pairs [] x y = refl
-  length-pairs (w ∷ ws) x y = ap suc (length-pairs ws x y)
+  couple-many [] x y = refl
+  couple-many (w ∷ ws) x y = ap suc (couple-many ws x y)
 
-  module _ (ws : List (List ℕ)) where
-    mate-new : (k x y : ℕ) (todo : List Couple) (p : List ℕ) → eqb (getD p x unused) unused ≡ true → pairUp t ws (suc k) (couple x y ∷ todo) p ≡ pairUp t ws k (coupleSteps t ws x y ++ todo) (set p x y)
-    unfolding pairUp
-    mate-new k x y todo p e = rw (e, pairUp)
+-- ---- pairing up
 
-    mate-old : (k x y : ℕ) (todo : List Couple) (p : List ℕ) → eqb (getD p x unused) unused ≡ false → eqb (getD p x unused) y ≡ true → pairUp t ws (suc k) (couple x y ∷ todo) p ≡ pairUp t ws k todo p
-    unfolding pairUp
-    mate-old k x y todo p e f = rw (e, f, pairUp)
+module _ (t : List ℕ) (ws : List (List ℕ)) where
+  -- how pairing up goes on, step by step: with so much fuel, from the couples to do and the partners so far to the outcome
+  pub data PairsUp : ℕ → List Couple → List ℕ → Option (List ℕ) → Type 0 where
+    spent : {todo : List Couple} {p : List ℕ} → PairsUp zero todo p (some p)
+    done : {k : ℕ} {p : List ℕ} → PairsUp (suc k) [] p (some p)
+    fresh : {k x y : ℕ} {todo : List Couple} {p : List ℕ} {o : Option (List ℕ)} → getD p x unused ≡ unused
+        → PairsUp k (coupleSteps t ws x y ++ todo) (set p x y) o → PairsUp (suc k) (couple x y ∷ todo) p o
+    known : {k x y : ℕ} {todo : List Couple} {p : List ℕ} {o : Option (List ℕ)} → getD p x unused ≢ unused → getD p x unused ≡ y
+        → PairsUp k todo p o → PairsUp (suc k) (couple x y ∷ todo) p o
+    clash : {k x y : ℕ} {todo : List Couple} {p : List ℕ} → getD p x unused ≢ unused → getD p x unused ≢ y
+        → PairsUp (suc k) (couple x y ∷ todo) p none
 
-    mate-bad : (k x y : ℕ) (todo : List Couple) (p : List ℕ) → eqb (getD p x unused) unused ≡ false → eqb (getD p x unused) y ≡ false → pairUp t ws (suc k) (couple x y ∷ todo) p ≡ none
-    unfolding pairUp
-    mate-bad k x y todo p e f = rw (e, f, pairUp)
+  pub pairUp-steps : (k : ℕ) (todo : List Couple) (p : List ℕ) → PairsUp k todo p (pairUp t ws k todo p)
+  unfolding pairUp
+  pairUp-steps zero todo p = spent
+  pairUp-steps (suc k) [] p = done
+  pairUp-steps (suc k) (couple x y ∷ todo) p =
+      let rec = pairUp-steps k in
+      test (eqb (getD p x unused) unused)
+      (λ e. rw (e, pairUp) (fresh (eqb-true _ _ e) (rec (coupleSteps t ws x y ++ todo) (set p x y))))
+      (λ e. test (eqb (getD p x unused) y)
+      (λ q. rw (e, q, pairUp) (known (eqb-false _ _ e) (eqb-true _ _ q) (rec todo p)))
+      (λ q. rw (e, q, pairUp) (clash (eqb-false _ _ e) (eqb-false _ _ q))))
 
-    mate-end : (k : ℕ) (todo : List Couple) (p r : List ℕ) → pairUp t ws k todo p ≡ some r → (k ≡ 0) ⊎ (todo ≡ []) → p ≡ r
-    unfolding pairUp
-    mate-end zero todo p r m h = cc
-    mate-end (suc k) [] p r m h = cc
-    mate-end (suc k) (z ∷ todo) p r m (inl e) = absurd (omega arith)
-    mate-end (suc k) (z ∷ todo) p r m (inr e) = absurd (let y : _≡_ {A = ℕ} 0 1 = cc in omega arith)
+  -- R holds of the couples, or of the partners
+  abbrev Couples : (ℕ → ℕ → Type 0) → List Couple → Type 0
+  Couples R todo = (a b : ℕ) → In (couple a b) todo → R a b
 
-    -- whatever relation holds of the pairs to do and of the partners, and goes with the words, holds of all partners found
-    module _ (R : ℕ → ℕ → Type 0) (kept : (x y : ℕ) (w : List ℕ) → R x y → In w ws → R (walk t w x) (walk t w y)) where
-      abbrev Todo : List Couple → Type 0
-      Todo todo = (x y : ℕ) → In (couple x y) todo → R x y
+  abbrev Partners : (ℕ → ℕ → Type 0) → List ℕ → Type 0
+  Partners R p = (a b : ℕ) → Partner p a b → R a b
 
-      more : (x y : ℕ) (todo : List Couple) → Todo (couple x y ∷ todo) → Todo (coupleSteps t ws x y ++ todo)
-      more x y todo h a b i = go (in-append (coupleSteps t ws x y) i)
+  module _ (R : ℕ → ℕ → Type 0) (goes : (x y : ℕ) (w : List ℕ) → R x y → In w ws → R (walk t w x) (walk t w y)) where
+    next-couples : {x y : ℕ} {todo : List Couple} → Couples R (couple x y ∷ todo) → Couples R (coupleSteps t ws x y ++ todo)
+    next-couples {x} {y} h a b i = ⊎-elim
+        (λ j. let r = couple-of t ws x y (couple a b) j in at-couple R (goes x y (r .0) (h x y (here refl)) (r .1)) (r .2))
+        (λ j. h a b (there j)) (in-append (coupleSteps t ws x y) i)
+
+    next-partners : {x y : ℕ} {p : List ℕ} → R x y → Partners R p → Partners R (set p x y)
+    next-partners {x} {y} {p} r h a b k = ⊎-elim (λ e. subst₂ R (sym (e .0)) (sym (e .1)) r) (λ m. h a b m) (set-only p x y a b k)
+
+    -- a relation that holds of the couples to do and of the partners, and goes with the words, holds of all partners found
+    pub pairUp-within : {k : ℕ} {todo : List Couple} {p r : List ℕ} → PairsUp k todo p (some r)
+        → Couples R todo → Partners R p → Partners R r
+    pairUp-within spent ht hp = hp
+    pairUp-within done ht hp = hp
+    pairUp-within (fresh e w) ht hp = pairUp-within w (next-couples ht) (next-partners (ht _ _ (here refl)) hp)
+    pairUp-within (known e q w) ht hp = pairUp-within w (λ a b i. ht a b (there i)) hp
+
+    -- where the walk fails, such a relation gives a dart two partners
+    pub pairUp-finds : ((x y z : ℕ) → R x y → R x z → y ≡ z) → {k : ℕ} {todo : List Couple} {p : List ℕ}
+        → PairsUp k todo p none → Couples R todo → Partners R p → ⊥
+    pairUp-finds one (fresh e w) ht hp = pairUp-finds one w (next-couples ht) (next-partners (ht _ _ (here refl)) hp)
+    pairUp-finds one (known e q w) ht hp = pairUp-finds one w (λ a b i. ht a b (there i)) hp
+    pairUp-finds one (clash e q) ht hp = q (one _ _ _ (hp _ _ (record { is = refl; real = e })) (ht _ _ (here refl)))
+
+  -- ---- what a walk leaves: the partners that were there, the couples to do, and they go with the words
+
+  pub record Complete (todo : List Couple) (p r : List ℕ) : Type 0 where
+    pub keeps : Partners (Partner r) p
+    pub holds : Couples (Partner r) todo
+    pub goes : (a b : ℕ) (w : List ℕ) → Partner r a b → In w ws → Partner r (walk t w a) (walk t w b)
+
+  -- the partners go with the words, but for couples to do
+  abbrev Upto : List Couple → List ℕ → Type 0
+  Upto todo p = (a b : ℕ) (w : List ℕ) → Partner p a b → In w ws
+      → Partner p (walk t w a) (walk t w b) ⊎ In (couple (walk t w a) (walk t w b)) todo
+
+  stop-complete : {p : List ℕ} → Upto [] p → Complete [] p p
+  stop-complete up = record {
+    keeps = λ a b h. h;
+    holds = λ a b i. absurd (not-nil i);
+    goes = λ a b w h i. ⊎-elim (λ k. k) (λ j. absurd (not-nil j)) (up a b w h i);
+  }
+
+  module _ (x y : ℕ) (todo : List Couple) (p : List ℕ) where
+    module _ (h : Partner p x y) where
+      known-upto : Upto (couple x y ∷ todo) p → Upto todo p
+      known-upto up a b w k i = ⊎-elim inl (λ j. ⊎-elim (λ e. inl (at-couple (Partner p) h e)) inr (in-cons j)) (up a b w k i)
+
+      known-complete : (r : List ℕ) → Complete todo p r → Complete (couple x y ∷ todo) p r
+      known-complete r c = record {
+        keeps = c .keeps;
+        holds = λ a b i. ⊎-elim (λ e. at-couple (Partner r) (c .keeps x y h) e) (c .holds a b) (in-cons i);
+        goes = c .goes;
+      }
+
+    module _ (l : x < length p) (real : y ≢ unused) (e : getD p x unused ≡ unused) where
+      abbrev after : List Couple
+      after = coupleSteps t ws x y ++ todo
+
+      fresh-upto : Upto (couple x y ∷ todo) p → Upto after (set p x y)
+      fresh-upto up a b w k i = ⊎-elim first (λ m. ⊎-elim (λ h. inl (set-keeps p x y e _ _ h)) later (up a b w m i))
+          (set-only p x y a b k)
         where
-          moved : (w : List ℕ) → In w ws → couple a b ≡ couple (walk t w x) (walk t w y) → R a b
-          moved w j q = subst₂ R (sym (cc)) (sym (cc)) (kept x y w (h x y (here refl)) j)
+          Goal : Type 0
+          Goal = Partner (set p x y) (walk t w a) (walk t w b) ⊎ In (couple (walk t w a) (walk t w b)) after
 
-          go : In (couple a b) (coupleSteps t ws x y) ⊎ In (couple a b) todo → R a b
-          go (inl j) = let r = pair-of ws x y (couple a b) j in moved (r .0) (r .1) (r .2)
-          go (inr j) = h a b (there j)
+          first : (a ≡ x) × (b ≡ y) → Goal
+          first q = inr (in-left todo (in-cast (rw (q .0, q .1)) (couple-in t ws x y w i)))
 
-      filled : (x y : ℕ) (p : List ℕ) → R x y → ((a b : ℕ) → Has p a b → R a b) → (a b : ℕ) → Has (set p x y) a b → R a b
-      filled x y p r h a b q = go (ℕ-discrete a x)
-        where
-          same : a ≡ x → R a b
-          same e = at (ltb-or x (length p))
-            where
-              at : (x < length p) ⊎ (length p ≤ x) → R a b
-              at (inl l) = subst₂ R (sym e) (sym (getD-set-same p x y unused l) ∙ ap (λ (z : ℕ). getD (set p x y) z unused) (sym e) ∙ q .is) r
-              at (inr l) = absurd (q .real (sym (q .is) ∙ ap (λ (z : ℕ). getD (set p x y) z unused) e ∙ ap (λ (z : List ℕ). getD z x unused) (set-out p x y l) ∙ List·getD-eq-default p unused l))
+          later : In (couple (walk t w a) (walk t w b)) (couple x y ∷ todo) → Goal
+          later j = ⊎-elim (λ q. inl (at-couple (Partner (set p x y)) (set-partner p x y l real) q))
+              (λ m. inr (in-right (coupleSteps t ws x y) m)) (in-cons j)
 
-          go : Dec (a ≡ x) → R a b
-          go (yes e) = same e
-          go (no e) = h a b (record { is = sym (getD-set-other p x a y unused e) ∙ q .is; real = q .real })
+      fresh-complete : (r : List ℕ) → Complete after (set p x y) r → Complete (couple x y ∷ todo) p r
+      fresh-complete r c = record {
+        keeps = λ a b h. c .keeps a b (set-keeps p x y e a b h);
+        holds = λ a b i. ⊎-elim (λ q. at-couple (Partner r) (c .keeps x y (set-partner p x y l real)) q)
+            (λ j. c .holds a b (in-right (coupleSteps t ws x y) j)) (in-cons i);
+        goes = c .goes;
+      }
 
-      pub mate-within : (k : ℕ) (todo : List Couple) (p r : List ℕ) → pairUp t ws k todo p ≡ some r → Todo todo → ((a b : ℕ) → Has p a b → R a b) → (a b : ℕ) → Has r a b → R a b
-      mate-within zero todo p r m ht hp = subst (λ (z : List ℕ). (a b : ℕ) → Has z a b → R a b) (mate-end zero todo p r m (inl refl)) hp
-      mate-within (suc k) [] p r m ht hp = subst (λ (z : List ℕ). (a b : ℕ) → Has z a b → R a b) (mate-end (suc k) [] p r m (inr refl)) hp
-      mate-within (suc k) (couple x y ∷ todo) p r m ht hp = go (mate-within k) (bool-cases (eqb (getD p x unused) unused)) (bool-cases (eqb (getD p x unused) y))
-        where
-          go : ((todo′ : List Couple) (p′ r′ : List ℕ) → pairUp t ws k todo′ p′ ≡ some r′ → Todo todo′ → ((a b : ℕ) → Has p′ a b → R a b) → (a b : ℕ) → Has r′ a b → R a b)
-              → (eqb (getD p x unused) unused ≡ true) ⊎ (eqb (getD p x unused) unused ≡ false) → (eqb (getD p x unused) y ≡ true) ⊎ (eqb (getD p x unused) y ≡ false)
-              → (a b : ℕ) → Has r a b → R a b
-          go rec (inl e) f = rec (coupleSteps t ws x y ++ todo) (set p x y) r (sym (mate-new k x y todo p e) ∙ m) (more x y todo ht) (filled x y p (ht x y (here refl)) hp)
-          go rec (inr e) (inl f) = rec todo p r (sym (mate-old k x y todo p e f) ∙ m) (λ a b i. ht a b (there i)) hp
-          go rec (inr e) (inr f) = let q = mate-bad k x y todo p e f in absurd (let z : _≡_ {A = ℕ} 0 1 = cc in omega arith)
+      -- each couple that is set costs its steps, and there are fewer left to set
+      fresh-fuel : (k : ℕ) → length (couple x y ∷ todo) + length ws * count unused p ≤ suc k
+          → length after + length ws * count unused (set p x y) ≤ k
+      fresh-fuel k fuel =
+          let left = count unused (set p x y) in
+          let fewer = ap (λ (z : ℕ). length ws * z) (count-set unused p x y l e real) ∙ mul-suc (length ws) left in
+          let many = couple-many t ws x y in
+          rw length-append (omega arith)
 
-    -- what the walk leaves: the partners that were there, those to do, and they go with the words
-    pub record Mated (todo : List Couple) (p r : List ℕ) : Type 0 where
-      pub keeps : (a b : ℕ) → Has p a b → Has r a b
-      pub holds : (a b : ℕ) → In (couple a b) todo → Has r a b
-      pub closed : (a b : ℕ) (w : List ℕ) → Has r a b → In w ws → Has r (walk t w a) (walk t w b)
-
-    abbrev Upto : List Couple → List ℕ → Type 0
-    Upto todo p = (a b : ℕ) (w : List ℕ) → Has p a b → In w ws → Has p (walk t w a) (walk t w b) ⊎ In (couple (walk t w a) (walk t w b)) todo
-
-    has-eq : {p : List ℕ} {x y a b : ℕ} → Has p x y → couple a b ≡ couple x y → Has p a b
-    has-eq {p} {x} {y} {a} {b} h q = subst₂ (Has p) (sym (cc)) (sym (cc)) h
-
-    module _ (x y : ℕ) (todo : List Couple) (p : List ℕ) where
-      module _ (h : Has p x y) where
-        old-up : Upto (couple x y ∷ todo) p → Upto todo p
-        old-up up a b w q i = go (up a b w q i)
-          where
-            last : (couple (walk t w a) (walk t w b) ≡ couple x y) ⊎ In (couple (walk t w a) (walk t w b)) todo → Has p (walk t w a) (walk t w b) ⊎ In (couple (walk t w a) (walk t w b)) todo
-            last (inl e) = inl (has-eq h e)
-            last (inr j) = inr j
-
-            go : Has p (walk t w a) (walk t w b) ⊎ In (couple (walk t w a) (walk t w b)) (couple x y ∷ todo) → Has p (walk t w a) (walk t w b) ⊎ In (couple (walk t w a) (walk t w b)) todo
-            go (inl k) = inl k
-            go (inr j) = last (in-cons j)
-
-        old-mated : (r : List ℕ) → Mated todo p r → Mated (couple x y ∷ todo) p r
-        old-mated r m = record { keeps = m .keeps; holds = λ a b i. go a b (in-cons i); closed = m .closed }
-          where
-            go : (a b : ℕ) → (couple a b ≡ couple x y) ⊎ In (couple a b) todo → Has r a b
-            go a b (inl e) = m .keeps a b (has-eq h e)
-            go a b (inr i) = m .holds a b i
-
-      module _ (l : x < length p) (n : y ≢ unused) (e : getD p x unused ≡ unused) where
-        fill-has : Has (set p x y) x y
-        fill-has = record { is = getD-set-same p x y unused l; real = n }
-
-        fill-keeps : (a b : ℕ) → Has p a b → Has (set p x y) a b
-        fill-keeps a b h = record { is = getD-set-other p x a y unused (λ q. h .real (sym (h .is) ∙ ap (λ (z : ℕ). getD p z unused) q ∙ e)) ∙ h .is; real = h .real }
-
-        new-up : Upto (couple x y ∷ todo) p → Upto (coupleSteps t ws x y ++ todo) (set p x y)
-        new-up up a b w q i = go (ℕ-discrete a x)
-          where
-            Goal : Type 0
-            Goal = Has (set p x y) (walk t w a) (walk t w b) ⊎ In (couple (walk t w a) (walk t w b)) (coupleSteps t ws x y ++ todo)
-
-            last : (couple (walk t w a) (walk t w b) ≡ couple x y) ⊎ In (couple (walk t w a) (walk t w b)) todo → Goal
-            last (inl k) = inl (has-eq fill-has k)
-            last (inr j) = inr (in-right (coupleSteps t ws x y) j)
-
-            old : Has p (walk t w a) (walk t w b) ⊎ In (couple (walk t w a) (walk t w b)) (couple x y ∷ todo) → Goal
-            old (inl k) = inl (fill-keeps (walk t w a) (walk t w b) k)
-            old (inr j) = last (in-cons j)
-
-            first : a ≡ x → b ≡ y → In (couple (walk t w a) (walk t w b)) (coupleSteps t ws x y)
-            first f g = subst₂ (λ (c d : ℕ). In (couple (walk t w c) (walk t w d)) (coupleSteps t ws x y)) (sym f) (sym g) (pair-in ws x y w i)
-
-            go : Dec (a ≡ x) → Goal
-            go (yes f) = inr (in-left todo (first f (has-one (subst (λ (c : ℕ). Has (set p x y) c b) f q) fill-has)))
-            go (no f) = old (up a b w (record { is = sym (getD-set-other p x a y unused f) ∙ q .is; real = q .real }) i)
-
-        new-mated : (r : List ℕ) → Mated (coupleSteps t ws x y ++ todo) (set p x y) r → Mated (couple x y ∷ todo) p r
-        new-mated r m = record { keeps = λ a b h. m .keeps a b (fill-keeps a b h); holds = λ a b i. go a b (in-cons i); closed = m .closed }
-          where
-            go : (a b : ℕ) → (couple a b ≡ couple x y) ⊎ In (couple a b) todo → Has r a b
-            go a b (inl k) = m .keeps a b (has-eq fill-has k)
-            go a b (inr i) = m .holds a b (in-right (coupleSteps t ws x y) i)
-
-        less : (k : ℕ) → length (couple x y ∷ todo) + length ws * count unused p ≤ suc k → length (coupleSteps t ws x y ++ todo) + length ws * count unused (set p x y) ≤ k
-        less k fuel =
-            let c = count-fill p x y l e n in
-            let s = length-pairs ws x y in
-            let q : length ws * count unused p ≡ length ws * count unused (set p x y) + length ws = ap (λ (z : ℕ). length ws * z) c ∙ mul-suc (length ws) (count unused (set p x y)) in
-            rw length-append (omega arith)
-
-    module _ (N : ℕ) (G : ℕ → ℕ → Type 0) (good : (x y : ℕ) → G x y → (x < N) × (y ≢ unused)) (kept : (x y : ℕ) (w : List ℕ) → G x y → In w ws → G (walk t w x) (walk t w y)) where
-      pub mate-done : (k : ℕ) (todo : List Couple) (p r : List ℕ) → length p ≡ N → length todo + length ws * count unused p ≤ k
-          → ((x y : ℕ) → In (couple x y) todo → G x y) → Upto todo p → pairUp t ws k todo p ≡ some r → Mated todo p r
-      mate-done zero [] p r l f g up m = done (mate-end zero [] p r m (inl refl))
-        where
-          none′ : {a b : ℕ} → Has p a b ⊎ In (couple a b) [] → Has p a b
-          none′ (inl h) = h
-          none′ (inr i) = absurd (not-nil i)
-
-          done : p ≡ r → Mated [] p r
-          done e = subst (λ (z : List ℕ). Mated [] p z) e (record { keeps = λ a b h. h; holds = λ a b i. absurd (not-nil i); closed = λ a b w h i. none′ (up a b w h i) })
-      mate-done (suc k) [] p r l f g up m = done (mate-end (suc k) [] p r m (inr refl))
-        where
-          none′ : {a b : ℕ} → Has p a b ⊎ In (couple a b) [] → Has p a b
-          none′ (inl h) = h
-          none′ (inr i) = absurd (not-nil i)
-
-          done : p ≡ r → Mated [] p r
-          done e = subst (λ (z : List ℕ). Mated [] p z) e (record { keeps = λ a b h. h; holds = λ a b i. absurd (not-nil i); closed = λ a b w h i. none′ (up a b w h i) })
-      mate-done zero (z ∷ todo) p r l f g up m = absurd (omega arith)
-      mate-done (suc k) (couple x y ∷ todo) p r l f g up m = go (mate-done k) (bool-cases (eqb (getD p x unused) unused)) (bool-cases (eqb (getD p x unused) y))
-        where
-          g₀ : (x < N) × (y ≢ unused)
-          g₀ = good x y (g x y (here refl))
-
-          go : ((todo′ : List Couple) (p′ r′ : List ℕ) → length p′ ≡ N → length todo′ + length ws * count unused p′ ≤ k
-              → ((a b : ℕ) → In (couple a b) todo′ → G a b) → Upto todo′ p′ → pairUp t ws k todo′ p′ ≡ some r′ → Mated todo′ p′ r′)
-              → (eqb (getD p x unused) unused ≡ true) ⊎ (eqb (getD p x unused) unused ≡ false) → (eqb (getD p x unused) y ≡ true) ⊎ (eqb (getD p x unused) y ≡ false)
-              → Mated (couple x y ∷ todo) p r
-          go rec (inl e) q =
-              let e′ = eqb-true (getD p x unused) unused e in
-              let h : x < length p = rw l (g₀ .0) in
-              new-mated x y todo p h (g₀ .1) e′ r
-              (rec (coupleSteps t ws x y ++ todo) (set p x y) r (length-set p x y ∙ l) (less x y todo p h (g₀ .1) e′ k f) (more G kept x y todo g) (new-up x y todo p h (g₀ .1) e′ up) (sym (mate-new k x y todo p e) ∙ m))
-          go rec (inr e) (inl q) =
-              let h : Has p x y = record { is = eqb-true _ _ q; real = g₀ .1 } in
-              old-mated x y todo p h r (rec todo p r l (omega arith) (λ a b i. g a b (there i)) (old-up x y todo p h up) (sym (mate-old k x y todo p e q) ∙ m))
-          go rec (inr e) (inr q) = let b = mate-bad k x y todo p e q in absurd (let z : _≡_ {A = ℕ} 0 1 = cc in omega arith)
-
-    -- where it fails, no relation that holds of the pairs and goes with the words gives each dart one partner
-    module _ (R : ℕ → ℕ → Type 0) (kept : (x y : ℕ) (w : List ℕ) → R x y → In w ws → R (walk t w x) (walk t w y)) (one : (x y z : ℕ) → R x y → R x z → y ≡ z) where
-      pub mate-some : (k : ℕ) (todo : List Couple) (p : List ℕ) → ((x y : ℕ) → In (couple x y) todo → R x y) → ((a b : ℕ) → Has p a b → R a b) → pairUp t ws k todo p ≡ none → ⊥
-      unfolding pairUp
-      mate-some zero todo p ht hp m = let z : _≡_ {A = ℕ} 0 1 = cc in omega arith
-      mate-some (suc k) [] p ht hp m = let z : _≡_ {A = ℕ} 0 1 = cc in omega arith
-      mate-some (suc k) (couple x y ∷ todo) p ht hp m = go (mate-some k) (bool-cases (eqb (getD p x unused) unused)) (bool-cases (eqb (getD p x unused) y))
-        where
-          go : ((todo′ : List Couple) (p′ : List ℕ) → ((a b : ℕ) → In (couple a b) todo′ → R a b) → ((a b : ℕ) → Has p′ a b → R a b) → pairUp t ws k todo′ p′ ≡ none → ⊥)
-              → (eqb (getD p x unused) unused ≡ true) ⊎ (eqb (getD p x unused) unused ≡ false) → (eqb (getD p x unused) y ≡ true) ⊎ (eqb (getD p x unused) y ≡ false) → ⊥
-          go rec (inl e) q = rec (coupleSteps t ws x y ++ todo) (set p x y) (more R kept x y todo ht) (filled R kept x y p (ht x y (here refl)) hp) (sym (mate-new k x y todo p e) ∙ m)
-          go rec (inr e) (inl q) = rec todo p (λ a b i. ht a b (there i)) hp (sym (mate-old k x y todo p e q) ∙ m)
-          go rec (inr e) (inr q) =
-              eqb-false (getD p x unused) y q (one x _ _ (hp x (getD p x unused) (record { is = refl; real = eqb-false _ _ e })) (ht x y (here refl)))
+  module _ (slots : ℕ) (Fit : ℕ → ℕ → Type 0) (fits : (x y : ℕ) → Fit x y → (x < slots) × (y ≢ unused))
+      (goes : (x y : ℕ) (w : List ℕ) → Fit x y → In w ws → Fit (walk t w x) (walk t w y)) where
+    pub pairUp-complete : {k : ℕ} {todo : List Couple} {p r : List ℕ} → PairsUp k todo p (some r) → length p ≡ slots
+        → length todo + length ws * count unused p ≤ k → Couples Fit todo → Upto todo p → Complete todo p r
+    pairUp-complete {todo = []} spent long fuel fit up = stop-complete up
+    pairUp-complete {todo = c ∷ cs} spent long fuel fit up = absurd (omega arith)
+    pairUp-complete done long fuel fit up = stop-complete up
+    pairUp-complete (fresh {k = k} {x = x} {y = y} {todo = todo} {p = p} e w) long fuel fit up =
+        let good = fits x y (fit x y (here refl)) in
+        let low : x < length p = rw long (good .0) in
+        let less = fresh-fuel x y todo p low (good .1) e k fuel in
+        let rest = pairUp-complete w (length-set p x y ∙ long) less (next-couples Fit goes fit) in
+        fresh-complete x y todo p low (good .1) e _ (rest (fresh-upto x y todo p low (good .1) e up))
+    pairUp-complete (known {x = x} {y = y} {todo = todo} {p = p} e q w) long fuel fit up =
+        let h : Partner p x y = record { is = q; real = fits x y (fit x y (here refl)) .1 } in
+        let rest = pairUp-complete w long (omega arith) (λ a b i. fit a b (there i)) in
+        known-complete x y todo p h _ (rest (known-upto x y todo p h up))

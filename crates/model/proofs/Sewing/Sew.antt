@@ -1,237 +1,126 @@
--- Sew keeps a map.
-use Prim.Native.Nat.{ℕ, zero, suc, _+_, _*_, _≤_, _<_}
-use mathlib.Core.Path.{_≡_, refl, sym, ap, _∙_, subst, subst₂}
-use mathlib.Core.Logic.{_⊎_, inl, inr, _≢_}
-use mathlib.Core.Bool.{Bool, true, false}
-use mathlib.Core.Option.{Option, none, some}
-use mathlib.Core.List.{List, [], _∷_, List·Memᴰ as In, List·Memᴰ·not-nil as not-nil, List·Memᴰ·cases-cons as in-cons, List·Memᴰ·head as here}
-use native.Mathlib.Nat.{le-refl}
+-- sew: the table that it makes.
+-- `sew-there`, `sew-back`: with any pairing f, x.i is f x and (f x).i is x for each x of d's side.
+-- `sew-rest`, `sew-other`: all other entries stay. `sew-relinked`: it is a map again.
+use Prim.Native.Nat.{ℕ, _≤_, _<_}
+use mathlib.Core.Path.{_≡_, sym, ap, _∙_}
+use mathlib.Core.Logic.{_≢_}
+use mathlib.Core.Bool.{true}
+use mathlib.Core.List.{List}
 use native.Mathlib.Omega.{arith}
-use lib.ListN.{length, getD, replicate, length-replicate}
-use lib.Dec.{eqb}
-use borrow.Author.Tests.{eqb-true, eqb-false, eq-eqb, ne-eqb}
-use Rattle.model.specs.Lists.{count}
-use Rattle.model.specs.Table.{unused, slots, link, walk, live}
-use Rattle.model.specs.Reach.{steps}
-use Rattle.model.specs.Sew.{sideWords, couple, partners, isPaired, sewnLink, sewn, sewTable, side}
-use Rattle.model.specs.Meaning.Maps.{Map, Rule}
-use Rattle.model.specs.Meaning.Pairings.{Far}
+use lib.ListN.{getD}
+use borrow.Author.Tests.{eq-eqb, ne-eqb}
+use Rattle.model.specs.Table.{unused, link, live, relink}
+use Rattle.model.specs.Sew.{sewnLink, sewn, sewTable, side}
+use Rattle.model.specs.Meaning.Pairings.{Far, Pairing, Sewable}
 use Rattle.model.specs.Meaning.Sets.{Marked}
-use Rattle.model.proofs.Lists.Scan.{bool-cases, clash}
-use Rattle.model.proofs.Maps.Rules.{Relinking, live-in, dead-link}
-use Rattle.model.proofs.Sewing.Side.{side-least, side-far, side-word, word-side, past, side-steps}
-use Rattle.model.proofs.Sewing.Partners.{Has, mate-within, Mated, mate-done}
+use Rattle.model.proofs.Lists.Scan.{clash}
+use Rattle.model.proofs.Maps.Rules.{Relinking, dead-link}
+use Rattle.model.proofs.Maps.Tables.{live-below, rule-at}
+use Rattle.model.proofs.Operations.Relink.{relink-own, relink-rest, Relinked, relinked-other}
+use Rattle.model.proofs.Sewing.Side.{past, side-live, side-far, side-from, side-over, sides-parted}
+use Rattle.model.proofs.Sewing.Side.{Place, own, other, outside, place}
+use Rattle.model.proofs.Sewing.Walked.{partners-real, partners-goes, partners-into, partners-none}
+use Rattle.model.proofs.Sewing.Walked.{Both, both-flip, both-back}
+use Rattle.model.proofs.Sewing.Pairing.{Found, paired-found, pairing-is}
 
-pub no-partner : (n a b : ℕ) → Has (replicate n unused) a b → ⊥
-no-partner zero a b h = h .real (sym (h .is))
-no-partner (suc n) zero b h = h .real (sym (h .is))
-no-partner (suc n) (suc a) b h = no-partner n a b (record { is = h .is; real = h .real })
+-- ---- the links that are made
 
-count-unused : (n : ℕ) → count unused (replicate n unused) ≡ n
-unfolding count
-count-unused zero = refl
-count-unused (suc n) = ap suc (count-unused n)
+module _ {n : ℕ} {t : List ℕ} {i d e : ℕ} {p q : List ℕ} (able : Sewable n t i d e) (both : Both n t i d e p q) where
+  own-link : (x : ℕ) → Marked (side n t i d) x → sewnLink t i p q x ≡ getD p x unused
+  unfolding sewnLink
+  own-link x h = rw (ne-eqb (getD p x unused) unused (partners-real (both .there) x h), sewnLink)
 
-module _ (n : ℕ) (t : List ℕ) (i : ℕ) (n3 : n ≤ 3) (i≤n : i ≤ n) (fits : length t ≡ 4 * slots t) (few : slots t ≤ 65536) (m : Map n t) where
-  at : (y : ℕ) → live t y ≡ true → Rule n t y
-  at y h = m .rule y (live-in t y fits h) h
+  other-link : (x : ℕ) → Marked (side n t i e) x → sewnLink t i p q x ≡ getD q x unused
+  unfolding sewnLink
+  other-link x h =
+      let lone = partners-none (both .there) x (λ m. sides-parted (able .left) (able .right) (able .apart) x m h) in
+      rw (eq-eqb (getD p x unused) unused lone, ne-eqb (getD q x unused) unused (partners-real (both .back) x h), sewnLink)
 
-  -- a relation that goes with the far links goes with the words of the side
-  pub by-word : (R : ℕ → ℕ → Type 0) → ((x y j : ℕ) → R x y → Far i j → j ≤ n → R (link t j x) (link t j y)) → (x y : ℕ) (w : List ℕ) → R x y → In w (sideWords n i) → R (walk t w x) (walk t w y)
-  unfolding walk
-  by-word R k x y w h j = step (side-word n i w j)
+  outside-link : (x : ℕ) → (Marked (side n t i d) x → ⊥) → (Marked (side n t i e) x → ⊥) → sewnLink t i p q x ≡ link t i x
+  unfolding sewnLink
+  outside-link x a b =
+      let no-p = partners-none (both .there) x a in
+      let no-q = partners-none (both .back) x b in
+      rw (eq-eqb (getD p x unused) unused no-p, eq-eqb (getD q x unused) unused no-q, sewnLink)
+
+  sew-change : Relinking n t i (sewnLink t i p q)
+  sew-change = record {
+    goes = λ x l. goes x l (at x);
+    comes = λ x l. comes x l (at x);
+    far = λ x j l f b. far x j l f b (at x);
+    dead = λ x e. outside-link x (λ h. clash (side-live (able .left) x h) e) (λ h. clash (side-live (able .right) x h) e)
+        ∙ dead-link t x e i (omega arith);
+  }
     where
-      step : (j : ℕ) × (j ≤ n) × Far i j × (w ≡ j ∷ []) → R (walk t w x) (walk t w y)
-      step r = subst (λ (v : List ℕ). R (walk t v x) (walk t v y)) (sym (r .3)) (k x y (r .0) h (r .2) (r .1))
+      new : ℕ → ℕ
+      new = sewnLink t i p q
 
-  pub by-seed : (d e : ℕ) (R : ℕ → ℕ → Type 0) → R d e → (x y : ℕ) → In (couple x y) (couple d e ∷ []) → R x y
-  by-seed d e R r x y j = go (in-cons j)
-    where
-      go : (couple x y ≡ couple d e) ⊎ In (couple x y) [] → R x y
-      go (inl q) = subst₂ R (sym (cc)) (sym (cc)) r
-      go (inr k) = absurd (not-nil k)
+      At : ℕ → Type 0
+      At = Place (side n t i d) (side n t i e)
 
-  -- ---- one walk
+      at : (x : ℕ) → At x
+      at = place (side n t i d) (side n t i e)
 
-  module _ (d e : ℕ) (live-d : live t d ≡ true) (live-e : live t e ≡ true) (p : List ℕ) (found : partners n t i d e ≡ some p) where
-    G : ℕ → ℕ → Type 0
-    G x y = (live t x ≡ true) × (live t y ≡ true)
+      goes : (x : ℕ) → live t x ≡ true → At x → live t (new x) ≡ true
+      goes x l (own h) = rw (own-link x h) (side-live (able .right) _ (partners-into (both .there) x h))
+      goes x l (other h) = rw (other-link x h) (side-live (able .left) _ (partners-into (both .back) x h))
+      goes x l (outside a b) = rw (outside-link x a b) (rule-at (able .left .table) x l .goes i (omega arith))
 
-    pub mated : Mated t (sideWords n i) (couple d e ∷ []) (replicate (slots t) unused) p
-    unfolding partners G
-    mated = mate-done t (sideWords n i) (slots t) G good (by-word G kept) (1 + length (sideWords n i) * slots t) (couple d e ∷ []) (replicate (slots t) unused) p
-        (length-replicate (slots t) unused) (rw count-unused (le-refl _)) (by-seed d e G (live-d, live-e)) (λ a b w h. absurd (no-partner (slots t) a b h)) found
-      where
-        good : (x y : ℕ) → G x y → (x < slots t) × (y ≢ unused)
-        good x y h = let l = live-in t y fits (h .1) in (live-in t x fits (h .0), λ q. omega arith)
+      comes : (x : ℕ) → live t x ≡ true → At x → new (new x) ≡ x
+      comes x l (own h) = ap new (own-link x h) ∙ other-link _ (partners-into (both .there) x h) ∙ both-back both x h
+      comes x l (other h) = ap new (other-link x h) ∙ own-link _ (partners-into (both .back) x h) ∙ both-back (both-flip both) x h
+      comes x l (outside a b) = ap new (outside-link x a b)
+          ∙ outside-link (link t i x) (λ m. a (side-over (able .left) (able .free-left) x m))
+          (λ m. b (side-over (able .right) (able .free-right) x m))
+          ∙ rule-at (able .left .table) x l .comes i (omega arith)
 
-        kept : (x y j : ℕ) → G x y → Far i j → j ≤ n → G (link t j x) (link t j y)
-        kept x y j h f l = (at x (h .0) .goes j (omega arith), at y (h .1) .goes j (omega arith))
+      far : (x j : ℕ) → live t x ≡ true → Far i j → j ≤ n → At x → new (link t j x) ≡ link t j (new x)
+      far x j l f b (own h) = own-link (link t j x) (side-far (able .left) x j h f b)
+          ∙ partners-goes (both .there) x j h f b ∙ ap (link t j) (sym (own-link x h))
+      far x j l f b (other h) = other-link (link t j x) (side-far (able .right) x j h f b)
+          ∙ partners-goes (both .back) x j h f b ∙ ap (link t j) (sym (other-link x h))
+      far x j l f b (outside u v) =
+          outside-link (link t j x) (λ m. u (side-from (able .left) x j l f b m)) (λ m. v (side-from (able .right) x j l f b m))
+          ∙ past (able .left .table) x l i j (able .left .index) b f ∙ ap (link t j) (sym (outside-link x u v))
 
-    pub walk-far : (x y j : ℕ) → Has p x y → Far i j → j ≤ n → Has p (link t j x) (link t j y)
-    unfolding walk
-    walk-far x y j h f l = mated .closed x y (j ∷ []) h (word-side n i j l f)
+-- ---- the table
 
-    pub walk-start : Has p d e
-    walk-start = mated .holds d e (here refl)
+module _ {n : ℕ} {t : List ℕ} {i d e : ℕ} (able : Sewable n t i d e) where
+  found : Found n t i d e
+  found = paired-found (able .left) (able .right) (able .paired)
 
-    pub walk-within : (R : ℕ → ℕ → Type 0) → R d e → ((x y j : ℕ) → R x y → Far i j → j ≤ n → R (link t j x) (link t j y)) → (x y : ℕ) → Has p x y → R x y
-    unfolding partners
-    walk-within R r k =
-        mate-within t (sideWords n i) R (by-word R k) (1 + length (sideWords n i) * slots t) (couple d e ∷ []) (replicate (slots t) unused) p found (by-seed d e R r) (λ a b h. absurd (no-partner (slots t) a b h))
+  new : ℕ → ℕ
+  new = sewnLink t i (found .p) (found .q)
 
-    -- both darts of a pair are in their sides
-    pub walk-sides : (x y : ℕ) → Has p x y → Marked (side n t i d) x × Marked (side n t i e) y
-    walk-sides = walk-within (λ x y. Marked (side n t i d) x × Marked (side n t i e) y)
-        (side-least n t i d n3 i≤n fits few m live-d .holds d (here refl) (live-in t d fits live-d), side-least n t i e n3 i≤n fits few m live-e .holds e (here refl) (live-in t e fits live-e))
-        (λ x y j h f l. (side-far n t i d n3 i≤n fits few m live-d x j (h .0) f l, side-far n t i e n3 i≤n fits few m live-e y j (h .1) f l))
+  table-is : sewTable n t i d e ≡ relink t i new
+  unfolding sewTable sewn new
+  table-is = rw (found .both .there .found, sewTable, found .both .back .found)
 
-  -- ---- both walks
+  pub sew-relinked : Relinked n t i (sewTable n t i d e)
+  unfolding new
+  sew-relinked = record { by = new; is = table-is; change = sew-change able (found .both) }
 
-  module _ (d e : ℕ) (live-d : live t d ≡ true) (live-e : live t e ≡ true) (apart : Marked (side n t i d) e → ⊥)
-      (free-d : link t i d ≡ d) (free-e : link t i e ≡ e) (p q : List ℕ) (there′ : partners n t i d e ≡ some p) (back : partners n t i e d ≡ some q) where
-    -- the sides have no dart in common
-    parted : (x : ℕ) → Marked (side n t i d) x → Marked (side n t i e) x → ⊥
-    parted x hd he = apart (side-least n t i e n3 i≤n fits few m live-e .within
-        (λ z. (live t z ≡ true) × (Marked (side n t i d) z → Marked (side n t i d) e)) (λ z j _. seed z (in-cons j)) (λ y z _ h j _. step y z h j) x he .1 hd)
-      where
-        seed : (z : ℕ) → (z ≡ e) ⊎ In z [] → (live t z ≡ true) × (Marked (side n t i d) z → Marked (side n t i d) e)
-        seed z (inl k) = (rw k live-e, λ h. rw k at h)
-        seed z (inr j) = absurd (not-nil j)
+  at-new : (x : ℕ) → live t x ≡ true → link (sewTable n t i d e) i x ≡ new x
+  at-new x h = rw table-is (relink-own t (able .left .table .whole) i new x (live-below (able .left .table) x h) (omega arith))
 
-        step : (y z : ℕ) → (live t y ≡ true) × (Marked (side n t i d) y → Marked (side n t i d) e) → In z (steps t (sideWords n i) y)
-            → (live t z ≡ true) × (Marked (side n t i d) z → Marked (side n t i d) e)
-        step y z h j = hop (side-steps n i t y z j)
-          where
-            hop : (k : ℕ) × (k ≤ n) × Far i k × (z ≡ link t k y) → (live t z ≡ true) × (Marked (side n t i d) z → Marked (side n t i d) e)
-            hop r =
-                let l = r .1 in
-                let k4 : r .0 < 4 = omega arith in (
-                  rw (r .3) (at y (h .0) .goes (r .0) k4),
-                  λ s. h .1 (subst (Marked (side n t i d)) (ap (link t (r .0)) (r .3) ∙ at y (h .0) .comes (r .0) k4) (side-far n t i d n3 i≤n fits few m live-d z (r .0) s (r .2) (r .1))),
-                )
+  module _ (f : Pairing n t i d e) (x : ℕ) (h : Marked (side n t i d) x) where
+    pub sew-there : link (sewTable n t i d e) i x ≡ f .f x
+    unfolding new
+    sew-there = at-new x (side-live (able .left) x h) ∙ own-link able (found .both) x h ∙ pairing-is (found .both) f x h
 
-    pq : (x y : ℕ) → Has p x y → Has q y x
-    pq = walk-within d e live-d live-e p there′ (λ x y. Has q y x) (walk-start e d live-e live-d q back) (λ x y j h f l. walk-far e d live-e live-d q back y x j h f l)
+    pub sew-back : link (sewTable n t i d e) i (f .f x) ≡ x
+    unfolding new
+    sew-back =
+        let y-in = f .into x h in
+        at-new (f .f x) (side-live (able .right) (f .f x) y-in) ∙ other-link able (found .both) (f .f x) y-in
+        ∙ ap (λ (z : ℕ). getD (found .q) z unused) (sym (pairing-is (found .both) f x h)) ∙ both-back (found .both) x h
 
-    qp : (x y : ℕ) → Has q x y → Has p y x
-    qp = walk-within e d live-e live-d q back (λ x y. Has p y x) (walk-start d e live-d live-e p there′) (λ x y j h f l. walk-far d e live-d live-e p there′ y x j h f l)
+  -- a dart outside of both sides keeps its links ..
+  pub sew-rest : (x : ℕ) → (Marked (side n t i d) x → ⊥) → (Marked (side n t i e) x → ⊥)
+      → (j : ℕ) → j < 4 → link (sewTable n t i d e) j x ≡ link t j x
+  unfolding new
+  sew-rest x a b j l = rw table-is (relink-rest t (able .left .table .whole) i new x (outside-link able (found .both) x a b) j l)
 
-    p-free : (x y : ℕ) → Has p x y → (live t x ≡ true) × (live t y ≡ true) × (link t i x ≡ x) × (link t i y ≡ y)
-    p-free = walk-within d e live-d live-e p there′ (λ x y. (live t x ≡ true) × (live t y ≡ true) × (link t i x ≡ x) × (link t i y ≡ y)) (live-d, live-e, free-d, free-e)
-        (λ x y j h f l. (
-          at x (h .0) .goes j (omega arith),
-          at y (h .1) .goes j (omega arith),
-          past n t x n3 fits m (h .0) i j i≤n l f ∙ ap (link t j) (h .2),
-          past n t y n3 fits m (h .1) i j i≤n l f ∙ ap (link t j) (h .3),
-        ))
-
-    -- a dart has a partner one way, the other way, or none
-    data Kind (x : ℕ) : Type 0 where
-      first : (y : ℕ) → Has p x y → Kind x
-      second : (y : ℕ) → Has q x y → Kind x
-      neither : getD p x unused ≡ unused → getD q x unused ≡ unused → Kind x
-
-    kind : (x : ℕ) → Kind x
-    kind x = go (bool-cases (eqb (getD p x unused) unused)) (bool-cases (eqb (getD q x unused) unused))
-      where
-        go : (eqb (getD p x unused) unused ≡ true) ⊎ (eqb (getD p x unused) unused ≡ false) → (eqb (getD q x unused) unused ≡ true) ⊎ (eqb (getD q x unused) unused ≡ false) → Kind x
-        go (inr a) b = first (getD p x unused) (record { is = refl; real = eqb-false _ _ a })
-        go (inl a) (inr b) = second (getD q x unused) (record { is = refl; real = eqb-false _ _ b })
-        go (inl a) (inl b) = neither (eqb-true _ _ a) (eqb-true _ _ b)
-
-    abbrev g : ℕ → ℕ
-    g = sewnLink t i p q
-
-    pub g-first : (x y : ℕ) → Has p x y → g x ≡ y
-    unfolding sewnLink
-    g-first x y h = rw (ne-eqb (getD p x unused) unused (λ k. h .real (sym (h .is) ∙ k)), sewnLink) (h .is)
-
-    not-both : (x y : ℕ) → Has q x y → getD p x unused ≡ unused
-    not-both x y h = go (bool-cases (eqb (getD p x unused) unused))
-      where
-        go : (eqb (getD p x unused) unused ≡ true) ⊎ (eqb (getD p x unused) unused ≡ false) → getD p x unused ≡ unused
-        go (inl a) = eqb-true _ _ a
-        go (inr a) = absurd (parted x (walk-sides d e live-d live-e p there′ x _ (record { is = refl; real = eqb-false _ _ a }) .0) (walk-sides e d live-e live-d q back x y h .0))
-
-    pub g-second : (x y : ℕ) → Has q x y → g x ≡ y
-    unfolding sewnLink
-    g-second x y h = rw (eq-eqb (getD p x unused) unused (not-both x y h), ne-eqb (getD q x unused) unused (λ k. h .real (sym (h .is) ∙ k)), sewnLink) (h .is)
-
-    g-neither : (x : ℕ) → getD p x unused ≡ unused → getD q x unused ≡ unused → g x ≡ link t i x
-    unfolding sewnLink
-    g-neither x a b = rw (eq-eqb (getD p x unused) unused a, eq-eqb (getD q x unused) unused b, sewnLink)
-
-    lone : (r : List ℕ) (x : ℕ) → ((y : ℕ) → Has r x y → ⊥) → getD r x unused ≡ unused
-    lone r x h = go (bool-cases (eqb (getD r x unused) unused))
-      where
-        go : (eqb (getD r x unused) unused ≡ true) ⊎ (eqb (getD r x unused) unused ≡ false) → getD r x unused ≡ unused
-        go (inl a) = eqb-true _ _ a
-        go (inr a) = absurd (h (getD r x unused) (record { is = refl; real = eqb-false _ _ a }))
-
-    has-none : (r : List ℕ) (x y : ℕ) → getD r x unused ≡ unused → Has r x y → ⊥
-    has-none r x y a h = h .real (sym (h .is) ∙ a)
-
-    q-free : (x y : ℕ) → Has q x y → (live t x ≡ true) × (live t y ≡ true) × (link t i x ≡ x) × (link t i y ≡ y)
-    q-free x y h = let r = p-free y x (qp x y h) in (r .1, r .0, r .3, r .2)
-
-    -- a dart with no partner: neither has a dart that it is linked to, by i or by a far link
-    over : (r : List ℕ) → ((x y : ℕ) → Has r x y → (live t x ≡ true) × (live t y ≡ true) × (link t i x ≡ x) × (link t i y ≡ y))
-        → (x : ℕ) → live t x ≡ true → getD r x unused ≡ unused → getD r (link t i x) unused ≡ unused
-    over r free x lx a = lone r (link t i x) (λ y h.
-        let f = free (link t i x) y h .2 in
-        let same : link t i x ≡ x = sym f ∙ at x lx .comes i (omega arith) in
-        has-none r x y a (subst (λ (z : ℕ). Has r z y) same h))
-
-    aside : (r : List ℕ) → ((x y j : ℕ) → Has r x y → Far i j → j ≤ n → Has r (link t j x) (link t j y))
-        → (x j : ℕ) → live t x ≡ true → Far i j → j ≤ n → getD r x unused ≡ unused → getD r (link t j x) unused ≡ unused
-    aside r far x j lx f l a = lone r (link t j x) (λ y h. has-none r x (link t j y) a (subst (λ (z : ℕ). Has r z (link t j y)) (at x lx .comes j (omega arith)) (far (link t j x) y j h f l)))
-
-    pub sew-change : Relinking n t i (sewnLink t i p q)
-    sew-change = record {
-      goes = λ x lx. goes x lx (kind x);
-      comes = λ x lx. comes x lx (kind x);
-      far = λ x j lx f l. far x j lx f l (kind x);
-      dead = λ x dx. g-neither x (lone p x (λ y h. clash (p-free x y h .0) dx)) (lone q x (λ y h. clash (q-free x y h .0) dx)) ∙ dead-link t x dx i (omega arith);
-    }
-      where
-        goes : (x : ℕ) → live t x ≡ true → Kind x → live t (g x) ≡ true
-        goes x lx (first y h) = rw (g-first x y h) (p-free x y h .1)
-        goes x lx (second y h) = rw (g-second x y h) (q-free x y h .1)
-        goes x lx (neither a b) = rw (g-neither x a b) (at x lx .goes i (omega arith))
-
-        comes : (x : ℕ) → live t x ≡ true → Kind x → g (g x) ≡ x
-        comes x lx (first y h) = ap g (g-first x y h) ∙ g-second y x (pq x y h)
-        comes x lx (second y h) = ap g (g-second x y h) ∙ g-first y x (qp x y h)
-        comes x lx (neither a b) = ap g (g-neither x a b) ∙ g-neither (link t i x) (over p p-free x lx a) (over q q-free x lx b) ∙ at x lx .comes i (omega arith)
-
-        far : (x j : ℕ) → live t x ≡ true → Far i j → j ≤ n → Kind x → g (link t j x) ≡ link t j (g x)
-        far x j lx f l (first y h) = g-first (link t j x) (link t j y) (walk-far d e live-d live-e p there′ x y j h f l) ∙ ap (link t j) (sym (g-first x y h))
-        far x j lx f l (second y h) = g-second (link t j x) (link t j y) (walk-far e d live-e live-d q back x y j h f l) ∙ ap (link t j) (sym (g-second x y h))
-        far x j lx f l (neither a b) =
-            g-neither (link t j x) (aside p (walk-far d e live-d live-e p there′) x j lx f l a) (aside q (walk-far e d live-e live-d q back) x j lx f l b)
-            ∙ past n t x n3 fits m lx i j i≤n l f ∙ ap (link t j) (sym (g-neither x a b))
-
--- ---- the table that sew makes, where both walks succeed
-
-pub record Found (n : ℕ) (t : List ℕ) (i d e : ℕ) : Type 0 where
-  pub p : List ℕ
-  pub q : List ℕ
-  pub there : partners n t i d e ≡ some p
-  pub back : partners n t i e d ≡ some q
-  pub table : sewTable n t i d e ≡ sewn t i p q
-
-pub paired-found : (n : ℕ) (t : List ℕ) (i d e : ℕ) → isPaired n t i d e ≡ true → Found n t i d e
-unfolding isPaired sewTable
-paired-found n t i d e h = go (partners n t i d e) (partners n t i e d) refl refl h
-  where
-    go : (a b : Option (List ℕ)) → partners n t i d e ≡ a → partners n t i e d ≡ b
-        → (elim a as (λ _. Bool) [ none ↦ false | some p ↦ (elim b [ none ↦ false | some q ↦ true ]) ]) ≡ true → Found n t i d e
-    go none b x y k = absurd (clash k refl)
-    go (some p) none x y k = absurd (clash k refl)
-    go (some p) (some q) x y k = record { p = p; q = q; there = x; back = y; table = rw (x, sewTable, y) }
-
-pub found-paired : (n : ℕ) (t : List ℕ) (i d e : ℕ) (p q : List ℕ)
-    → partners n t i d e ≡ some p → partners n t i e d ≡ some q → isPaired n t i d e ≡ true
-unfolding isPaired
-found-paired n t i d e p q x y = rw (x, isPaired, y)
+  -- .. and each dart its links of other indices
+  pub sew-other : (x j : ℕ) → j < 4 → j ≢ i → link (sewTable n t i d e) j x ≡ link t j x
+  sew-other = relinked-other (able .left .table) (able .left .index) sew-relinked

@@ -1,4 +1,5 @@
 -- Maps and block maps, as properties and not as tests.
+-- Main definitions: `Rule` and `Map`; `GoodCell` and `Block`; `MapTable` and `BlockTable`, what the passed checks of a call say.
 use Prim.Native.Nat.{ℕ, _+_, _*_, _≤_, _<_}
 use mathlib.Core.Path.{_≡_}
 use mathlib.Core.Bool.{true}
@@ -8,6 +9,7 @@ use Rattle.model.specs.Lists.{count}
 use Rattle.model.specs.Table.{slots, link, live, walk}
 use Rattle.model.specs.Map.{isMap}
 use Rattle.model.specs.Cell.{cellSize, cellOf, goodCell, isBlock}
+use Rattle.model.specs.Meaning.Sets.{Marked}
 
 -- n is 2 or 3
 abbrev pub Dim : ℕ → Type 0
@@ -23,12 +25,37 @@ pub record Rule (n : ℕ) (t : List ℕ) (d : ℕ) : Type 0 where
 pub record Map (n : ℕ) (t : List ℕ) : Type 0 where
   pub rule : (d : ℕ) → d < slots t → live t d ≡ true → Rule n t d
 
+-- "Every slot met on the way must be live": d, and each slot that the word leads to from there
+abbrev pub Meets : List ℕ → List ℕ → ℕ → Type 0
+Meets t [] d = live t d ≡ true
+Meets t (i ∷ w) d = (live t d ≡ true) × Meets t w (link t i d)
+
+-- "going 0, 1 four times"
+abbrev pub squareWord : List ℕ
+squareWord = 0 ∷ 1 ∷ 0 ∷ 1 ∷ 0 ∷ 1 ∷ 0 ∷ 1 ∷ []
+
+-- "going 1, 2 three times"
+abbrev pub cornerWord : List ℕ
+cornerWord = 1 ∷ 2 ∷ 1 ∷ 2 ∷ 1 ∷ 2 ∷ []
+
 -- of a map, that it is a block map: "each cell has exactly 8 darts (n = 2) or 48 (n = 3), and from each dart going
 -- 0, 1 four times returns, and for n = 3 going 1, 2 three times returns"
 pub record Block (n : ℕ) (t : List ℕ) : Type 0 where
   pub size : (d : ℕ) → live t d ≡ true → count 1 (cellOf n t d) ≡ cellSize n
-  pub square : (d : ℕ) → live t d ≡ true → walk t (0 ∷ 1 ∷ 0 ∷ 1 ∷ 0 ∷ 1 ∷ 0 ∷ 1 ∷ []) d ≡ d
-  pub corner : n ≡ 3 → (d : ℕ) → live t d ≡ true → walk t (1 ∷ 2 ∷ 1 ∷ 2 ∷ 1 ∷ 2 ∷ []) d ≡ d
+  pub square : (d : ℕ) → live t d ≡ true → walk t squareWord d ≡ d
+  pub corner : n ≡ 3 → (d : ℕ) → live t d ≡ true → walk t cornerWord d ≡ d
+
+-- the same of one cell, given as marks: it is no wrong cell
+pub record GoodCell (n : ℕ) (t cell : List ℕ) : Type 0 where
+  pub size : count 1 cell ≡ cellSize n
+  pub square : (x : ℕ) → Marked cell x → walk t squareWord x ≡ x
+  pub corner : n ≡ 3 → (x : ℕ) → Marked cell x → walk t cornerWord x ≡ x
+
+-- d is the least live slot of which P fails
+pub record LeastFailing (t : List ℕ) (P : ℕ → Type 0) (d : ℕ) : Type 0 where
+  pub lives : live t d ≡ true
+  pub fails : P d → ⊥
+  pub before : (x : ℕ) → x < d → live t x ≡ true → P x
 
 -- ---- what the passed checks of a call say of a table
 

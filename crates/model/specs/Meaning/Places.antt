@@ -1,68 +1,42 @@
 -- The places of a cell: from a dart a word leads to each place of the numbering.
-use Prim.Native.Nat.{ℕ}
+-- Main definitions: `path` (the word to the place k), `place` (the dart there).
+use Prim.Native.Nat.{ℕ, _/_, _%_}
 use mathlib.Core.Bool.{true, false}
-use mathlib.Core.List.{List, [], _∷_}
+use mathlib.Core.List.{List, [], _∷_, _++_}
 use lib.ListN.{getD}
 use lib.Dec.{eqb}
 use Rattle.model.specs.Table.{walk}
+use Rattle.model.specs.Numbering.{corners}
 
-unfoldable pub paths2 : List (List ℕ)
-paths2 = ([]) ∷ (0 ∷ []) ∷ (1 ∷ 0 ∷ 1 ∷ []) ∷ (0 ∷ 1 ∷ 0 ∷ 1 ∷ []) ∷ (1 ∷ []) ∷ (0 ∷ 1 ∷ []) ∷ (1 ∷ 0 ∷ []) ∷ (0 ∷ 1 ∷ 0 ∷ []) ∷ []
+-- a word before which the link i is gone; twice the same link is left out
+unfoldable pub goFirst : ℕ → List ℕ → List ℕ
+goFirst i [] = i ∷ []
+goFirst i (j ∷ w) = elim (eqb i j) [ true ↦ w | false ↦ i ∷ j ∷ w ]
 
-unfoldable pub paths3 : List (List ℕ)
-paths3 =
-    ([])
-    ∷ (0 ∷ [])
-    ∷ (1 ∷ 0 ∷ 1 ∷ [])
-    ∷ (0 ∷ 1 ∷ 0 ∷ 1 ∷ [])
-    ∷ (2 ∷ 1 ∷ 0 ∷ 1 ∷ 2 ∷ [])
-    ∷ (0 ∷ 2 ∷ 1 ∷ 0 ∷ 1 ∷ 2 ∷ [])
-    ∷ (1 ∷ 0 ∷ 1 ∷ 2 ∷ 1 ∷ 0 ∷ 1 ∷ 2 ∷ [])
-    ∷ (0 ∷ 1 ∷ 0 ∷ 1 ∷ 2 ∷ 1 ∷ 0 ∷ 1 ∷ 2 ∷ [])
-    ∷ (2 ∷ [])
-    ∷ (0 ∷ 2 ∷ [])
-    ∷ (1 ∷ 0 ∷ 1 ∷ 2 ∷ [])
-    ∷ (0 ∷ 1 ∷ 0 ∷ 1 ∷ 2 ∷ [])
-    ∷ (2 ∷ 1 ∷ 0 ∷ 1 ∷ [])
-    ∷ (0 ∷ 2 ∷ 1 ∷ 0 ∷ 1 ∷ [])
-    ∷ (1 ∷ 0 ∷ 1 ∷ 2 ∷ 1 ∷ 0 ∷ 1 ∷ [])
-    ∷ (0 ∷ 1 ∷ 0 ∷ 1 ∷ 2 ∷ 1 ∷ 0 ∷ 1 ∷ [])
-    ∷ (1 ∷ [])
-    ∷ (0 ∷ 1 ∷ [])
-    ∷ (1 ∷ 0 ∷ [])
-    ∷ (0 ∷ 1 ∷ 0 ∷ [])
-    ∷ (1 ∷ 2 ∷ 1 ∷ 0 ∷ 1 ∷ 2 ∷ [])
-    ∷ (0 ∷ 1 ∷ 2 ∷ 1 ∷ 0 ∷ 1 ∷ 2 ∷ [])
-    ∷ (1 ∷ 0 ∷ 2 ∷ 1 ∷ 0 ∷ 1 ∷ 2 ∷ [])
-    ∷ (0 ∷ 1 ∷ 0 ∷ 2 ∷ 1 ∷ 0 ∷ 1 ∷ 2 ∷ [])
-    ∷ (1 ∷ 2 ∷ [])
-    ∷ (0 ∷ 1 ∷ 2 ∷ [])
-    ∷ (1 ∷ 0 ∷ 2 ∷ [])
-    ∷ (0 ∷ 1 ∷ 0 ∷ 2 ∷ [])
-    ∷ (1 ∷ 2 ∷ 1 ∷ 0 ∷ 1 ∷ [])
-    ∷ (0 ∷ 1 ∷ 2 ∷ 1 ∷ 0 ∷ 1 ∷ [])
-    ∷ (1 ∷ 0 ∷ 2 ∷ 1 ∷ 0 ∷ 1 ∷ [])
-    ∷ (0 ∷ 1 ∷ 0 ∷ 2 ∷ 1 ∷ 0 ∷ 1 ∷ [])
-    ∷ (2 ∷ 1 ∷ [])
-    ∷ (0 ∷ 2 ∷ 1 ∷ [])
-    ∷ (1 ∷ 0 ∷ 1 ∷ 2 ∷ 1 ∷ [])
-    ∷ (0 ∷ 1 ∷ 0 ∷ 1 ∷ 2 ∷ 1 ∷ [])
-    ∷ (2 ∷ 1 ∷ 0 ∷ [])
-    ∷ (0 ∷ 2 ∷ 1 ∷ 0 ∷ [])
-    ∷ (1 ∷ 0 ∷ 1 ∷ 2 ∷ 1 ∷ 0 ∷ [])
-    ∷ (0 ∷ 1 ∷ 0 ∷ 1 ∷ 2 ∷ 1 ∷ 0 ∷ [])
-    ∷ (1 ∷ 2 ∷ 1 ∷ [])
-    ∷ (0 ∷ 1 ∷ 2 ∷ 1 ∷ [])
-    ∷ (1 ∷ 0 ∷ 2 ∷ 1 ∷ [])
-    ∷ (0 ∷ 1 ∷ 0 ∷ 2 ∷ 1 ∷ [])
-    ∷ (1 ∷ 2 ∷ 1 ∷ 0 ∷ [])
-    ∷ (0 ∷ 1 ∷ 2 ∷ 1 ∷ 0 ∷ [])
-    ∷ (1 ∷ 0 ∷ 2 ∷ 1 ∷ 0 ∷ [])
-    ∷ (0 ∷ 1 ∷ 0 ∷ 2 ∷ 1 ∷ 0 ∷ [])
-    ∷ []
+unfoldable pub shorten : List ℕ → List ℕ
+shorten [] = []
+shorten (i ∷ w) = goFirst i (shorten w)
 
+-- in the axis order xyz: the word that flips the bit b of the vertex, where s has it
+unfoldable pub ifBit : ℕ → ℕ → List ℕ → List ℕ
+ifBit s b w = elim (eqb (s / b % 2) 1) [ true ↦ w | false ↦ [] ]
+
+-- from the vertex 0 to the vertex s
+unfoldable pub toVertex : ℕ → List ℕ
+toVertex s = ifBit s 1 (0 ∷ []) ++ ifBit s 2 (1 ∷ 0 ∷ 1 ∷ []) ++ ifBit s 4 (2 ∷ 1 ∷ 0 ∷ 1 ∷ 2 ∷ [])
+
+-- from the first axis order to the order p
+unfoldable pub toOrder : ℕ → ℕ → List ℕ
+toOrder n p =
+    elim (eqb n 3) [
+      | true ↦ getD ([] ∷ (2 ∷ []) ∷ (1 ∷ []) ∷ (1 ∷ 2 ∷ []) ∷ (2 ∷ 1 ∷ []) ∷ (1 ∷ 2 ∷ 1 ∷ []) ∷ []) p []
+      | false ↦ getD ([] ∷ (1 ∷ []) ∷ []) p []
+    ]
+
+-- from the place 0 to the place k
 unfoldable pub path : ℕ → ℕ → List ℕ
-path n k = elim (eqb n 3) [ true ↦ getD paths3 k [] | false ↦ getD paths2 k [] ]
+unfolding goFirst shorten ifBit toVertex toOrder corners
+path n k = shorten (toVertex (k % corners n) ++ toOrder n (k / corners n))
 
 -- the dart at the place k of the cell of d, d at the place 0
 unfoldable pub place : ℕ → List ℕ → ℕ → ℕ → ℕ

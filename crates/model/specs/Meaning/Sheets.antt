@@ -1,38 +1,44 @@
--- How a sheet meets a cell.
-use Prim.Native.Nat.{ℕ, _/_, _<_}
-use mathlib.Core.Logic.{_≢_}
-use mathlib.Core.Bool.{Bool, true, false}
-use mathlib.Core.List.{List, List·Memᴰ as In}
+-- Sheets: the dart that one begins with, its cells, where it crosses itself, and how many darts of a cell it holds.
+use Prim.Native.Nat.{ℕ}
+use mathlib.Core.Path.{_≡_}
+use mathlib.Core.Bool.{Bool, true, false, _&&_}
+use mathlib.Core.List.{List}
 use lib.Dec.{eqb}
-use Rattle.model.specs.Lists.{member, tabulate}
-use Rattle.model.specs.Cell.{cellSize}
-use Rattle.model.specs.Numbering.{corners, firstBit}
-use Rattle.model.specs.Meaning.Places.{place}
+use Rattle.model.specs.Lists.{count, tabulate}
+use Rattle.model.specs.Table.{slots, link, live}
+use Rattle.model.specs.Reach.{inSet}
+use Rattle.model.specs.Cell.{cellOf}
+use Rattle.model.specs.Sheet.{sheet, sheetMarks}
+use Rattle.model.specs.Meaning.Maps.{BlockTable}
+use Rattle.model.specs.Meaning.Sets.{Marked}
 
--- how many darts of a cell a sheet holds that does not cross itself there: the places below, seen from one of them
+-- d is a live slot of a block map
+pub record BlockDart (n : ℕ) (t : List ℕ) (d : ℕ) : Type 0 where
+  pub table : BlockTable n t
+  pub lives : live t d ≡ true
+
+-- the marks that sheet d leaves
+abbrev pub marksOf : ℕ → List ℕ → ℕ → List ℕ
+marksOf n t d = sheetMarks n t (sheet n t d)
+
+-- x is a dart of a cell that holds a dart of the set s
+abbrev pub InCells : ℕ → List ℕ → List ℕ → ℕ → Type 0
+InCells n t s x = (g : ℕ) × Marked s g × Marked (cellOf n t g) x
+
+-- some g in the set s has g.1 in s
+abbrev pub Crossing : List ℕ → List ℕ → Type 0
+Crossing t s = (g : ℕ) × Marked s g × Marked s (link t 1 g)
+
+-- ---- counting
+
+-- how many of 0, .., k - 1 pass
+unfoldable pub howMany : ℕ → (ℕ → Bool) → ℕ
+howMany k p = count 1 (tabulate k (λ x. elim (p x) [ true ↦ 1 | false ↦ 0 ]))
+
+-- how many darts the set s and the cell of x have in common
+unfoldable pub shared : ℕ → List ℕ → List ℕ → ℕ → ℕ
+shared n t s x = howMany (slots t) (λ y. inSet s y && inSet (cellOf n t x) y)
+
+-- how many darts of a cell a sheet holds that does not cross itself there
 unfoldable pub half : ℕ → ℕ
 half n = elim (eqb n 3) [ true ↦ 16 | false ↦ 4 ]
-
--- of the places of x: is k in the sheet
-abbrev pub inSheet : ℕ → List ℕ → List ℕ → ℕ → ℕ → Bool
-inSheet n t gs x k = member gs (place n t x k)
-
-unfoldable pub hit : ℕ → List ℕ → List ℕ → ℕ → ℕ → ℕ
-hit n t gs x k = elim (inSheet n t gs x k) [ true ↦ 1 | false ↦ 0 ]
-
--- marks the places of x that are in the sheet
-unfoldable pub shared : ℕ → List ℕ → List ℕ → ℕ → List ℕ
-shared n t gs x = tabulate (cellSize n) (hit n t gs x)
-
--- the axis along which link 0 of the dart k of a cell leads
-unfoldable pub axis : ℕ → ℕ → ℕ
-axis n k = firstBit n (k / corners n)
-
--- two darts of gs in one cell, of two axes
-pub record TwoAxes (n : ℕ) (t gs : List ℕ) : Type 0 where
-  pub g : ℕ
-  pub p : ℕ
-  pub first : In g gs
-  pub low : p < cellSize n
-  pub second : In (place n t g p) gs
-  pub differ : axis n p ≢ axis n 0

@@ -1,0 +1,80 @@
+-- Worked cases: some calls on a fresh table and journal, one more call, and what is then seen.
+use Prim.Native.Nat.{ℕ, _*_, _-_}
+use mathlib.Core.Bool.{Bool, true, false, not, _&&_}
+use mathlib.Core.List.{List, [], _∷_}
+use lib.ListN.{length, replicate}
+use lib.Dec.{eqb}
+use Rattle.model.specs.Lists.{count}
+use Rattle.model.specs.Table.{unused, link, live, liveCount}
+use Rattle.model.specs.Journal.{cursor, end, changesFrom}
+use Rattle.model.specs.Calls.{Outcome}
+use Rattle.model.specs.Runs.{Call, doCall}
+
+-- what is seen after the last call
+pub data Seen : Type 0 where
+  gives : ℕ → ℕ → ℕ → Seen  -- number, place, count
+  goes : ℕ → ℕ → ℕ → Seen  -- d.i is e: d, i, e
+  marksAre : List ℕ → Seen
+  markedAre : ℕ → Seen  -- so many marks are not 0
+  cursorIs endIs : ℕ → Seen
+  frees : ℕ → Seen  -- the slot is unused, and was live
+  changes : ℕ → Seen  -- so many entries
+  liveAre : ℕ → Seen  -- so many slots
+
+-- the label is a hundred times the case's number in 01, and counts its parts: 301 is the first part of 3
+pub record Case : Type 0 where
+  pub label : ℕ
+  pub dim : ℕ
+  pub slots : ℕ
+  pub words : ℕ
+  pub before : List Call
+  pub call : Call
+  pub seen : List Seen
+
+-- a table with no live slot, a fresh journal
+unfoldable pub begin : ℕ → ℕ → Outcome
+begin slots words = record {
+  number = 0;
+  place = 0;
+  count = 0;
+  table = replicate (4 * slots) unused;
+  marks = replicate slots 0;
+  journal = 2 ∷ 2 ∷ replicate (words - 2) 0;
+}
+
+unfoldable pub doAll : ℕ → Outcome → List Call → Outcome
+doAll n o [] = o
+doAll n o (c ∷ cs) = doAll n (doCall n o c) cs
+
+unfoldable pub equal : List ℕ → List ℕ → Bool
+equal [] [] = true
+equal [] (y ∷ ys) = false
+equal (x ∷ xs) [] = false
+equal (x ∷ xs) (y ∷ ys) = elim (eqb x y) [ true ↦ equal xs ys | false ↦ false ]
+
+-- old is what stood before the last call, new what it left
+unfoldable pub sees : Outcome → Outcome → Seen → Bool
+sees old new (gives k p c) = eqb (new .number) k && eqb (new .place) p && eqb (new .count) c
+sees old new (goes d i e) = eqb (link (new .table) i d) e
+sees old new (marksAre m) = equal (new .marks) m
+sees old new (markedAre k) = eqb (length (new .marks) - count 0 (new .marks)) k
+sees old new (cursorIs k) = eqb (cursor (new .journal)) k
+sees old new (endIs k) = eqb (end (new .journal)) k
+sees old new (frees d) = live (old .table) d && not (live (new .table) d)
+sees old new (changes k) = eqb (length (changesFrom 0 (old .table) (new .table))) k
+sees old new (liveAre k) = eqb (liveCount (new .table)) k
+
+unfoldable pub seesAll : Outcome → Outcome → List Seen → Bool
+seesAll old new [] = true
+seesAll old new (s ∷ ss) = elim (sees old new s) [ true ↦ seesAll old new ss | false ↦ false ]
+
+unfoldable pub holdsFrom : ℕ → Outcome → Call → List Seen → Bool
+holdsFrom n old c ss = seesAll old (doCall n old c) ss
+
+unfoldable pub holds : Case → Bool
+holds c = holdsFrom (c .dim) (doAll (c .dim) (begin (c .slots) (c .words)) (c .before)) (c .call) (c .seen)
+
+-- the labels of the cases that do not hold
+unfoldable pub failing : List Case → List ℕ
+failing [] = []
+failing (c ∷ cs) = elim (holds c) [ true ↦ failing cs | false ↦ c .label ∷ failing cs ]

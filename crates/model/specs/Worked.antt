@@ -1,0 +1,78 @@
+-- The small maps that document 01 has worked, 1 to 14: each fact of them, as one table with one statement.
+-- The lengths of case 14, too long to compute with, follow from the check.
+use Prim.Native.Nat.{ℕ}
+use mathlib.Core.Path.{_≡_, refl}
+use mathlib.Core.List.{List, [], _∷_, _++_}
+use lib.ListN.{length, replicate}
+use Rattle.model.specs.Checks.{pass, refuse, tableOk, must}
+use Rattle.model.specs.Runs.{Call, doCall, keeping}
+use Rattle.model.specs.Everything.{everything}
+use Rattle.model.specs.Meaning.Worked.{Case, Seen, gives, goes, marksAre, markedAre, cursorIs, endIs, frees, changes, liveAre}
+use Rattle.model.specs.Meaning.Worked.{begin, doAll, equal, sees, seesAll, holdsFrom, holds, failing}
+
+-- Q: one add
+quad : List Call
+quad = Call.add ∷ []
+
+-- T: three quads from 0, 8, 16, sewn by link 2: (5,12), (13,20)
+three : List Call
+three = Call.add ∷ Call.add ∷ Call.add ∷ Call.sew 2 5 12 ∷ Call.sew 2 13 20 ∷ []
+
+-- Q split in two, as in 3
+halves : List Call
+halves = Call.add ∷ Call.split 0 ∷ []
+
+-- Q's edge of 5 sewn to its edge of 2
+bent : List Call
+bent = Call.add ∷ Call.sew 2 5 2 ∷ []
+
+-- Q with link 0 between 0 and 1 undone
+unlinked : List Call
+unlinked = Call.add ∷ Call.unsew 0 0 ∷ []
+
+-- label, dimension, slots, words of the journal, the calls before, the call, what is seen
+row : ℕ → ℕ → ℕ → ℕ → List Call → Call → List Seen → Case
+row l n s w before c ss = record { label = l; dim = n; slots = s; words = w; before = before; call = c; seen = ss }
+
+pub cases : List Case
+cases =
+    row 101 2 8 200 quad (Call.sheet 0) (gives 0 0 4 ∷ marksAre (1 ∷ 1 ∷ 1 ∷ 1 ∷ 2 ∷ 2 ∷ 2 ∷ 2 ∷ []) ∷ [])
+    ∷ row 201 2 7 200 [] Call.add (gives 14 0 0 ∷ [])
+    ∷ row 301 2 16 210 [] Call.add (gives 0 0 8 ∷ cursorIs 100 ∷ endIs 100 ∷ [])
+    ∷ row 302 2 16 210 quad (Call.split 0) (gives 0 8 8 ∷ cursorIs 210 ∷ endIs 210 ∷ changes 36 ∷ [])
+    ∷ row 303 2 16 210 quad (Call.split 0) (goes 0 0 8 ∷ goes 9 0 13 ∷ goes 9 2 11 ∷ goes 8 2 8 ∷ [])
+    ∷ row 401 2 16 209 quad (Call.split 0) (gives 15 0 0 ∷ changes 0 ∷ cursorIs 100 ∷ endIs 100 ∷ [])
+    ∷ row 402 2 16 209 quad (Call.split 0) (marksAre (replicate 4 1 ++ replicate 4 2 ++ replicate 8 0) ∷ [])
+    ∷ row 501 2 16 400 halves (Call.remove 0) (gives 0 0 8 ∷ changes 34 ∷ goes 11 2 11 ∷ goes 15 2 15 ∷ liveAre 8 ∷ [])
+    ∷ row 502 2 16 400 halves (Call.remove 0) (frees 0 ∷ frees 2 ∷ frees 4 ∷ frees 6 ∷ frees 8 ∷ frees 9 ∷ frees 12 ∷ frees 13 ∷ [])
+    ∷ row 601 2 24 600 three (Call.remove 8) (gives 0 0 8 ∷ goes 5 2 20 ∷ goes 7 2 22 ∷ changes 36 ∷ [])
+    ∷ row 701 2 24 600 three (Call.sheet 12) (gives 0 0 12 ∷ markedAre 24 ∷ [])
+    ∷ row 801 2 8 200 quad (Call.sew 2 5 2) (gives 0 0 4 ∷ goes 7 2 3 ∷ [])
+    ∷ row 802 2 8 200 bent (Call.sheet 0) (gives 0 0 8 ∷ [])
+    ∷ row 803 2 8 200 bent (Call.split 0) (gives 13 0 0 ∷ changes 0 ∷ marksAre (replicate 8 1) ∷ [])
+    ∷ row 804 2 8 300 bent (Call.remove 0) (gives 0 0 8 ∷ liveAre 0 ∷ [])
+    ∷ row 901 2 8 200 quad (Call.sew 2 5 7) (gives 9 0 0 ∷ [])
+    ∷ row 1001 2 24 600 three (Call.sew 2 5 0) (gives 10 0 0 ∷ [])
+    ∷ row 1101 2 8 200 quad (Call.unsew 2 0) (gives 11 0 0 ∷ [])
+    ∷ row 1201 2 8 200 quad (Call.unsew 0 0) (gives 0 0 2 ∷ changes 2 ∷ [])
+    ∷ row 1202 2 8 200 unlinked (Call.sew 2 0 5) (gives 12 0 0 ∷ [])
+    ∷ row 1203 2 8 200 unlinked (Call.sheet 0) (gives 8 0 0 ∷ [])
+    ∷ row 1301 3 96 2000 quad (Call.sheet 0) (gives 0 0 16 ∷ marksAre (replicate 16 1 ++ replicate 32 2 ++ replicate 48 0) ∷ [])
+    ∷ row 1302 3 96 2000 quad (Call.split 0) (gives 0 48 48 ∷ changes 208 ∷ [])
+    ∷ row 1401 2 8 2 [] Call.undo (gives 16 0 0 ∷ [])
+    ∷ row 1402 2 24 600 three (Call.orbit 6 5) (gives 0 1 4 ∷ [])
+    ∷ row 1403 2 0 2 [] Call.check (gives 0 0 2 ∷ [])
+    ∷ []
+
+pub all-hold : failing cases ≡ []
+unfolding everything cases row quad three halves bent unlinked failing holds holdsFrom seesAll sees begin doAll doCall keeping equal
+all-hold = refl
+
+-- 14: "262,144 entries pass check 2, 262,148 don't"
+pub longest-passes : (t : List ℕ) → length t ≡ 262144 → tableOk t ≡ pass
+unfolding tableOk must
+longest-passes t long = rw long
+
+pub longer-refused : (t : List ℕ) → length t ≡ 262148 → tableOk t ≡ refuse 2 0
+unfolding tableOk must
+longer-refused t long = rw long
