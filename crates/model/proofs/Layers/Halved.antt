@@ -1,9 +1,9 @@
 -- split d in 01's words, where no check but 15 refuses it (`Splits`): `split-links` has the links, `split-stays` all else,
 -- `new-in-order`, `split-lowest` and `new-apart` the new darts and their slots, `split-lives` the number of live slots,
--- `split-two-cells`, `split-cell-stays` and `split-all-cells` the cells.
+-- `split-changes` that of the entries changed, `split-two-cells`, `split-cell-stays` and `split-all-cells` the cells.
 use Prim.Native.Nat.{ℕ, _+_, _*_, _≤_, _<_}
 use mathlib.Core.Path.{_≡_, sym, ap, _∙_}
-use mathlib.Core.Logic.{_⊎_, inl, inr, ⊎-elim}
+use mathlib.Core.Logic.{_⊎_, inl, inr, _≢_, ⊎-elim}
 use mathlib.Core.Bool.{true, false}
 use mathlib.Core.List.{List, [], _∷_, List·Memᴰ as In, Memᴰ·cast as in-cast}
 use native.Mathlib.Omega.{arith}
@@ -12,17 +12,21 @@ use lib.Seq.{getD-take}
 use Rattle.model.specs.Lists.{count, indexOf, ones}
 use Rattle.model.specs.Table.{unused, slots, link, live, walk, unusedSlots, liveCount}
 use Rattle.model.specs.Cell.{cellOf}
+use Rattle.model.specs.Journal.{changesFrom}
 use Rattle.model.specs.Sheet.{sheet}
 use Rattle.model.specs.Split.{newDart, splitSlots, splitTable}
 use Rattle.model.specs.Meaning.Maps.{BlockTable}
 use Rattle.model.specs.Meaning.Sets.{Marked}
-use Rattle.model.proofs.Lists.Scan.{if-lt}
+use Rattle.model.proofs.Lists.Scan.{if-lt, clash}
 use Rattle.model.proofs.Lists.Ones.{index-in, ones-in, ones-of}
+use Rattle.model.proofs.Maps.Dim.{two-cases}
 use Rattle.model.proofs.Maps.Rules.{link-out}
+use Rattle.model.proofs.Maps.Tables.{mapTable, rule-at}
+use Rattle.model.proofs.Operations.Changes.{changedLinks, changed-one, changed-none}
 use Rattle.model.proofs.Operations.Frame.{split-frame}
 use Rattle.model.proofs.Operations.Slots.{Rising, Lowest, Filled, ones-count, ones-rising}
-use Rattle.model.proofs.Operations.Slots.{lowest-slots, lowest-first, filled-count}
-use Rattle.model.proofs.Layers.Sheet.{sheet-own}
+use Rattle.model.proofs.Operations.Slots.{lowest-slots, lowest-first, filled-count, filled-changes}
+use Rattle.model.proofs.Layers.Sheet.{sheet-own, sheet-least, sheet-live}
 use Rattle.model.proofs.Layers.Cut.{Splits, Cut, IsNew, split-cuts, split-slots, split-whole}
 use Rattle.model.proofs.Layers.Cut.{new-slot, new-in, new-one, slot-new}
 use Rattle.model.proofs.Layers.Role.{roleTo, roleWord, roleDart, role-link, role-plane}
@@ -174,11 +178,44 @@ module _ {n : ℕ} {t : List ℕ} {d : ℕ} (s : Splits n t d) where
   pub split-lives : liveCount (splitTable n t d) ≡ liveCount t + n * count 1 (sheet n t d)
   split-lives = filled-count (split-lowest .vacant) split-filled ∙ ap (λ (k : ℕ). liveCount t + k) split-number
 
-  -- ---- the cells
-
   pub split-keeps : BlockTable n (splitTable n t d)
   unfolding splitTable
   split-keeps = split-block cut
+
+  -- ---- the entries changed
+
+  apart : (x : ℕ) → In x (newSlots n t d) → getD (sheet n t d) x 0 ≡ 0
+  apart x i =
+      ⊎-elim (λ z. z) (λ m. absurd (clash (sheet-live (s .dart) x m) (split-lowest .vacant .dead x i)))
+      (sheet-least (s .dart) .bits x)
+
+  -- of a slot that is no new one: link 0, if it is a dart of S
+  others : (x : ℕ) → x < slots t → (In x (newSlots n t d) → ⊥) → changedLinks t (splitTable n t d) x ≡ getD (sheet n t d) x 0
+  others x low out = ⊎-elim
+      (λ z. changed-none t _ x (λ j b. split-stays x j b out (λ _ m. absurd (omega arith))) ∙ sym z)
+      (λ m. changed-one t _ x 0 (omega arith) (moved m) (λ j b e. split-stays x j b out (λ q _. e q)) ∙ sym m)
+      (sheet-least (s .dart) .bits x)
+    where
+      moved : Marked (sheet n t d) x → link t 0 x ≢ link (splitTable n t d) 0 x
+      moved m e =
+          let two = s .dart .table .dim .0 in
+          let lives = rule-at (mapTable (s .dart .table)) x (sheet-live (s .dart) x m) .goes 0 (omega arith) in
+          let new = split-lowest .vacant .dead _ (new-in-slot 0 x (omega arith) m) in
+          clash lives (ap (live t) (e ∙ split-links x m .g-0) ∙ new)
+
+  -- four entries of each new dart, and link 0 of each dart of S: 9 or 13 for each dart of S
+  pub split-changes : length (changesFrom 0 t (splitTable n t d)) ≡ (4 * n + 1) * count 1 (sheet n t d)
+  split-changes =
+      let T = mapTable (s .dart .table) in
+      let all = filled-changes T (mapTable split-keeps) split-length (split-lowest .vacant) split-filled (sheet n t d)
+      (sheet-least (s .dart) .long) (sheet-least (s .dart) .bits) apart others in
+      all ∙ ap (λ (k : ℕ). 4 * k + count 1 (sheet n t d)) split-number ∙ weighed (count 1 (sheet n t d))
+    where
+      weighed : (k : ℕ) → 4 * (n * k) + k ≡ (4 * n + 1) * k
+      weighed = two-cases n (s .dart .table .dim) (λ n. (k : ℕ) → 4 * (n * k) + k ≡ (4 * n + 1) * k)
+          (λ k. omega arith) (λ k. omega arith)
+
+  -- ---- the cells
 
   pub split-two-cells : (g : ℕ) → Marked (sheet n t d) g → TwoCells n t (splitTable n t d) g
   unfolding splitTable

@@ -1,6 +1,6 @@
 -- add in 01's words, of a map with room for a cell: `add-links` has the links of the new cell, `add-stays` all else,
--- `new-dart` and `add-lowest` its slots, `add-lives` the number of live slots.
-use Prim.Native.Nat.{ℕ, _+_, _≤_, _<_}
+-- `new-dart` and `add-lowest` its slots, `add-lives` the number of live slots, `add-changes` that of the entries changed.
+use Prim.Native.Nat.{ℕ, _+_, _*_, _≤_, _<_}
 use mathlib.Core.Path.{_≡_, sym, ap, _∙_}
 use mathlib.Core.Logic.{_⊎_, inl, inr, ⊎-elim}
 use mathlib.Core.Bool.{true, false, _&&_}
@@ -13,6 +13,7 @@ use borrow.Author.Tests.{eq-eqb, ne-eqb}
 use Rattle.model.specs.Lists.{indexOf}
 use Rattle.model.specs.Table.{unused, slots, link, live, unusedSlots, liveCount}
 use Rattle.model.specs.Cell.{cellSize}
+use Rattle.model.specs.Journal.{changesFrom}
 use Rattle.model.specs.Numbering.{cellLink}
 use Rattle.model.specs.Add.{addSlots, addTable}
 use Rattle.model.specs.Meaning.Maps.{Dim, MapTable}
@@ -22,9 +23,10 @@ use Rattle.model.proofs.Maps.Dim.{size-some}
 use Rattle.model.proofs.Maps.Rules.{link-out, live-by}
 use Rattle.model.proofs.Cells.Cell.{rows-in}
 use Rattle.model.proofs.Cells.Chart.{live-same}
-use Rattle.model.proofs.Cells.Add.{add-new, add-slots, add-fits}
+use Rattle.model.proofs.Cells.Add.{add-new, add-slots, add-table}
+use Rattle.model.proofs.Operations.Changes.{changed-none}
 use Rattle.model.proofs.Operations.Frame.{add-frame}
-use Rattle.model.proofs.Operations.Slots.{Lowest, Filled, lowest-slots, lowest-first, filled-count}
+use Rattle.model.proofs.Operations.Slots.{Lowest, Filled, lowest-slots, lowest-first, filled-count, filled-only}
 
 -- the k-th dart of the new cell
 abbrev pub newAt : ℕ → List ℕ → ℕ → ℕ
@@ -64,6 +66,16 @@ module _ {n : ℕ} {t : List ℕ} (T : MapTable n t) (room : length (addSlots n 
   pub add-free : (j k : ℕ) → n ≤ j → j < 4 → k < cellSize n → link (addTable n t) j (newAt n t k) ≡ newAt n t k
   add-free j k top b h = add-links j k b h ∙ ap (newAt n t) (free-rows n (T .dim) j k top)
 
+  pub add-made : MapTable n (addTable n t)
+  unfolding addTable
+  add-made = add-table T (add-lowest .vacant) room
+
+  pub add-length : length (addTable n t) ≡ length t
+  unfolding addTable
+  add-length =
+      let same = add-slots T (add-lowest .vacant) room in
+      add-made .whole ∙ ap (λ (k : ℕ). 4 * k) same ∙ sym (T .whole)
+
   -- "Place: first slot"
   pub add-place : (y : ℕ) → y < slots t → live t y ≡ false → getD (addSlots n t) 0 0 ≤ y
   add-place = let some = size-some n (T .dim) in lowest-first add-lowest (omega arith)
@@ -73,7 +85,7 @@ module _ {n : ℕ} {t : List ℕ} (T : MapTable n t) (room : length (addSlots n 
   add-stays x j b out = if-lt x (slots t) (λ low. add-frame t (T .whole) x low n (addSlots n t) out j b)
       (λ high.
       let same = add-slots T (add-lowest .vacant) room in
-      link-out (addTable n t) x (add-fits T (add-lowest .vacant) room) (omega arith) j ∙ sym (link-out t x (T .whole) high j))
+      link-out (addTable n t) x (add-made .whole) (omega arith) j ∙ sym (link-out t x (T .whole) high j))
 
   -- the live slots after are those before and the new cell's
   pub add-filled : Filled t (addTable n t) (addSlots n t)
@@ -103,3 +115,9 @@ module _ {n : ℕ} {t : List ℕ} (T : MapTable n t) (room : length (addSlots n 
 
   pub add-lives : liveCount (addTable n t) ≡ liveCount t + cellSize n
   add-lives = filled-count (add-lowest .vacant) add-filled ∙ ap (λ (k : ℕ). liveCount t + k) room
+
+  -- all four entries of each
+  pub add-changes : length (changesFrom 0 t (addTable n t)) ≡ 4 * cellSize n
+  add-changes =
+      filled-only T add-made add-length (add-lowest .vacant) add-filled (λ x out. changed-none t _ x (λ j b. add-stays x j b out))
+      ∙ ap (λ (k : ℕ). 4 * k) room

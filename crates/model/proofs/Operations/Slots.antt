@@ -1,22 +1,27 @@
--- The lowest unused slots, which add and split fill (`Lowest`, `lowest-slots`), and the number of live slots once they are
--- filled (`Filled`, `filled-count`).
-use Prim.Native.Nat.{ℕ, zero, suc, _+_, _≤_, _<_}
+-- The lowest unused slots, which add and split fill (`Lowest`, `lowest-slots`), and once they are filled (`Filled`) the
+-- number of live slots (`filled-count`) and of entries changed (`filled-changes`, `filled-only`).
+use Prim.Native.Nat.{ℕ, zero, suc, _+_, _*_, _≤_, _<_}
 use mathlib.Core.Path.{_≡_, refl, sym, ap, _∙_, subst}
-use mathlib.Core.Logic.{_⊎_, ⊎-elim}
+use mathlib.Core.Logic.{_⊎_, inl, inr, _≢_, ⊎-elim}
 use mathlib.Core.Bool.{true, false}
 use mathlib.Core.List.{List, [], _∷_, _++_, List·Memᴰ as In, List·Memᴰ·not-nil as not-nil, List·Memᴰ·cases-cons as in-cons}
-use mathlib.Core.List.{List·Memᴰ·head as here, List·Memᴰ·tail as there}
 use mathlib.Core.List.{Memᴰ·append-left as in-left, Memᴰ·append-right as in-right, List·Memᴰ·append-cases as in-append}
 use native.Mathlib.Omega.{arith}
-use lib.ListN.{length, getD, take, drop, take-append-drop, length-append}
+use lib.ListN.{length, getD, take, drop, take-append-drop, List·getD-eq-default}
 use borrow.Author.Tests.{eq-eqb, ne-eqb}
-use Rattle.model.specs.Lists.{tabulate, count, onesFrom, ones}
-use Rattle.model.specs.Table.{slots, live, unusedSlots, liveCount}
-use Rattle.model.specs.Meaning.Sets.{Marked}
-use Rattle.model.proofs.Lists.Scan.{test, if-eq, clash, length-tab, getD-tab}
-use Rattle.model.proofs.Lists.Ones.{Vacant, vacant-frees, getD-in, ones-in, ones-of, ones-distinct, in-or}
-use Rattle.model.proofs.Sets.Closure.{marked-in}
-use Rattle.model.proofs.Sets.Pigeon.{Distinct, more, cover, distinct-le}
+use Rattle.model.specs.Lists.{tabulate, count, onesFrom, member}
+use Rattle.model.specs.Table.{slots, link, live, unusedSlots, liveCount}
+use Rattle.model.specs.Journal.{changesFrom}
+use Rattle.model.specs.Meaning.Maps.{MapTable}
+use Rattle.model.specs.Meaning.Sets.{Bits}
+use Rattle.model.specs.Meaning.Sheets.{howMany}
+use Rattle.model.proofs.Lists.Scan.{test, if-eq, if-lt, clash, length-tab, getD-tab}
+use Rattle.model.proofs.Lists.Ones.{Vacant, vacant-frees, getD-in, ones-in, in-or, member-in, in-member}
+use Rattle.model.proofs.Maps.Rules.{dead-link}
+use Rattle.model.proofs.Maps.Tables.{live-below, rule-at}
+use Rattle.model.proofs.Operations.Changes.{changedLinks, changes-size, changed-all}
+use Rattle.model.proofs.Layers.Counts.{bit, howMany-least, howMany-most, howMany-total, total-howMany}
+use Rattle.model.proofs.Sets.Pigeon.{Distinct, none}
 
 -- ---- rising lists
 
@@ -112,6 +117,9 @@ lowest-first {t} {fs} L some y h e = ⊎-elim (first-below (L .rising) y)
 
 -- ---- the live slots
 
+not-member : (l : List ℕ) (x : ℕ) → (In x l → ⊥) → member l x ≡ false
+not-member l x out = test (member l x) (λ e. absurd (out (member-in l x e))) (λ e. e)
+
 -- the live slots of u are those of t, and fs
 pub record Filled (t u fs : List ℕ) : Type 0 where
   pub same : slots u ≡ slots t
@@ -119,54 +127,83 @@ pub record Filled (t u fs : List ℕ) : Type 0 where
   pub made : (x : ℕ) → In x fs → live u x ≡ true
   pub only : (x : ℕ) → live u x ≡ true → (live t x ≡ true) ⊎ In x fs
 
-liveMarks : List ℕ → List ℕ
-liveMarks t = tabulate (slots t) (λ d. elim (live t d) [ true ↦ 1 | false ↦ 0 ])
-
-marks-live : (t : List ℕ) (x : ℕ) → Marked (liveMarks t) x → (x < slots t) × (live t x ≡ true)
-unfolding liveMarks
-marks-live t x h =
-    let f : ℕ → ℕ = λ d. elim (live t d) [ true ↦ 1 | false ↦ 0 ] in
-    let low : x < slots t = subst (λ (k : ℕ). x < k) (length-tab f (slots t)) (marked-in (liveMarks t) x h) in
-    let at = getD-tab f (slots t) x 0 low in
-    (low, test (live t x) (λ e. e) (λ e. let z : f x ≡ 0 = rw e in absurd (omega arith)))
-
-live-marks : (t : List ℕ) (x : ℕ) → x < slots t → live t x ≡ true → Marked (liveMarks t) x
-unfolding liveMarks
-live-marks t x h e = getD-tab (λ d. elim (live t d) [ true ↦ 1 | false ↦ 0 ]) (slots t) x 0 h ∙ rw e
-
-distinct-append : (k l : List ℕ) → Distinct k → Distinct l → ((x : ℕ) → In x k → In x l → ⊥) → Distinct (k ++ l)
-distinct-append [] l p q apart = q
-distinct-append (x ∷ k) l (more once p) q apart =
-    more (λ i. ⊎-elim once (λ j. apart x (here refl) j) (in-append k i)) (distinct-append k l p q (λ y i j. apart y (there i) j))
+-- as many of the first k slots pass as fs are
+slots-number : (k : ℕ) (fs : List ℕ) → Distinct fs → ((x : ℕ) → In x fs → x < k) → howMany k (member fs) ≡ length fs
+slots-number k fs once low =
+    let least = howMany-least k (member fs) fs once (λ x i. (low x i, in-member fs x i)) in
+    let most = howMany-most k (member fs) fs (λ x h e. member-in fs x e) in
+    omega arith
 
 pub filled-count : {t u fs : List ℕ} → Vacant t fs → Filled t u fs → liveCount u ≡ liveCount t + length fs
-unfolding liveCount liveMarks
+unfolding liveCount howMany
 filled-count {t} {u} {fs} vacant F =
-    let most = cover all (liveMarks u) covers in
-    let once = distinct-append before fs (ones-distinct (liveMarks t) 0) (vacant .once) apart in
-    let least = distinct-le all (liveMarks u) once marks in
-    let long = length-append before fs in
-    let number = ones-count (liveMarks t) 0 in
+    let number = slots-number (slots t) fs (vacant .once) (vacant .inside) in
+    let all = howMany-total (slots t) (live u) in
+    let parts = total-howMany 1 (slots t) (λ x. bit (live u x)) (live t) (member fs) (λ x _. each x) in
+    rw (F .same) (omega arith)
+  where
+    each : (x : ℕ) → bit (live u x) ≡ 1 * bit (live t x) + bit (member fs x)
+    each x = ⊎-elim (λ i. rw (F .made x i, vacant .dead x i, in-member fs x i))
+        (λ out. rw (not-member fs x out) (test (live t x) (λ e. rw (F .kept x e, e))
+        (λ e. test (live u x) (λ q. absurd (⊎-elim (λ l. clash l e) out (F .only x q))) (λ q. rw (q, e))))) (in-or fs x)
+
+-- ---- the entries changed
+
+-- marks the slots fs
+slotMarks : ℕ → List ℕ → List ℕ
+slotMarks k fs = tabulate k (λ x. elim (member fs x) [ true ↦ 1 | false ↦ 0 ])
+
+module _ (k : ℕ) (fs : List ℕ) where
+  slot-long : length (slotMarks k fs) ≡ k
+  unfolding slotMarks
+  slot-long = length-tab _ k
+
+  slot-mark : (x : ℕ) → x < k → In x fs → getD (slotMarks k fs) x 0 ≡ 1
+  unfolding slotMarks
+  slot-mark x h i = getD-tab (λ x. elim (member fs x) [ true ↦ 1 | false ↦ 0 ]) k x 0 h ∙ rw (in-member fs x i)
+
+  slot-bare : (x : ℕ) → x < k → (In x fs → ⊥) → getD (slotMarks k fs) x 0 ≡ 0
+  unfolding slotMarks
+  slot-bare x h out = getD-tab (λ x. elim (member fs x) [ true ↦ 1 | false ↦ 0 ]) k x 0 h
+      ∙ rw (not-member fs x out)
+
+  slot-bits : Bits (slotMarks k fs)
+  slot-bits x = if-lt x k (λ h. ⊎-elim (λ i. inr (slot-mark x h i)) (λ out. inl (slot-bare x h out)) (in-or fs x))
+      (λ h. inl (List·getD-eq-default (slotMarks k fs) 0 (let e = slot-long in omega arith)))
+
+-- all four entries of each of fs; and those of the other slots, that s counts
+pub filled-changes : {n : ℕ} {t u fs : List ℕ} → MapTable n t → MapTable n u → length u ≡ length t → Vacant t fs → Filled t u fs
+    → (s : List ℕ) → length s ≡ slots t → Bits s → ((x : ℕ) → In x fs → getD s x 0 ≡ 0)
+    → ((x : ℕ) → x < slots t → (In x fs → ⊥) → changedLinks t u x ≡ getD s x 0)
+    → length (changesFrom 0 t u) ≡ 4 * length fs + count 1 s
+unfolding slotMarks howMany
+filled-changes {n} {t} {u} {fs} T U long vacant F s long-s bits-s apart others =
+    let size = changes-size t u (T .whole) long 4 1 marks s (slot-long _ fs) long-s (slot-bits _ fs) bits-s each in
+    let number = slots-number (slots t) fs (vacant .once) (vacant .inside) in
     omega arith
   where
-    before : List ℕ
-    before = ones (liveMarks t)
+    marks : List ℕ
+    marks = slotMarks (slots t) fs
 
-    all : List ℕ
-    all = before ++ fs
+    new : (x : ℕ) → In x fs → (j : ℕ) → j < 4 → link t j x ≢ link u j x
+    new x i j b e =
+        let none = dead-link t x (vacant .dead x i) j b in
+        let low = live-below U (link u j x) (rule-at U x (F .made x i) .goes j b) in
+        let few = U .few in
+        omega arith
 
-    lives : (x : ℕ) → In x before → (x < slots t) × (live t x ≡ true)
-    lives x i = marks-live t x (ones-of (liveMarks t) x i)
+    each : (x : ℕ) → x < slots t → changedLinks t u x ≡ 4 * getD marks x 0 + 1 * getD s x 0
+    each x h = ⊎-elim
+        (λ i. let m = slot-mark (slots t) fs x h i in let z = apart x i in let c = changed-all t u x (new x i) in omega arith)
+        (λ out. let m = slot-bare (slots t) fs x h out in let c = others x h out in omega arith) (in-or fs x)
 
-    apart : (x : ℕ) → In x before → In x fs → ⊥
-    apart x i j = clash (lives x i .1) (vacant .dead x j)
-
-    covers : (x : ℕ) → Marked (liveMarks u) x → In x all
-    covers x m =
-        let l = marks-live u x m in
-        let low : x < slots t = rw (F .same) at (l .0) in
-        ⊎-elim (λ e. in-left fs (ones-in (liveMarks t) x (live-marks t x low e))) (λ j. in-right before j) (F .only x (l .1))
-
-    marks : (x : ℕ) → In x all → Marked (liveMarks u) x
-    marks x i = ⊎-elim (λ j. live-marks u x (rw (F .same) (lives x j .0)) (F .kept x (lives x j .1)))
-        (λ j. live-marks u x (rw (F .same) (vacant .inside x j)) (F .made x j)) (in-append before i)
+-- where the other slots stay
+pub filled-only : {n : ℕ} {t u fs : List ℕ} → MapTable n t → MapTable n u → length u ≡ length t → Vacant t fs → Filled t u fs
+    → ((x : ℕ) → (In x fs → ⊥) → changedLinks t u x ≡ 0) → length (changesFrom 0 t u) ≡ 4 * length fs
+unfolding slotMarks howMany
+filled-only {n} {t} {u} {fs} T U long vacant F others =
+    let bare : (x : ℕ) → x < slots t → getD (slotMarks (slots t) []) x 0 ≡ 0 = λ x h. slot-bare (slots t) [] x h not-nil in
+    let all = filled-changes T U long vacant F (slotMarks (slots t) []) (slot-long (slots t) []) (slot-bits (slots t) [])
+    (λ x i. bare x (vacant .inside x i)) (λ x h out. others x out ∙ sym (bare x h)) in
+    let number = slots-number (slots t) [] none (λ x i. absurd (not-nil i)) in
+    omega arith
