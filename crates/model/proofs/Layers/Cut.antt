@@ -48,7 +48,7 @@ split-cuts {n} {t} {d} s = record {
 -- ---- numbers: the new dart r of the i-th dart is in the new slot n * i + r
 
 module _ (n : ℕ) (dim : Dim n) where
-  slot-low : (i l r : ℕ) → i < l → r < n → n * i + r < n * l
+  pub slot-low : (i l r : ℕ) → i < l → r < n → n * i + r < n * l
   slot-low = two-cases n dim (λ n. (i l r : ℕ) → i < l → r < n → n * i + r < n * l)
       (λ i l r a b. omega arith) (λ i l r a b. omega arith)
 

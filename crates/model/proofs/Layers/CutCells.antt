@@ -4,24 +4,23 @@ use Prim.Native.Nat.{ℕ, _<_}
 use mathlib.Core.Path.{_≡_, sym, ap, _∙_}
 use mathlib.Core.Logic.{_⊎_, inl, inr, ⊎-elim}
 use mathlib.Core.Bool.{true}
-use mathlib.Core.List.{List, [], _∷_, List·Memᴰ as In}
-use lib.ListN.{length, getD}
-use lib.Seq.{ext-getD}
-use Rattle.model.specs.Table.{slots, link, live}
-use Rattle.model.specs.Reach.{steps}
-use Rattle.model.specs.Cell.{cellWords, cellSize, cellOf, goodCell}
+use mathlib.Core.List.{List, List·Memᴰ as In}
+use native.Mathlib.Omega.{arith}
+use Rattle.model.specs.Table.{link, live}
+use Rattle.model.specs.Cell.{cellSize, cellOf, goodCell}
 use Rattle.model.specs.Split.{newDart, halved}
 use Rattle.model.specs.Meaning.Maps.{BlockTable}
 use Rattle.model.specs.Meaning.Places.{path, place}
-use Rattle.model.specs.Meaning.Sets.{Least, Marked, Bits}
+use Rattle.model.specs.Meaning.Sets.{Marked}
 use Rattle.model.proofs.Maps.Dim.{size-some}
 use Rattle.model.proofs.Maps.Tables.{mapTable}
-use Rattle.model.proofs.Cells.Cell.{cell-least, walk-rows, all-places, place-in}
-use Rattle.model.proofs.Cells.Chart.{Chart, own, cell-same, path-small, path-leads, place-chart, place-zero}
-use Rattle.model.proofs.Layers.Cut.{Cut, split-slots}
+use Rattle.model.proofs.Cells.Cell.{cell-live, walk-rows, all-places, place-in}
+use Rattle.model.proofs.Cells.Chart.{Chart, own, cell-same, path-small, path-leads, place-chart}
+use Rattle.model.proofs.Operations.Frame.{cell-kept}
+use Rattle.model.proofs.Layers.Cut.{Cut, split-slots, split-kept}
 use Rattle.model.proofs.Layers.Split.{Live, old, new, split-live, live-split}
 use Rattle.model.proofs.Layers.Halves.{halfDart, InHalf, half-chart, half-own, half-live, half-old, across-out}
-use Rattle.model.proofs.Layers.Halves.{place-in-half, new-in-half, Untouched, half-or, untouched-chart, split-block}
+use Rattle.model.proofs.Layers.Halves.{place-in-half, new-in-half, half-or, split-block}
 
 -- ---- a cell is its places, and its chart
 
@@ -47,16 +46,6 @@ module _ {n : ℕ} {u : List ℕ} (U : BlockTable n u) (c : ℕ → ℕ) (chart 
   marked-chart d q x m =
       let (k, h, e) = marked-place U (c 0) base x (rw q at m) in
       (k, h, e ∙ chart-place k h)
-
--- marks of the same darts are the same marks
-marks-same : (r s : List ℕ) → length r ≡ length s → Bits r → Bits s
-    → ((x : ℕ) → Marked r x → Marked s x) → ((x : ℕ) → Marked s x → Marked r x) → r ≡ s
-marks-same r s long bits-r bits-s to from = ext-getD 0 r s long (λ x _. at x (bits-r x) (bits-s x))
-  where
-    at : (x : ℕ) → (getD r x 0 ≡ 0) ⊎ Marked r x → (getD s x 0 ≡ 0) ⊎ Marked s x → getD r x 0 ≡ getD s x 0
-    at x (inr m) q = m ∙ sym (to x m)
-    at x (inl z) (inl w) = z ∙ sym w
-    at x (inl z) (inr m) = from x m ∙ sym m
 
 -- ---- each cut cell becomes two
 
@@ -130,27 +119,9 @@ module _ {n : ℕ} {t gs fs : List ℕ} (C : Cut n t gs fs) where
   Uncut x = (y : ℕ) → Marked (cellOf n t x) y → In y gs → ⊥
 
   pub cell-stays : (x : ℕ) → live t x ≡ true → Uncut x → cellOf n after x ≡ cellOf n t x
-  cell-stays x l none = marks-same _ _ (c .long ∙ split-slots C ∙ sym (c₀ .long)) (c .bits) (c₀ .bits)
-      (λ y m. let (k, h, e) = marked-chart U (place n t x) chart base x first y m in rw e (place-marked before x l k h))
-      (λ y m. chart-marked U (place n t x) chart base x first y (marked-place before x l y m))
-    where
-      first : x ≡ place n t x 0
-      first = place-zero before x l
-
-      off : Untouched C x
-      off k h i = none (place n t x k) (place-marked before x l k h) i
-
-      chart : Chart n after (place n t x)
-      chart = untouched-chart C x l off
-
-      base : live after (place n t x 0) ≡ true
-      base = ap (live after) (sym first) ∙ split-live C x (old l)
-
-      c : Least (steps after (cellWords n)) (slots after) (x ∷ []) (cellOf n after x)
-      c = cell-least (mapTable U) x (split-live C x (old l))
-
-      c₀ : Least (steps t (cellWords n)) (slots t) (x ∷ []) (cellOf n t x)
-      c₀ = cell-least (mapTable before) x l
+  cell-stays x l none = cell-kept n t after x (split-slots C) (λ y j m b.
+      let top = before .dim .1 in
+      split-kept C y j (cell-live (mapTable before) x l y m) (omega arith) (λ _. none y m))
 
   -- and there are no others
   pub all-cells : (x : ℕ) → live after x ≡ true

@@ -4,7 +4,7 @@
 use Prim.Native.Nat.{ℕ, _+_, _*_, _≤_, _<_}
 use mathlib.Core.Path.{_≡_, sym, ap, _∙_}
 use mathlib.Core.Logic.{_⊎_, inl, inr, _≢_, ⊎-elim}
-use mathlib.Core.Bool.{true, false}
+use mathlib.Core.Bool.{true}
 use mathlib.Core.List.{List, [], _∷_, List·Memᴰ as In, Memᴰ·cast as in-cast}
 use native.Mathlib.Omega.{arith}
 use lib.ListN.{length, getD}
@@ -24,11 +24,12 @@ use Rattle.model.proofs.Maps.Rules.{link-out}
 use Rattle.model.proofs.Maps.Tables.{mapTable, rule-at}
 use Rattle.model.proofs.Operations.Changes.{changedLinks, changed-one, changed-none}
 use Rattle.model.proofs.Operations.Frame.{split-frame}
-use Rattle.model.proofs.Operations.Slots.{Rising, Lowest, Filled, ones-count, ones-rising}
-use Rattle.model.proofs.Operations.Slots.{lowest-slots, lowest-first, filled-count, filled-changes}
+use Rattle.model.proofs.Operations.Slots.{Rising, ones-count, ones-rising, rising-at, index-rising}
+use Rattle.model.proofs.Operations.Slots.{Lowest, LowestUnused, Filled, lowest-slots, lowest-first}
+use Rattle.model.proofs.Operations.Slots.{filled-count, filled-changes}
 use Rattle.model.proofs.Layers.Sheet.{sheet-own, sheet-least, sheet-live}
 use Rattle.model.proofs.Layers.Cut.{Splits, Cut, IsNew, split-cuts, split-slots, split-whole}
-use Rattle.model.proofs.Layers.Cut.{new-slot, new-in, new-one, slot-new}
+use Rattle.model.proofs.Layers.Cut.{slot-low, new-slot, new-in, new-one, slot-new}
 use Rattle.model.proofs.Layers.Role.{roleTo, roleWord, roleDart, role-link, role-plane}
 use Rattle.model.proofs.Layers.Split.{Live, old, new, split-live, live-split}
 use Rattle.model.proofs.Layers.Halves.{split-block}
@@ -76,6 +77,9 @@ pub record SplitLinks (n : ℕ) (t u : List ℕ) (a b c : ℕ → ℕ) (g : ℕ)
   pub c-3 : n ≡ 3 → link u 3 (c g) ≡ c (link t 0 g)
 
 module _ {n : ℕ} {t : List ℕ} {d : ℕ} (s : Splits n t d) where
+  abbrev B : BlockTable n t
+  B = s .dart .table
+
   cut : Cut n t (sheetDarts n t d) (newSlots n t d)
   cut = split-cuts s
 
@@ -105,7 +109,7 @@ module _ {n : ℕ} {t : List ℕ} {d : ℕ} (s : Splits n t d) where
       i = ones-in (sheet n t d) g m
 
       two : 2 ≤ n
-      two = s .dart .table .dim .0
+      two = B .dim .0
 
       low : 1 ≤ n
       low = omega arith
@@ -115,14 +119,14 @@ module _ {n : ℕ} {t : List ℕ} {d : ℕ} (s : Splits n t d) where
       → link (splitTable n t d) j x ≡ link t j x
   unfolding splitTable
   split-stays x j b out k = if-lt x (slots t)
-      (λ low. split-frame t (s .dart .table .whole) x low n _ (newSlots n t d) out j b (λ e i. k e (ones-of (sheet n t d) x i)))
+      (λ low. split-frame t (B .whole) x low n _ (newSlots n t d) out j b (λ e i. k e (ones-of (sheet n t d) x i)))
       (λ high.
       let same = split-slots cut in
-      link-out (splitTable n t d) x (split-whole cut) (omega arith) j ∙ sym (link-out t x (s .dart .table .whole) high j))
+      link-out (splitTable n t d) x (split-whole cut) (omega arith) j ∙ sym (link-out t x (B .whole) high j))
 
   pub split-length : length (splitTable n t d) ≡ length t
   unfolding splitTable
-  split-length = let same = split-slots cut in split-whole cut ∙ ap (λ (k : ℕ). 4 * k) same ∙ sym (s .dart .table .whole)
+  split-length = let same = split-slots cut in split-whole cut ∙ ap (λ (k : ℕ). 4 * k) same ∙ sym (B .whole)
 
   -- ---- the new darts
 
@@ -147,18 +151,34 @@ module _ {n : ℕ} {t : List ℕ} {d : ℕ} (s : Splits n t d) where
       → newOf n t d r g ≡ newOf n t d q h → (r ≡ q) × (g ≡ h)
   new-apart r q g h br bq mg mh e = new-one cut r q g h br bq (ones-in _ g mg) (ones-in _ h mh) e
 
+  -- the new darts of g rise, and those of a later dart of S are above them
+  pub new-rising : (r q g h : ℕ) → r < n → q < n → Marked (sheet n t d) g → Marked (sheet n t d) h
+      → (g < h) ⊎ ((g ≡ h) × (r < q)) → newOf n t d r g < newOf n t d q h
+  unfolding newDart
+  new-rising r q g h br bq mg mh order =
+      rising-at (split-lowest .rising) _ _ unused (before order) (new-slot cut q h bq (ones-in _ h mh))
+    where
+      at : ℕ → ℕ
+      at g = indexOf g (sheetDarts n t d)
+
+      before : (g < h) ⊎ ((g ≡ h) × (r < q)) → n * at g + r < n * at h + q
+      before (inl l) =
+          let low = index-rising (darts-rising n t d) g h (ones-in _ g mg) (ones-in _ h mh) l in
+          let b = slot-low n (B .dim) (at g) (at h) r low br in
+          omega arith
+      before (inr (e, l)) = let same : n * at g ≡ n * at h = ap (λ (x : ℕ). n * at x) e in omega arith
+
   pub new-in-slot : (r g : ℕ) → r < n → Marked (sheet n t d) g → In (newOf n t d r g) (newSlots n t d)
   new-in-slot r g b m = new-in cut r g b (ones-in _ g m)
 
   pub slot-has-new : (x : ℕ) → In x (newSlots n t d) → IsNew n (sheetDarts n t d) (newSlots n t d) x
   slot-has-new = slot-new cut
 
-  -- "Place: first new slot", which is the lowest unused one
-  pub split-place : (y : ℕ) → y < slots t → live t y ≡ false → getD (newSlots n t d) 0 0 ≤ y
+  -- "Place: first new slot"
+  pub split-place : LowestUnused t (getD (newSlots n t d) 0 0)
   split-place =
-      let own = sheet-own (s .dart) in
-      let two = s .dart .table .dim .0 in
-      let some = index-in (newSlots n t d) _ (new-in-slot 0 d (omega arith) own) in
+      let two = B .dim .0 in
+      let some = index-in (newSlots n t d) _ (new-in-slot 0 d (omega arith) (sheet-own (s .dart))) in
       lowest-first split-lowest (omega arith)
 
   -- the live slots after are those before and the new ones
@@ -184,35 +204,36 @@ module _ {n : ℕ} {t : List ℕ} {d : ℕ} (s : Splits n t d) where
 
   -- ---- the entries changed
 
-  apart : (x : ℕ) → In x (newSlots n t d) → getD (sheet n t d) x 0 ≡ 0
-  apart x i =
+  slot-unmarked : (x : ℕ) → In x (newSlots n t d) → getD (sheet n t d) x 0 ≡ 0
+  slot-unmarked x i =
       ⊎-elim (λ z. z) (λ m. absurd (clash (sheet-live (s .dart) x m) (split-lowest .vacant .dead x i)))
       (sheet-least (s .dart) .bits x)
 
   -- of a slot that is no new one: link 0, if it is a dart of S
-  others : (x : ℕ) → x < slots t → (In x (newSlots n t d) → ⊥) → changedLinks t (splitTable n t d) x ≡ getD (sheet n t d) x 0
-  others x low out = ⊎-elim
+  other-changes : (x : ℕ) → x < slots t → (In x (newSlots n t d) → ⊥)
+      → changedLinks t (splitTable n t d) x ≡ getD (sheet n t d) x 0
+  other-changes x low out = ⊎-elim
       (λ z. changed-none t _ x (λ j b. split-stays x j b out (λ _ m. absurd (omega arith))) ∙ sym z)
       (λ m. changed-one t _ x 0 (omega arith) (moved m) (λ j b e. split-stays x j b out (λ q _. e q)) ∙ sym m)
       (sheet-least (s .dart) .bits x)
     where
       moved : Marked (sheet n t d) x → link t 0 x ≢ link (splitTable n t d) 0 x
       moved m e =
-          let two = s .dart .table .dim .0 in
-          let lives = rule-at (mapTable (s .dart .table)) x (sheet-live (s .dart) x m) .goes 0 (omega arith) in
+          let two = B .dim .0 in
+          let lives = rule-at (mapTable B) x (sheet-live (s .dart) x m) .goes 0 (omega arith) in
           let new = split-lowest .vacant .dead _ (new-in-slot 0 x (omega arith) m) in
           clash lives (ap (live t) (e ∙ split-links x m .g-0) ∙ new)
 
   -- four entries of each new dart, and link 0 of each dart of S: 9 or 13 for each dart of S
   pub split-changes : length (changesFrom 0 t (splitTable n t d)) ≡ (4 * n + 1) * count 1 (sheet n t d)
   split-changes =
-      let T = mapTable (s .dart .table) in
-      let all = filled-changes T (mapTable split-keeps) split-length (split-lowest .vacant) split-filled (sheet n t d)
-      (sheet-least (s .dart) .long) (sheet-least (s .dart) .bits) apart others in
+      let S = sheet-least (s .dart) in
+      let all = filled-changes (mapTable B) (mapTable split-keeps) split-length (split-lowest .vacant) split-filled
+      (sheet n t d) (S .long) (S .bits) slot-unmarked other-changes in
       all ∙ ap (λ (k : ℕ). 4 * k + count 1 (sheet n t d)) split-number ∙ weighed (count 1 (sheet n t d))
     where
       weighed : (k : ℕ) → 4 * (n * k) + k ≡ (4 * n + 1) * k
-      weighed = two-cases n (s .dart .table .dim) (λ n. (k : ℕ) → 4 * (n * k) + k ≡ (4 * n + 1) * k)
+      weighed = two-cases n (B .dim) (λ n. (k : ℕ) → 4 * (n * k) + k ≡ (4 * n + 1) * k)
           (λ k. omega arith) (λ k. omega arith)
 
   -- ---- the cells

@@ -236,14 +236,11 @@ module _ {n : ℕ} {t gs fs : List ℕ} (C : Cut n t gs fs) where
     is = w .2;
   }
 
-  pub untouched-chart : (x : ℕ) → live t x ≡ true → Untouched x → Chart n after (place n t x)
-  untouched-chart x l none = chart-kept B after (place n t x) (place-chart B x l)
-      (λ j k hj hk. let top = dim .1 in split-kept C (place n t x k) j (place-live B x k l hk) (omega arith) (λ _. none k hk))
-
   untouched-charted : (x : ℕ) → live t x ≡ true → Untouched x → Charted n after x
   untouched-charted x l none = record {
     c = place n t x;
-    chart = untouched-chart x l none;
+    chart = chart-kept B after (place n t x) (place-chart B x l)
+        (λ j k hj hk. let top = dim .1 in split-kept C (place n t x k) j (place-live B x k l hk) (omega arith) (λ _. none k hk));
     base = split-live C _ (old (place-live B x 0 l (size-some n dim)));
     k = 0;
     low = size-some n dim;

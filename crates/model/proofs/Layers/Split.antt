@@ -122,7 +122,7 @@ stays r j = eqb r 0 && not (eqb j 0)
 
 -- the words of a map's rules return, from each role
 roleTwice : ℕ → ℕ → ℕ → Bool
-roleTwice n r j = stays r j || (leads n r j && returns n r (j ∷ j ∷ []))
+roleTwice n r j = stays r j || returns n r (j ∷ j ∷ [])
 
 roleCross : ℕ → ℕ → ℕ → ℕ → Bool
 roleCross n r i j = stays r i || (ltb j (i + 2) || returns n r (i ∷ j ∷ i ∷ j ∷ []))
@@ -185,14 +185,14 @@ module _ {n : ℕ} {t gs fs : List ℕ} (C : Cut n t gs fs) where
       role-walk v r g (and-l (allLead n v r) (ends && back) h) b i ∙ ap₂ role (eqb-true _ _ (and-l ends back q)) round
 
   -- the links that split makes: those of the new darts, and link 0 of the darts of the sheet
-  made-twice : (r j : ℕ) → r ≤ n → j < 4 → (r ≡ 0 → j ≡ 0) → (leads n r j && returns n r (j ∷ j ∷ [])) ≡ true
+  made-twice : (r j : ℕ) → r ≤ n → j < 4 → (r ≡ 0 → j ≡ 0) → returns n r (j ∷ j ∷ []) ≡ true
   unfolding roleTwice
   made-twice r j b h made = not-stays r j made _
       (below-at (roleTwice n r) 4 (below-at (λ r. allBelow 4 (roleTwice n r)) (suc n) (twice-true n dim) r (omega arith)) j h)
 
   role-twice : (r g j : ℕ) → r ≤ n → In g gs → j < 4 → (r ≡ 0 → j ≡ 0) → link after j (link after j (role r g)) ≡ role r g
   unfolding walk
-  role-twice r g j b i h made = return-walk (j ∷ j ∷ []) r g (and-r (leads n r j) _ (made-twice r j b h made)) b i
+  role-twice r g j b i h made = return-walk (j ∷ j ∷ []) r g (made-twice r j b h made) b i
 
   role-cross : (r g i j : ℕ) → r ≤ n → In g gs → i + 2 ≤ j → j ≤ n → (r ≡ 0 → i ≡ 0)
       → link after j (link after i (link after j (link after i (role r g)))) ≡ role r g
@@ -222,8 +222,9 @@ module _ {n : ℕ} {t gs fs : List ℕ} (C : Cut n t gs fs) where
   live-role (suc r) g b i = new (record { role = r; of = g; low = b; member = i; is = refl })
 
   role-goes : (r g j : ℕ) → r ≤ n → In g gs → j < 4 → (r ≡ 0 → j ≡ 0) → Live (link after j (role r g))
+  unfolding returns allLead
   role-goes r g j b i h made =
-      let low = lead-low r j (and-l (leads n r j) _ (made-twice r j b h made)) in
+      let low = lead-low r j (and-l (leads n r j) _ (and-l (allLead n (j ∷ j ∷ []) r) _ (made-twice r j b h made))) in
       let m = sheet-walk (C .table) (C .sheet) (roleWord n r j) g (low .2) i in
       rw (role-link C r g j b i h) (live-role (roleTo n r j) _ (low .1) m)
 

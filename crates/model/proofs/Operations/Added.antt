@@ -1,5 +1,6 @@
 -- add in 01's words, of a map with room for a cell: `add-links` has the links of the new cell, `add-stays` all else,
--- `new-dart` and `add-lowest` its slots, `add-lives` the number of live slots, `add-changes` that of the entries changed.
+-- `new-dart` and `add-lowest` its slots, `add-cell` and `add-cell-stays` the cells, `add-lives` the number of live slots,
+-- `add-changes` that of the entries changed.
 use Prim.Native.Nat.{ℕ, _+_, _*_, _≤_, _<_}
 use mathlib.Core.Path.{_≡_, sym, ap, _∙_}
 use mathlib.Core.Logic.{_⊎_, inl, inr, ⊎-elim}
@@ -12,7 +13,7 @@ use lib.Dec.{eqb}
 use borrow.Author.Tests.{eq-eqb, ne-eqb}
 use Rattle.model.specs.Lists.{indexOf}
 use Rattle.model.specs.Table.{unused, slots, link, live, unusedSlots, liveCount}
-use Rattle.model.specs.Cell.{cellSize}
+use Rattle.model.specs.Cell.{cellSize, cellOf, goodCell}
 use Rattle.model.specs.Journal.{changesFrom}
 use Rattle.model.specs.Numbering.{cellLink}
 use Rattle.model.specs.Add.{addSlots, addTable}
@@ -21,12 +22,12 @@ use Rattle.model.proofs.Lists.Scan.{if-eq, if-lt, clash}
 use Rattle.model.proofs.Lists.Ones.{getD-in, getD-index, index-in, in-or}
 use Rattle.model.proofs.Maps.Dim.{size-some}
 use Rattle.model.proofs.Maps.Rules.{link-out, live-by}
-use Rattle.model.proofs.Cells.Cell.{rows-in}
-use Rattle.model.proofs.Cells.Chart.{live-same}
+use Rattle.model.proofs.Cells.Cell.{rows-in, cell-live}
+use Rattle.model.proofs.Cells.Chart.{live-same, chart-good}
 use Rattle.model.proofs.Cells.Add.{add-new, add-slots, add-table}
-use Rattle.model.proofs.Operations.Changes.{changed-none}
-use Rattle.model.proofs.Operations.Frame.{add-frame}
-use Rattle.model.proofs.Operations.Slots.{Lowest, Filled, lowest-slots, lowest-first, filled-count, filled-only}
+use Rattle.model.proofs.Operations.Frame.{add-frame, cell-kept}
+use Rattle.model.proofs.Operations.Slots.{Lowest, LowestUnused, Filled, lowest-slots, lowest-first, rising-at}
+use Rattle.model.proofs.Operations.Slots.{filled-count, filled-only}
 
 -- the k-th dart of the new cell
 abbrev pub newAt : ℕ → List ℕ → ℕ → ℕ
@@ -77,7 +78,7 @@ module _ {n : ℕ} {t : List ℕ} (T : MapTable n t) (room : length (addSlots n 
       add-made .whole ∙ ap (λ (k : ℕ). 4 * k) same ∙ sym (T .whole)
 
   -- "Place: first slot"
-  pub add-place : (y : ℕ) → y < slots t → live t y ≡ false → getD (addSlots n t) 0 0 ≤ y
+  pub add-place : LowestUnused t (getD (addSlots n t) 0 0)
   add-place = let some = size-some n (T .dim) in lowest-first add-lowest (omega arith)
 
   pub add-stays : (x j : ℕ) → j < 4 → (In x (addSlots n t) → ⊥) → link (addTable n t) j x ≡ link t j x
@@ -113,11 +114,27 @@ module _ {n : ℕ} {t : List ℕ} (T : MapTable n t) (room : length (addSlots n 
       only : (x : ℕ) → live (addTable n t) x ≡ true → (live t x ≡ true) ⊎ In x (addSlots n t)
       only x l = ⊎-elim inr (λ out. inl (sym (same x out) ∙ l)) (in-or (addSlots n t) x)
 
+  -- the new darts are a good cell, and every other cell stays
+  pub add-cell : (k : ℕ) → k < cellSize n → goodCell n (addTable n t) (cellOf n (addTable n t) (newAt n t k)) ≡ true
+  add-cell =
+      let base = add-filled .made _ (new-in 0 (size-some n (T .dim))) in
+      chart-good add-made (newAt n t) (record { follow = follow; apart = apart }) base
+    where
+      follow : (j k : ℕ) → j < n → k < cellSize n → link (addTable n t) j (newAt n t k) ≡ newAt n t (cellLink n j k)
+      follow j k b h = let top = T .dim .1 in add-links j k (omega arith) h
+
+      apart : (a b : ℕ) → a < b → b < cellSize n → newAt n t a ≡ newAt n t b → ⊥
+      apart a b ab h e = let rise = rising-at (add-lowest .rising) a b unused ab (omega arith) in omega arith
+
+  pub add-cell-stays : (x : ℕ) → live t x ≡ true → cellOf n (addTable n t) x ≡ cellOf n t x
+  add-cell-stays x l = cell-kept n t (addTable n t) x (add-filled .same) (λ y j m b.
+      let top = T .dim .1 in
+      add-stays y j (omega arith) (λ i. clash (cell-live T x l y m) (add-lowest .vacant .dead y i)))
+
   pub add-lives : liveCount (addTable n t) ≡ liveCount t + cellSize n
   add-lives = filled-count (add-lowest .vacant) add-filled ∙ ap (λ (k : ℕ). liveCount t + k) room
 
   -- all four entries of each
   pub add-changes : length (changesFrom 0 t (addTable n t)) ≡ 4 * cellSize n
   add-changes =
-      filled-only T add-made add-length (add-lowest .vacant) add-filled (λ x out. changed-none t _ x (λ j b. add-stays x j b out))
-      ∙ ap (λ (k : ℕ). 4 * k) room
+      filled-only T add-made add-length (add-lowest .vacant) add-filled add-stays ∙ ap (λ (k : ℕ). 4 * k) room

@@ -1,4 +1,5 @@
--- What add, remove and split leave: darts outside of the named ones keep every link.
+-- What add, remove and split leave: darts outside of the named ones keep every link, and a cell whose darts keep their
+-- links stays (`cell-kept`).
 use Prim.Native.Nat.{ℕ, zero, suc, _*_, _<_}
 use mathlib.Core.Path.{_≡_, refl, sym, ap, _∙_}
 use mathlib.Core.Bool.{false}
@@ -7,13 +8,17 @@ use lib.ListN.{length}
 use borrow.Author.Tests.{eq-eqb, ne-eqb, le-ltb}
 use Rattle.model.specs.Lists.{indexOf}
 use Rattle.model.specs.Table.{slots, link}
+use Rattle.model.specs.Cell.{cellOf}
 use Rattle.model.specs.Add.{addedLink, added}
 use Rattle.model.specs.Sheet.{sheet, sheetMarks}
 use Rattle.model.specs.Remove.{marked, outside, removedLink, removed, removeTable}
 use Rattle.model.specs.Split.{halvedLink, halved}
+use Rattle.model.specs.Meaning.Sets.{Marked, LeastSet, ByLink}
 use Rattle.model.proofs.Lists.Scan.{if-eq}
 use Rattle.model.proofs.Maps.Rules.{link-retable}
 use Rattle.model.proofs.Lists.Ones.{index-out}
+use Rattle.model.proofs.Sets.Closure.{least-set-unique}
+use Rattle.model.proofs.Sets.Least.{cell-is}
 
 -- the walk across removed cells stops at once outside of them
 pub outside-stops : (n : ℕ) (t m : List ℕ) (fuel y : ℕ) → marked m y ≡ false → outside n t m fuel y ≡ y
@@ -49,3 +54,27 @@ module _ (t : List ℕ) (fits : length t ≡ 4 * slots t) (x : ℕ) (low : x < s
       ∙ rw (le-ltb (indexOf x fs) (length fs) (index-out fs x k), halvedLink) (if-eq j 0
       (λ e. rw (eq-eqb j 0 e, le-ltb (indexOf x gs) (length gs) (index-out gs x (i e))))
       (λ e. rw (ne-eqb j 0 e)))
+
+-- ---- cells
+
+-- a cell whose darts keep the links below n stays
+pub cell-kept : (n : ℕ) (t u : List ℕ) (x : ℕ) → slots u ≡ slots t
+    → ((y j : ℕ) → Marked (cellOf n t x) y → j < n → link u j y ≡ link t j y) → cellOf n u x ≡ cellOf n t x
+cell-kept n t u x same kept = least-set-unique (cell-is n u x) (record {
+  long = cell .long ∙ sym same;
+  bits = cell .bits;
+  holds = λ y e low. cell .holds y e (rw same at low);
+  closed = λ y z m s low. cell .closed y z m (before y z m s) (rw same at low);
+  within = λ P seed step y m. cell .within (λ y. Marked (cellOf n t x) y × P y)
+      (λ y e low. (cell .holds y e low, seed y e (rw same low)))
+      (λ y z low (m, p) s to. (cell .closed y z m s to, step y z (rw same low) p (after y z m s) (rw same to))) y m .1;
+})
+  where
+    cell : LeastSet (slots t) (λ y. y ≡ x) (ByLink t (λ j. j < n)) (cellOf n t x)
+    cell = cell-is n t x
+
+    before : (y z : ℕ) → Marked (cellOf n t x) y → ByLink u (λ j. j < n) y z → ByLink t (λ j. j < n) y z
+    before y z m s = record { by = s .by; allowed = s .allowed; leads = s .leads ∙ kept y (s .by) m (s .allowed) }
+
+    after : (y z : ℕ) → Marked (cellOf n t x) y → ByLink t (λ j. j < n) y z → ByLink u (λ j. j < n) y z
+    after y z m s = record { by = s .by; allowed = s .allowed; leads = s .leads ∙ sym (kept y (s .by) m (s .allowed)) }

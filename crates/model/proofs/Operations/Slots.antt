@@ -9,17 +9,18 @@ use mathlib.Core.List.{Memᴰ·append-left as in-left, Memᴰ·append-right as i
 use native.Mathlib.Omega.{arith}
 use lib.ListN.{length, getD, take, drop, take-append-drop, List·getD-eq-default}
 use borrow.Author.Tests.{eq-eqb, ne-eqb}
-use Rattle.model.specs.Lists.{tabulate, count, onesFrom, member}
+use Rattle.model.specs.Lists.{tabulate, count, onesFrom, indexOf, member}
 use Rattle.model.specs.Table.{slots, link, live, unusedSlots, liveCount}
 use Rattle.model.specs.Journal.{changesFrom}
 use Rattle.model.specs.Meaning.Maps.{MapTable}
 use Rattle.model.specs.Meaning.Sets.{Bits}
 use Rattle.model.specs.Meaning.Sheets.{howMany}
 use Rattle.model.proofs.Lists.Scan.{test, if-eq, if-lt, clash, length-tab, getD-tab}
-use Rattle.model.proofs.Lists.Ones.{Vacant, vacant-frees, getD-in, ones-in, in-or, member-in, in-member}
+use Rattle.model.proofs.Lists.Ones.{Vacant, vacant-frees, getD-in, getD-index, index-in, ones-in}
+use Rattle.model.proofs.Lists.Ones.{in-or, member-in, in-member}
 use Rattle.model.proofs.Maps.Rules.{dead-link}
 use Rattle.model.proofs.Maps.Tables.{live-below, rule-at}
-use Rattle.model.proofs.Operations.Changes.{changedLinks, changes-size, changed-all}
+use Rattle.model.proofs.Operations.Changes.{changedLinks, changes-size, changed-all, changed-none}
 use Rattle.model.proofs.Layers.Counts.{bit, howMany-least, howMany-most, howMany-total, total-howMany}
 use Rattle.model.proofs.Sets.Pigeon.{Distinct, none}
 
@@ -40,6 +41,14 @@ rising-at (next low p) (suc i) (suc j) d ij h = rising-at p i j d (omega arith) 
 first-below : {l : List ℕ} → Rising l → (y : ℕ) → In y l → getD l 0 0 ≤ y
 first-below end y i = absurd (not-nil i)
 first-below (next low p) y i = ⊎-elim (λ e. omega arith) (λ j. let b = low y j in omega arith) (in-cons i)
+
+-- the entries stand in the order of their sizes
+pub index-rising : {l : List ℕ} → Rising l → (x y : ℕ) → In x l → In y l → x < y → indexOf x l < indexOf y l
+index-rising {l} p x y i j xy = if-lt (indexOf x l) (indexOf y l) (λ h. h) (λ h.
+    let at-x = getD-index l x 0 i in
+    let at-y = getD-index l y 0 j in
+    if-eq (indexOf y l) (indexOf x l) (λ e. let same = ap (λ (k : ℕ). getD l k 0) e in absurd (omega arith))
+    (λ e. let back = rising-at p (indexOf y l) (indexOf x l) 0 (omega arith) (index-in l x i) in absurd (omega arith)))
 
 module _ (a y : ℕ) (l : List ℕ) where
   ones-step : (P : List ℕ → Type 0) → P (a ∷ onesFrom (suc a) l) → P (onesFrom (suc a) l) → P (onesFrom a (y ∷ l))
@@ -110,10 +119,18 @@ lowest-slots t k = record { vacant = vacant-frees t k; rising = rising-left low 
     below x y i h e out = ⊎-elim (λ j. absurd (out j)) (λ j. rising-apart low high parts x y i j)
         (in-append low (subst (In y) (sym (take-append-drop k (unusedSlots t))) (unused-in t y h e)))
 
--- the first of them is the lowest unused slot
-pub lowest-first : {t fs : List ℕ} → Lowest t fs → 0 < length fs → (y : ℕ) → y < slots t → live t y ≡ false → getD fs 0 0 ≤ y
-lowest-first {t} {fs} L some y h e = ⊎-elim (first-below (L .rising) y)
-    (λ out. let b = L .lowest (getD fs 0 0) y (getD-in fs 0 0 some) h e out in omega arith) (in-or fs y)
+-- p is unused, and no unused slot is below it
+abbrev pub LowestUnused : List ℕ → ℕ → Type 0
+LowestUnused t p = (p < slots t) × (live t p ≡ false) × ((y : ℕ) → y < slots t → live t y ≡ false → p ≤ y)
+
+pub lowest-first : {t fs : List ℕ} → Lowest t fs → 0 < length fs → LowestUnused t (getD fs 0 0)
+lowest-first {t} {fs} L some = (L .vacant .inside _ first, L .vacant .dead _ first, least)
+  where
+    first : In (getD fs 0 0) fs
+    first = getD-in fs 0 0 some
+
+    least : (y : ℕ) → y < slots t → live t y ≡ false → getD fs 0 0 ≤ y
+    least y h e = ⊎-elim (first-below (L .rising) y) (λ out. let b = L .lowest _ y first h e out in omega arith) (in-or fs y)
 
 -- ---- the live slots
 
@@ -171,39 +188,51 @@ module _ (k : ℕ) (fs : List ℕ) where
   slot-bits x = if-lt x k (λ h. ⊎-elim (λ i. inr (slot-mark x h i)) (λ out. inl (slot-bare x h out)) (in-or fs x))
       (λ h. inl (List·getD-eq-default (slotMarks k fs) 0 (let e = slot-long in omega arith)))
 
--- all four entries of each of fs; and those of the other slots, that s counts
-pub filled-changes : {n : ℕ} {t u fs : List ℕ} → MapTable n t → MapTable n u → length u ≡ length t → Vacant t fs → Filled t u fs
-    → (s : List ℕ) → length s ≡ slots t → Bits s → ((x : ℕ) → In x fs → getD s x 0 ≡ 0)
-    → ((x : ℕ) → x < slots t → (In x fs → ⊥) → changedLinks t u x ≡ getD s x 0)
-    → length (changesFrom 0 t u) ≡ 4 * length fs + count 1 s
-unfolding slotMarks howMany
-filled-changes {n} {t} {u} {fs} T U long vacant F s long-s bits-s apart others =
-    let size = changes-size t u (T .whole) long 4 1 marks s (slot-long _ fs) long-s (slot-bits _ fs) bits-s each in
-    let number = slots-number (slots t) fs (vacant .once) (vacant .inside) in
-    omega arith
-  where
-    marks : List ℕ
-    marks = slotMarks (slots t) fs
+module _ {n : ℕ} {t u fs : List ℕ} (T : MapTable n t) (U : MapTable n u) (long : length u ≡ length t) (vacant : Vacant t fs)
+    (F : Filled t u fs) where
+  filled-link : (x : ℕ) → In x fs → (j : ℕ) → j < 4 → link t j x ≢ link u j x
+  filled-link x i j b e =
+      let none = dead-link t x (vacant .dead x i) j b in
+      let low = live-below U (link u j x) (rule-at U x (F .made x i) .goes j b) in
+      let few = U .few in
+      omega arith
 
-    new : (x : ℕ) → In x fs → (j : ℕ) → j < 4 → link t j x ≢ link u j x
-    new x i j b e =
-        let none = dead-link t x (vacant .dead x i) j b in
-        let low = live-below U (link u j x) (rule-at U x (F .made x i) .goes j b) in
-        let few = U .few in
-        omega arith
+  -- the four entries of each of fs, and as many of the other slots as s marks
+  pub filled-changes : (s : List ℕ) → length s ≡ slots t → Bits s → ((x : ℕ) → In x fs → getD s x 0 ≡ 0)
+      → ((x : ℕ) → x < slots t → (In x fs → ⊥) → changedLinks t u x ≡ getD s x 0)
+      → length (changesFrom 0 t u) ≡ 4 * length fs + count 1 s
+  unfolding slotMarks howMany
+  filled-changes s long-s bits-s apart others =
+      let size = changes-size t u (T .whole) long 4 1 marks s (slot-long _ fs) long-s (slot-bits _ fs) bits-s each in
+      let number = slots-number (slots t) fs (vacant .once) (vacant .inside) in
+      omega arith
+    where
+      marks : List ℕ
+      marks = slotMarks (slots t) fs
 
-    each : (x : ℕ) → x < slots t → changedLinks t u x ≡ 4 * getD marks x 0 + 1 * getD s x 0
-    each x h = ⊎-elim
-        (λ i. let m = slot-mark (slots t) fs x h i in let z = apart x i in let c = changed-all t u x (new x i) in omega arith)
-        (λ out. let m = slot-bare (slots t) fs x h out in let c = others x h out in omega arith) (in-or fs x)
+      each : (x : ℕ) → x < slots t → changedLinks t u x ≡ 4 * getD marks x 0 + 1 * getD s x 0
+      each x h = ⊎-elim
+          (λ i.
+          let m = slot-mark (slots t) fs x h i in
+          let z = apart x i in
+          let c = changed-all t u x (filled-link x i) in
+          omega arith)
+          (λ out.
+          let m = slot-bare (slots t) fs x h out in
+          let c = others x h out in
+          omega arith) (in-or fs x)
 
--- where the other slots stay
-pub filled-only : {n : ℕ} {t u fs : List ℕ} → MapTable n t → MapTable n u → length u ≡ length t → Vacant t fs → Filled t u fs
-    → ((x : ℕ) → (In x fs → ⊥) → changedLinks t u x ≡ 0) → length (changesFrom 0 t u) ≡ 4 * length fs
-unfolding slotMarks howMany
-filled-only {n} {t} {u} {fs} T U long vacant F others =
-    let bare : (x : ℕ) → x < slots t → getD (slotMarks (slots t) []) x 0 ≡ 0 = λ x h. slot-bare (slots t) [] x h not-nil in
-    let all = filled-changes T U long vacant F (slotMarks (slots t) []) (slot-long (slots t) []) (slot-bits (slots t) [])
-    (λ x i. bare x (vacant .inside x i)) (λ x h out. others x out ∙ sym (bare x h)) in
-    let number = slots-number (slots t) [] none (λ x i. absurd (not-nil i)) in
-    omega arith
+  -- where the other slots stay
+  pub filled-only : ((x j : ℕ) → j < 4 → (In x fs → ⊥) → link u j x ≡ link t j x) → length (changesFrom 0 t u) ≡ 4 * length fs
+  unfolding slotMarks howMany
+  filled-only stays =
+      let all = filled-changes none-marked (slot-long _ []) (slot-bits _ []) (λ x i. bare x (vacant .inside x i))
+      (λ x h out. changed-none t u x (λ j b. stays x j b out) ∙ sym (bare x h)) in
+      let number = slots-number (slots t) [] none (λ x i. absurd (not-nil i)) in
+      omega arith
+    where
+      none-marked : List ℕ
+      none-marked = slotMarks (slots t) []
+
+      bare : (x : ℕ) → x < slots t → getD none-marked x 0 ≡ 0
+      bare x h = slot-bare (slots t) [] x h not-nil
