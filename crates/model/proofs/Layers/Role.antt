@@ -22,7 +22,7 @@ use Rattle.model.proofs.Layers.Cut.{Cut, split-cut, new-link, split-kep
 abbrev pub opposed : List ℕ
 opposed = 1 ∷ 0 ∷ 1 ∷ []
 
--- the role that link j leads to from the role r
+-- the role that link j leads to from the role r; the rows are those of the dart itself, of a, b and c
 unfoldable pub roleTo : ℕ → ℕ → ℕ → ℕ
 roleTo n r j =
     getD

@@ -1,6 +1,7 @@
 -- The half of a cell that split makes, seen from a dart of the sheet in it: its spots, each the role of a place, and the
--- facts of its rows, all computed: the spots follow the numbering (`spot-link`), differ (`spot-apart`), and hold each
--- place, seen from the dart or from the dart across its link 0 (`place-seen`), and never both dart and dart across.
+-- facts of its rows, all computed: the spots follow the numbering (`spot-link`) and differ (`spot-apart`); the half holds
+-- each role of its dart (`role-held`), and of the cell's places each that the half of the dart across link 0 does not
+-- (`place-held`, `across-not-held`).
 use Prim.Native.Nat.{ℕ, zero, suc, _≤_, _<_}
 use mathlib.Core.Path.{_≡_, refl, ap₂}
 use mathlib.Core.Logic.{_⊎_, inl, inr, ⊎-elim}
