@@ -19,7 +19,7 @@ use Rattle.model.specs.Meaning.Places.{place}
 use Rattle.model.proofs.Lists.Scan.{test, clash, length-tab, getD-tab}
 use Rattle.model.proofs.Maps.Rules.{map-of, live-in, live-by, link-retable, slots-retable, length-retable}
 use Rattle.model.proofs.Maps.Tables.{mapTable, live-below, rule-at}
-use Rattle.model.proofs.Cells.Cell.{rows-in}
+use Rattle.model.proofs.Cells.Rows.{rows-in}
 use Rattle.model.proofs.Lists.Ones.{Vacant, getD-in, index-getD, index-out, index-in, getD-index, in-or}
 use Rattle.model.proofs.Maps.Dim.{two-cases, size-some}
 use Rattle.model.proofs.Cells.Chart.{Ruled, map-by, ruled-table, of-live, live-of, live-same, Charted, block-by, place-chart, place-zero, place-live, chart-kept}

@@ -18,7 +18,7 @@ use Rattle.model.specs.Meaning.Sheets.{TwoAxes, axis, half}
 use Rattle.model.proofs.Lists.Scan.{test, if-lt, and-l, and-r, below-at}
 use Rattle.model.proofs.Maps.Dim.{two-cases, size-some}
 use Rattle.model.proofs.Cells.Chart.{place-chart, place-zero}
-use Rattle.model.proofs.Cells.Cell.{rows-in}
+use Rattle.model.proofs.Cells.Rows.{rows-in}
 use Rattle.model.proofs.Layers.Sheet.{sheet-of, sheet-parted, sheet-crosses}
 use Rattle.model.proofs.Layers.Half.{out-crosses}
 

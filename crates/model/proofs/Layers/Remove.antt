@@ -22,10 +22,11 @@ use Rattle.model.specs.Meaning.Walks.{hop, FirstOutside, stop, onward}
 use Rattle.model.proofs.Lists.Scan.{bool-cases, clash, and-l, and-r, below-at}
 use Rattle.model.proofs.Maps.Rules.{Relinking, relink-table, relink-link, relink-slots, relink-live, live-in, live-by, dead-by, dead-link, slots-retable, length-retable, link-retable, relink-fits, at-same, at-other}
 use Rattle.model.proofs.Sewing.Side.{past}
-use Rattle.model.proofs.Cells.Cell.{cell-words, rowWalk, small}
+use Rattle.model.proofs.Cells.Rows.{rowWalk, small}
+use Rattle.model.proofs.Cells.Cell.{cell-words}
 use Rattle.model.proofs.Maps.Tables.{mapTable, rule-at}
 use Rattle.model.proofs.Maps.Dim.{two-cases, size-some}
-use Rattle.model.proofs.Cells.Chart.{keep, block-by, Charted, place-chart, place-zero, place-live, place-keep, chart-kept}
+use Rattle.model.proofs.Cells.Chart.{word-keeps, block-by, Charted, place-chart, place-zero, place-live, place-keep, chart-kept}
 use Rattle.model.proofs.Sets.Escape.{out, escapes}
 use Rattle.model.proofs.Sewing.Partners.{ltb-or}
 
@@ -174,7 +175,7 @@ module _ {n : ℕ} {t : List ℕ} (B : BlockTable n t) where
   opp-small = and-l (small n (opposite n)) (small n (opposite n ++ opposite n)) (and-l (small n (opposite n) && small n (opposite n ++ opposite n)) _ (and-l (small n (opposite n) && small n (opposite n ++ opposite n) && eqb (rowWalk n (opposite n ++ opposite n) 0) (rowWalk n [] 0)) _ rows))
 
   opp-live : (x : ℕ) → live t x ≡ true → live t (opp n t x) ≡ true
-  opp-live x l = keep B (λ _. Unit {0}) (λ x j b l _. tt) (opposite n) opp-small x l tt .0
+  opp-live x l = word-keeps B (λ _. Unit {0}) (λ x j b l _. tt) (opposite n) opp-small x l tt .0
 
   -- ---- the walk across the removed cells
 
@@ -196,7 +197,7 @@ module _ {n : ℕ} {t : List ℕ} (B : BlockTable n t) where
         go (inr e) = e
 
     R-opp : (x : ℕ) → R x ≡ true → R (opp n t x) ≡ true
-    R-opp x r = keep B (λ y. marked mk y ≡ true) (λ y j b l p. R-cell y j b l p) (opposite n) opp-small x (R-live x r) r .1
+    R-opp x r = word-keeps B (λ y. marked mk y ≡ true) (λ y j b l p. R-cell y j b l p) (opposite n) opp-small x (R-live x r) r .1
 
     h-live : (y : ℕ) → live t y ≡ true → live t (h y) ≡ true
     unfolding hop

@@ -13,12 +13,12 @@ use Rattle.model.specs.Meaning.Maps.{BlockTable, Dim}
 use Rattle.model.specs.Meaning.Places.{path, place}
 use Rattle.model.specs.Meaning.Sets.{Marked}
 use Rattle.model.specs.Meaning.Sheets.{half, inSheet, hit, shared}
-use Rattle.model.proofs.Lists.Scan.{test, if-lt, clash, below-at, below-not, getD-tab, length-tab, length-tabFrom}
+use Rattle.model.proofs.Lists.Scan.{test, if-lt, clash, below-at, below-not, getD-tab, length-tab, length-tabFrom, tab-in, in-tab}
 use Rattle.model.proofs.Sets.Closure.{marked-in}
-use Rattle.model.proofs.Sets.Pigeon.{cover, distinct-le, count-none}
+use Rattle.model.proofs.Sets.Pigeon.{cover, distinct-le, count-none, distinct-tab}
 use Rattle.model.proofs.Lists.Ones.{member-in, in-member}
-use Rattle.model.proofs.Cells.Cell.{rowWalk, walk-rows, row-walk-in, tab-in, in-tab, distinct-tab}
-use Rattle.model.proofs.Cells.Chart.{path-small, place-chart, place-live, place-back, place-one}
+use Rattle.model.proofs.Cells.Rows.{rowWalk, walk-rows, row-walk-in, path-small}
+use Rattle.model.proofs.Cells.Chart.{place-chart, place-live, place-back, place-one}
 use Rattle.model.proofs.Layers.Sheet.{Sheet}
 use Rattle.model.proofs.Layers.Half.{half-size, in-half, out-crosses}
 
