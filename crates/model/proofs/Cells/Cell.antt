@@ -18,7 +18,7 @@ use Rattle.model.specs.Everything.{everything}
 use Rattle.model.specs.Meaning.Sets.{Marked, ByLink}
 use Rattle.model.specs.Meaning.Maps.{Dim, MapTable, GoodCell, squareWord, cornerWord}
 use Rattle.model.specs.Meaning.Places.{path, place, AtPlace, Follows, Chart}
-use Rattle.model.proofs.Lists.Scan.{test, if-eq, if-lt, clash, and-l, and-r, and-i, below-at, below-three}
+use Rattle.model.proofs.Lists.Scan.{test, if-eq, clash, and-l, and-r, and-i, below-at, below-three}
 use Rattle.model.proofs.Sets.Closure.{least-set-unique}
 use Rattle.model.proofs.Sets.Least.{cell-is}
 use Rattle.model.proofs.Sets.Pigeon.{count-by, apart-by}
@@ -47,7 +47,8 @@ module _ (n : ℕ) (t : List ℕ) where
       from (square, corner) = and-i (eq-eqb _ _ square)
           (test (eqb n 3) (λ e. rw (e, cornerTurns) (eq-eqb _ _ (corner (eqb-true n 3 e)))) (λ e. rw (e, cornerTurns)))
 
-  first-turns : (a y : ℕ) (ys : List ℕ) → (allTurn n t a (y ∷ ys) ≡ true) ↔ ((y ≡ 1 → turns n t a ≡ true) × (allTurn n t (suc a) ys ≡ true))
+  first-turns : (a y : ℕ) (ys : List ℕ)
+      → (allTurn n t a (y ∷ ys) ≡ true) ↔ ((y ≡ 1 → turns n t a ≡ true) × (allTurn n t (suc a) ys ≡ true))
   unfolding allTurn
   first-turns a y ys = (λ h. if-eq y 1 (one h) (other h), from)
     where
@@ -63,26 +64,32 @@ module _ (n : ℕ) (t : List ℕ) where
       from (now, later) = if-eq y 1 (λ e. rw (eq-eqb y 1 e, now e, allTurn) later) (λ e. rw (ne-eqb y 1 e, allTurn) later)
 
   -- each marked dart turns; the marks are those of the slots from a on
-  all-turn-exactly : (xs : List ℕ) (a : ℕ) → (allTurn n t a xs ≡ true) ↔ ((x : ℕ) → Marked xs x → turns n t (a + x) ≡ true)
+  abbrev AllTurn : ℕ → List ℕ → Type 0
+  AllTurn a xs = (x : ℕ) → Marked xs x → turns n t (a + x) ≡ true
+
+  all-turn-exactly : (a : ℕ) (xs : List ℕ) → (allTurn n t a xs ≡ true) ↔ AllTurn a xs
   unfolding allTurn
-  all-turn-exactly [] a = (λ h x m. absurd (omega arith), λ h. refl)
-  all-turn-exactly (y ∷ ys) a =
-      let rec = all-turn-exactly ys (suc a) in (
-        λ h. let (now, later) = first-turns a y ys .0 h in to now (rec .0 later),
-        λ f. first-turns a y ys .1 (λ e. ap (turns n t) (sym (add-zero a)) ∙ f 0 e, rec .1 (λ x m. ap (turns n t) (omega arith) ∙ f (suc x) m)),
-      )
+  all-turn-exactly a [] = (λ h x m. absurd (omega arith), λ h. refl)
+  all-turn-exactly a (y ∷ ys) =
+      let rec = all-turn-exactly (suc a) ys in
+      (λ h. let (now, later) = first-turns a y ys .0 h in to now (rec .0 later), λ f. first-turns a y ys .1 (now f, rec .1 (later f)))
     where
-      to : (y ≡ 1 → turns n t a ≡ true) → ((x : ℕ) → Marked ys x → turns n t (suc a + x) ≡ true)
-          → (x : ℕ) → Marked (y ∷ ys) x → turns n t (a + x) ≡ true
-      to now later zero m = ap (turns n t) (add-zero a) ∙ now m
-      to now later (suc x) m = ap (turns n t) (omega arith) ∙ later x m
+      to : (y ≡ 1 → turns n t a ≡ true) → AllTurn (suc a) ys → AllTurn a (y ∷ ys)
+      to first rest zero m = ap (turns n t) (add-zero a) ∙ first m
+      to first rest (suc x) m = ap (turns n t) (omega arith) ∙ rest x m
+
+      now : AllTurn a (y ∷ ys) → y ≡ 1 → turns n t a ≡ true
+      now f e = ap (turns n t) (sym (add-zero a)) ∙ f 0 e
+
+      later : AllTurn a (y ∷ ys) → AllTurn (suc a) ys
+      later f x m = ap (turns n t) (omega arith) ∙ f (suc x) m
 
   pub good-cell : (c : List ℕ) → (goodCell n t c ≡ true) ↔ GoodCell n t c
   unfolding goodCell
   good-cell c = (to, from)
     where
       turn : allTurn n t 0 c ≡ true → (x : ℕ) → Marked c x → (walk t squareWord x ≡ x) × (n ≡ 3 → walk t cornerWord x ≡ x)
-      turn h x m = turns-exactly x .0 (ap (turns n t) (omega arith) ∙ all-turn-exactly c 0 .0 h x m)
+      turn h x m = turns-exactly x .0 (ap (turns n t) (omega arith) ∙ all-turn-exactly 0 c .0 h x m)
 
       to : goodCell n t c ≡ true → GoodCell n t c
       to h =
@@ -94,7 +101,7 @@ module _ (n : ℕ) (t : List ℕ) where
           }
 
       from : GoodCell n t c → goodCell n t c ≡ true
-      from g = and-i (eq-eqb _ _ (g .size)) (all-turn-exactly c 0 .1 (λ x m.
+      from g = and-i (eq-eqb _ _ (g .size)) (all-turn-exactly 0 c .1 (λ x m.
           ap (turns n t) (omega arith) ∙ turns-exactly x .1 (g .square x m, λ e. g .corner e x m)))
 
 -- ---- the words of the rule, on the rows
@@ -141,8 +148,11 @@ module _ {n : ℕ} {t : List ℕ} (T : MapTable n t) where
     -- where their links follow the rows, they are all of it
     pub all-places : Follows n t (place n t d) → (x : ℕ) → Marked cell x → AtPlace n t d x
     all-places follow =
-        cell-is n t d .within (AtPlace n t d) (λ x e _. (0, size-some n (T .dim), e ∙ path-zero n (T .dim) t d)) (λ x y _ p s _. step x y p s)
+        cell-is n t d .within (AtPlace n t d) (λ x e _. first x e) (λ x y _ p s _. step x y p s)
       where
+        first : (x : ℕ) → x ≡ d → AtPlace n t d x
+        first x e = (0, size-some n (T .dim), e ∙ path-zero n (T .dim) t d)
+
         step : (x y : ℕ) → AtPlace n t d x → ByLink t (λ j. j < n) x y → AtPlace n t d y
         step x y (k, l, e) s = (
           cellLink n (s .by) k,
@@ -164,7 +174,8 @@ module _ {n : ℕ} {t : List ℕ} (T : MapTable n t) where
       back-of : (i : ℕ) (w : List ℕ) → i < n → ((x : ℕ) → Marked cell x → walk t (i ∷ w) x ≡ x) → Back i w
       unfolding walk
       back-of i w l h x c =
-          ap (λ (z : ℕ). link t i (walk t w z)) (sym (comes x i l c)) ∙ ap (link t i) (h (link t i x) (cell-goes x i c l)) ∙ comes x i l c
+          ap (λ (z : ℕ). link t i (walk t w z)) (sym (comes x i l c))
+          ∙ ap (link t i) (h (link t i x) (cell-goes x i c l)) ∙ comes x i l c
 
       cross : n ≡ 3 → (x : ℕ) → Marked cell x → walk t (0 ∷ 2 ∷ 0 ∷ 2 ∷ []) x ≡ x
       unfolding walk
@@ -188,7 +199,8 @@ module _ {n : ℕ} {t : List ℕ} (T : MapTable n t) where
               (λ l h _. back-of 0 (around 0 2) l (cross (omega arith)))
 
           first : (j : ℕ) → j < 3 → Turns 1 j
-          first = below-three (Turns 1) (λ _ _ _. good .square) (none 1) (λ l h _. back-of 1 (around 1 2) l (good .corner (omega arith)))
+          first = below-three (Turns 1) (λ _ _ _. good .square) (none 1)
+              (λ l h _. back-of 1 (around 1 2) l (good .corner (omega arith)))
 
           second : (j : ℕ) → j < 3 → Turns 2 j
           second = below-three (Turns 2) (λ h _ _. cross (omega arith)) (λ h _ _. good .corner (omega arith)) (none 2)
@@ -229,7 +241,8 @@ module _ {n : ℕ} {t : List ℕ} (T : MapTable n t) where
   -- ---- the darts of one cell have one cell
 
   cell-sub : (x y : ℕ) → Marked (cellOf n t y) x → (z : ℕ) → Marked (cellOf n t x) z → Marked (cellOf n t y) z
-  cell-sub x y h = cell-is n t x .within (Marked (cellOf n t y)) (λ z e _. rw e h) (λ a b _ p s l. cell-is n t y .closed a b p s l)
+  cell-sub x y h =
+      cell-is n t x .within (Marked (cellOf n t y)) (λ z e _. rw e h) (λ a b _. cell-is n t y .closed a b)
 
   cell-back : (d : ℕ) → live t d ≡ true → (x : ℕ) → Marked (cellOf n t d) x → Marked (cellOf n t x) d
   cell-back d ld x h =

@@ -2,7 +2,7 @@
 -- Main theorems: `ruled-table`; `block-by` (each live dart is in a chart), `place-chart` (the places are one), `relink-block`;
 -- `block-of` and `of-block` (the block test).
 use Prim.Native.Nat.{ℕ, _+_, _*_, _≤_, _<_}
-use mathlib.Core.Path.{_≡_, sym, ap, _∙_, subst}
+use mathlib.Core.Path.{_≡_, sym, ap, _∙_}
 use mathlib.Core.Logic.{_⊎_, ⊎-elim}
 use mathlib.Core.Bool.{true, false}
 use mathlib.Core.List.{List}
@@ -15,7 +15,7 @@ use Rattle.model.specs.Cell.{cellSize, cellOf, goodCell, isBlock, leastW
 use Rattle.model.specs.Numbering.{cellLink}
 use Rattle.model.specs.Meaning.Sets.{Marked}
 use Rattle.model.specs.Meaning.Maps.{Dim, Map, MapTable, BlockTable}
-use Rattle.model.specs.Meaning.Places.{path, place, AtPlace, Follows, Chart}
+use Rattle.model.specs.Meaning.Places.{path, place, AtPlace, Chart}
 use Rattle.model.proofs.Lists.Scan.{if-eq, if-lt, clash}
 use Rattle.model.proofs.Maps.Dim.{size-some}
 use Rattle.model.proofs.Maps.Failing.{failing, none-failing}
@@ -73,7 +73,9 @@ module _ {n : ℕ} {u : List ℕ} (U : MapTable n u) (c : ℕ → ℕ) (ch : Cha
 
   chart-places : Chart n u (place n u (c 0))
   chart-places = record {
-    follow = λ i k hi hk. rw (chart-place k hk) (ch .follow i k hi hk ∙ sym (chart-place (cellLink n i k) (rows-in n i k (U .dim) hi hk)));
+    follow = λ i k hi hk.
+        let next = chart-place (cellLink n i k) (rows-in n i k (U .dim) hi hk) in
+        rw (chart-place k hk) (ch .follow i k hi hk ∙ sym next);
     apart = λ a b ab hb e. ch .apart a b ab hb (sym (chart-place a (omega arith)) ∙ e ∙ chart-place b hb);
   }
 

@@ -1,8 +1,8 @@
--- In a cell whose words return, the links of the places follow the rows: one deduction for n = 2 and n = 3, computed over the rows.
+-- In a cell whose words return, the links of the places follow the rows: one deduction, computed over the rows, for n = 2 and 3.
 -- Main definitions: `around` (the words that return), `Turning` (they return in a set of darts). Main theorem: `places-follow`.
-use Prim.Native.Nat.{ℕ, zero, suc, _+_, _*_, _/_, _%_, _≤_, _<_}
+use Prim.Native.Nat.{ℕ, zero, suc, _+_, _*_, _/_, _%_, _<_}
 use mathlib.Core.Path.{_≡_, refl, sym, ap, ap₂, _∙_}
-use mathlib.Core.Logic.{_⊎_, inl, inr, _≢_, ⊎-elim}
+use mathlib.Core.Logic.{_≢_, ⊎-elim}
 use mathlib.Core.Bool.{Bool, true, false, not, _&&_, _||_}
 use mathlib.Core.List.{List, [], _∷_, _++_}
 use native.Mathlib.Omega.{arith}

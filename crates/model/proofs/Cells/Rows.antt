@@ -1,11 +1,12 @@
 -- The rows of the numbering, as computed: where words lead on them, and so among darts that follow them.
--- Main definitions: `small` (a word of links below n), `rowWalk`. Main theorems: `walk-keeps`; `rows-in`, `walk-rows`; `path-small`,
--- `path-leads` and `path-back` (the word to a place, and back).
-use Prim.Native.Nat.{ℕ, _<_}
+-- Main definitions: `small` (a word of links below n), `rowWalk`. Main theorems: `walk-keeps`; `rows-in` and `walk-rows`;
+-- `path-small` and `path-leads` (the word to a place); `back-small`, `back-leads` and `back-other` (the word back).
+use Prim.Native.Nat.{ℕ, suc, _+_, _≤_, _<_}
 use mathlib.Core.Path.{_≡_, refl, ap, _∙_}
-use mathlib.Core.Logic.{_≢_}
-use mathlib.Core.Bool.{Bool, true, false, not, _&&_}
+use mathlib.Core.Logic.{_≢_, ⊎-elim}
+use mathlib.Core.Bool.{Bool, true, false, not, _&&_, _||_}
 use mathlib.Core.List.{List, [], _∷_, reverse}
+use native.Mathlib.Omega.{arith}
 use lib.Dec.{eqb, ltb}
 use borrow.Author.Tests.{eqb-true, eqb-false, eq-eqb, ne-eqb, ltb-true, not-true}
 use Rattle.model.specs.Lists.{allBelow}
@@ -15,7 +16,7 @@ use Rattle.model.specs.Numbering.{cellLink}
 use Rattle.model.specs.Everything.{everything}
 use Rattle.model.specs.Meaning.Maps.{Dim}
 use Rattle.model.specs.Meaning.Places.{path, place, Follows}
-use Rattle.model.proofs.Lists.Scan.{test, clash, and-l, and-r, below-at, below-both}
+use Rattle.model.proofs.Lists.Scan.{test, clash, and-l, and-r, or-cases, below-at, below-both}
 use Rattle.model.proofs.Maps.Dim.{two-cases}
 
 -- ---- words of links below n
@@ -44,14 +45,59 @@ unfoldable pub rowWalk : ℕ → List ℕ → ℕ → ℕ
 rowWalk n [] k = k
 rowWalk n (i ∷ w) k = rowWalk n w (cellLink n i k)
 
-rows-true : (n : ℕ) → Dim n → allBelow n (λ i. allBelow (cellSize n) (λ k. ltb (cellLink n i k) (cellSize n))) ≡ true
-unfolding everything
+-- the rules of a map at the dart k of a cell as it is numbered: its links, its pairs of links, and link 3 for n = 2
+linkRow : ℕ → ℕ → ℕ → Bool
+linkRow n k j = ltb (cellLink n j k) (cellSize n) && eqb (cellLink n j (cellLink n j k)) k
+
+pairRow : ℕ → ℕ → ℕ → ℕ → Bool
+pairRow n k i j = ltb j (i + 2) || eqb (rowWalk n (i ∷ j ∷ i ∷ j ∷ []) k) k
+
+planeRow : ℕ → ℕ → Bool
+planeRow n k = not (eqb n 2) || eqb (cellLink n 3 k) k
+
+abbrev linkRows : ℕ → ℕ → Bool
+linkRows n k = allBelow 4 (linkRow n k)
+
+abbrev pairRows : ℕ → ℕ → Bool
+pairRows n k = allBelow 4 (λ i. allBelow (suc n) (pairRow n k i))
+
+rows-true : (n : ℕ) → Dim n → allBelow (cellSize n) (λ k. linkRows n k && (pairRows n k && planeRow n k)) ≡ true
+unfolding everything rowWalk linkRow pairRow planeRow
 rows-true n dim =
-    two-cases n dim (λ n. allBelow n (λ i. allBelow (cellSize n) (λ k. ltb (cellLink n i k) (cellSize n))) ≡ true) refl refl
+    two-cases n dim (λ n. allBelow (cellSize n) (λ k. linkRows n k && (pairRows n k && planeRow n k)) ≡ true) refl refl
+
+module _ (n k : ℕ) (dim : Dim n) (low : k < cellSize n) where
+  rules-row : (linkRows n k && (pairRows n k && planeRow n k)) ≡ true
+  rules-row = below-at (λ k. linkRows n k && (pairRows n k && planeRow n k)) (cellSize n) (rows-true n dim) k low
+
+  link-row : (j : ℕ) → j < 4 → linkRow n k j ≡ true
+  link-row j b = below-at (linkRow n k) 4 (and-l (linkRows n k) _ rules-row) j b
+
+  pub row-in : (j : ℕ) → j < 4 → cellLink n j k < cellSize n
+  unfolding linkRow
+  row-in j b = ltb-true _ _ (and-l (ltb (cellLink n j k) (cellSize n)) _ (link-row j b))
+
+  pub row-comes : (j : ℕ) → j < 4 → cellLink n j (cellLink n j k) ≡ k
+  unfolding linkRow
+  row-comes j b = eqb-true _ _ (and-r (ltb (cellLink n j k) (cellSize n)) _ (link-row j b))
+
+  pub row-cross : (i j : ℕ) → i + 2 ≤ j → j ≤ n → cellLink n j (cellLink n i (cellLink n j (cellLink n i k))) ≡ k
+  unfolding pairRow rowWalk
+  row-cross i j far top =
+      let three = dim .1 in
+      let pairs = and-l (pairRows n k) _ (and-r (linkRows n k) _ rules-row) in
+      let row = below-both (pairRow n k) 4 (suc n) pairs i j (omega arith) (omega arith) in
+      let not-near : ltb j (i + 2) ≡ true → ⊥ = λ e. let near = ltb-true j (i + 2) e in omega arith in
+      eqb-true _ _ (⊎-elim (λ e. absurd (not-near e)) (λ e. e) (or-cases (ltb j (i + 2)) _ row))
+
+  pub row-plane : n ≡ 2 → cellLink n 3 k ≡ k
+  unfolding planeRow
+  row-plane e =
+      let row = and-r (pairRows n k) _ (and-r (linkRows n k) _ rules-row) in
+      eqb-true _ _ (⊎-elim (λ q. absurd (eqb-false n 2 (not-true _ q) e)) (λ q. q) (or-cases (not (eqb n 2)) _ row))
 
 pub rows-in : (n i k : ℕ) → Dim n → i < n → k < cellSize n → cellLink n i k < cellSize n
-rows-in n i k dim hi hk =
-    ltb-true _ _ (below-both (λ i k. ltb (cellLink n i k) (cellSize n)) n (cellSize n) (rows-true n dim) i k hi hk)
+rows-in n i k dim hi hk = let three = dim .1 in row-in n k dim hk i (omega arith)
 
 pub row-walk-in : (n : ℕ) (w : List ℕ) (k : ℕ) → Dim n → small n w ≡ true → k < cellSize n → rowWalk n w k < cellSize n
 unfolding rowWalk

@@ -179,7 +179,8 @@ module _ (p : ℕ → Bool) where
   least-by k d r = from-by k 0 d (subst (λ (b : ℕ). First 0 b d) (omega arith) r)
 
 -- every pair of numbers
-pub below-both : (p : ℕ → ℕ → Bool) (k l : ℕ) → allBelow k (λ a. allBelow l (p a)) ≡ true → (a b : ℕ) → a < k → b < l → p a b ≡ true
+pub below-both : (p : ℕ → ℕ → Bool) (k l : ℕ) → allBelow k (λ a. allBelow l (p a)) ≡ true
+    → (a b : ℕ) → a < k → b < l → p a b ≡ true
 below-both p k l h a b ha hb = below-at (p a) l (below-at (λ a. allBelow l (p a)) k h a ha) b hb
 
 -- ---- how often a number stands in a list
