@@ -15,16 +15,15 @@ use Rattle.model.specs.Numbering.{cellLink}
 use Rattle.model.specs.Split.{newDart, halved}
 use Rattle.model.specs.Everything.{everything}
 use Rattle.model.specs.Meaning.Maps.{BlockTable, MapTable, Dim}
-use Rattle.model.specs.Meaning.Places.{path, place}
+use Rattle.model.specs.Meaning.Places.{path, place, Chart}
 use Rattle.model.specs.Meaning.Sheets.{half}
-use Rattle.model.proofs.Lists.Scan.{test, if-eq, if-lt, clash, and-l, and-r, and-i, below-at, below-not}
+use Rattle.model.proofs.Lists.Scan.{test, if-eq, if-lt, clash, and-l, and-r, and-i, or-cases, below-at, below-not}
 use Rattle.model.proofs.Maps.Rules.{live-in}
-use Rattle.model.proofs.Cells.Cell.{rowWalk, small, walk-rows, rows-in}
-use Rattle.model.proofs.Cells.Places.{or-cases}
+use Rattle.model.proofs.Cells.Rows.{rowWalk, small, walk-rows, rows-in, path-small}
 use Rattle.model.proofs.Lists.Ones.{Vacant, member-in, in-member}
 use Rattle.model.proofs.Maps.Tables.{live-below}
 use Rattle.model.proofs.Maps.Dim.{two-cases, size-some}
-use Rattle.model.proofs.Cells.Chart.{Ruled, ruled-table, of-live, live-of, Chart, Charted, block-by, place-chart, place-zero, place-live, place-back, place-one, chart-kept, path-small}
+use Rattle.model.proofs.Cells.Chart.{Ruled, ruled-table, of-live, live-of, Charted, block-by, place-chart, place-zero, place-live, place-back, place-one, chart-kept}
 use Rattle.model.proofs.Layers.Sheet.{Sheet}
 use Rattle.model.proofs.Layers.Role.{roleTo, roleWord, dart, sheetly, sheet-rule, sheet-walk, split-fits, new-in, new-one, split-cut, role-link}
 use Rattle.model.proofs.Layers.Split.{Live, was, is, keeps, keeps-off, split-ruled, split-map}

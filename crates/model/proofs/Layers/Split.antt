@@ -13,11 +13,12 @@ use Rattle.model.specs.Table.{slots, link, walk, live}
 use Rattle.model.specs.Split.{newDart, halved}
 use Rattle.model.specs.Everything.{everything}
 use Rattle.model.specs.Meaning.Maps.{BlockTable, Dim, Map, Rule}
-use Rattle.model.proofs.Lists.Scan.{test, if-eq, clash, and-l, and-r, below-at}
+use Rattle.model.proofs.Lists.Scan.{test, if-eq, clash, and-l, and-r, or-cases, below-at}
 use Rattle.model.proofs.Maps.Rules.{live-in}
 use Rattle.model.proofs.Sewing.Side.{past}
-use Rattle.model.proofs.Cells.Cell.{rowWalk, small, cell-words}
-use Rattle.model.proofs.Cells.Places.{same, same-eq, or-cases}
+use Rattle.model.proofs.Cells.Rows.{rowWalk, small}
+use Rattle.model.proofs.Cells.Cell.{cell-words}
+use Rattle.model.proofs.Cells.Places.{same, same-eq}
 use Rattle.model.proofs.Lists.Ones.{Vacant, in-or}
 use Rattle.model.proofs.Maps.Tables.{mapTable}
 use Rattle.model.proofs.Maps.Dim.{two-cases}

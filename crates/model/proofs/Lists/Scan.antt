@@ -39,6 +39,10 @@ pub or-i : (a b : Bool) → (a ≡ true) ⊎ (b ≡ true) → (a || b) ≡ true
 or-i true b h = refl
 or-i false b h = ⊎-elim (λ e. absurd (clash e refl)) (λ e. e) h
 
+pub or-false : (a b : Bool) → (a || b) ≡ false → (a ≡ false) × (b ≡ false)
+or-false true b h = absurd (clash refl h)
+or-false false b h = (refl, h)
+
 pub bool-cases : (b : Bool) → (b ≡ true) ⊎ (b ≡ false)
 bool-cases true = inl refl
 bool-cases false = inr refl
@@ -57,6 +61,12 @@ if-eq {P} a b f g = go (ℕ-discrete a b)
 
 pub if-lt : {P : Type 0} (a b : ℕ) → (a < b → P) → (b ≤ a → P) → P
 if-lt a b f g = test (ltb a b) (λ e. f (ltb-true a b e)) (λ e. g (ltb-false a b e))
+
+pub below-three : (P : ℕ → Type 0) → P 0 → P 1 → P 2 → (i : ℕ) → i < 3 → P i
+below-three P a b c zero l = a
+below-three P a b c (suc zero) l = b
+below-three P a b c (suc (suc zero)) l = c
+below-three P a b c (suc (suc (suc i))) l = absurd (omega arith)
 
 module _ (p : ℕ → Bool) where
   -- ---- every number
@@ -167,6 +177,11 @@ module _ (p : ℕ → Bool) where
   pub least-by : (k d : ℕ) → First 0 k d → least k p ≡ d
   unfolding least
   least-by k d r = from-by k 0 d (subst (λ (b : ℕ). First 0 b d) (omega arith) r)
+
+-- every pair of numbers
+pub below-both : (p : ℕ → ℕ → Bool) (k l : ℕ) → allBelow k (λ a. allBelow l (p a)) ≡ true
+    → (a b : ℕ) → a < k → b < l → p a b ≡ true
+below-both p k l h a b ha hb = below-at (p a) l (below-at (λ a. allBelow l (p a)) k h a ha) b hb
 
 -- ---- how often a number stands in a list
 

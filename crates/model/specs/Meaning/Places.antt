@@ -1,12 +1,15 @@
 -- The places of a cell: from a dart a word leads to each place of the numbering.
--- Main definitions: `path` (the word to the place k), `place` (the dart there).
-use Prim.Native.Nat.{ℕ, _/_, _%_}
+-- Main definitions: `path` (the word to the place k), `place` (the dart there), `Chart` (the darts of a cell, listed).
+use Prim.Native.Nat.{ℕ, _/_, _%_, _<_}
+use mathlib.Core.Path.{_≡_}
+use mathlib.Core.Logic.{_≢_}
 use mathlib.Core.Bool.{true, false}
 use mathlib.Core.List.{List, [], _∷_, _++_}
 use lib.ListN.{getD}
 use lib.Dec.{eqb}
-use Rattle.model.specs.Table.{walk}
-use Rattle.model.specs.Numbering.{corners}
+use Rattle.model.specs.Table.{link, walk}
+use Rattle.model.specs.Cell.{cellSize}
+use Rattle.model.specs.Numbering.{corners, cellLink}
 
 -- a word before which the link i is gone; twice the same link is left out
 unfoldable pub goFirst : ℕ → List ℕ → List ℕ
@@ -41,3 +44,23 @@ path n k = shorten (toVertex (k % corners n) ++ toOrder n (k / corners n))
 -- the dart at the place k of the cell of d, d at the place 0
 unfoldable pub place : ℕ → List ℕ → ℕ → ℕ → ℕ
 place n t d k = walk t (path n k) d
+
+-- x is at a place of the cell of d
+abbrev pub AtPlace : ℕ → List ℕ → ℕ → ℕ → Type 0
+AtPlace n t d x = (k : ℕ) × (k < cellSize n) × (x ≡ place n t d k)
+
+-- ---- darts listed by their places
+
+-- the links of the listed darts are as the numbering says
+abbrev pub Follows : ℕ → List ℕ → (ℕ → ℕ) → Type 0
+Follows n t c = (i k : ℕ) → i < n → k < cellSize n → link t i (c k) ≡ c (cellLink n i k)
+
+-- c lists the darts of a cell, each once, by their places
+pub record Chart (n : ℕ) (t : List ℕ) (c : ℕ → ℕ) : Type 0 where
+  pub follow : Follows n t c
+  pub apart : (a b : ℕ) → a < b → b < cellSize n → c a ≡ c b → ⊥
+
+-- what there is to test of the places of d
+pub record Listed (n : ℕ) (t : List ℕ) (d : ℕ) : Type 0 where
+  pub follow : Follows n t (place n t d)
+  pub other : (k : ℕ) → 0 < k → k < cellSize n → place n t d k ≢ d
