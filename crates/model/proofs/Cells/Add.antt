@@ -20,7 +20,7 @@ use Rattle.model.proofs.Lists.Ones.{Vacant, getD-in, index-getD, index-
 use Rattle.model.proofs.Maps.Dim.{size-some}
 use Rattle.model.proofs.Maps.Rules.{link-retable, slots-retable, length-retable}
 use Rattle.model.proofs.Maps.Tables.{mapTable, live-below, rule-at}
-use Rattle.model.proofs.Cells.Rows.{row-in, row-comes, row-cross, row-plane}
+use Rattle.model.proofs.Cells.Rows.{row-goes, row-comes, row-cross, row-plane}
 use Rattle.model.proofs.Cells.Chart.{Ruled, ruled-table, of-live, live-of, live-same}
 use Rattle.model.proofs.Cells.Chart.{Charted, block-by, place-chart, place-zero, place-live, chart-kept}
 
@@ -57,7 +57,8 @@ module _ {n : ℕ} {t fs : List ℕ} (T : MapTable n t) (fresh : Vacant t fs) (e
   pub add-old : (j x : ℕ) → j < 4 → x < slots t → (In x fs → ⊥) → link (added n t fs) j x ≡ link t j x
   unfolding added addedLink
   add-old j x b h out =
-      link-retable t (addedLink n t fs) (T .whole) x j h b ∙ rw (le-ltb (indexOf x fs) (length fs) (index-out fs x out), addedLink)
+      link-retable t (addedLink n t fs) (T .whole) x j h b
+      ∙ rw (le-ltb (indexOf x fs) (length fs) (index-out fs x out), addedLink)
 
   stays : (j x : ℕ) → j < 4 → live t x ≡ true → link after j x ≡ link t j x
   stays j x b l = add-old j x b (live-below T x l) (λ i. clash l (fresh .dead x i))
@@ -94,7 +95,7 @@ module _ {n : ℕ} {t fs : List ℕ} (T : MapTable n t) (fresh : Vacant t fs) (e
           ⊎-elim (λ i. inl (new x i)) old (in-or fs x)
 
       row : (j k : ℕ) → j < 4 → k < cellSize n → cellLink n j k < cellSize n
-      row j k b h = row-in n k (T .dim) h j b
+      row j k b h = row-goes n k (T .dim) h j b
 
       goes : (x j : ℕ) → j < 4 → Live x → Live (link after j x)
       goes x j b (was l) = was (rw (stays j x b l) (rule-at T x l .goes j b))

@@ -19,8 +19,7 @@ use Rattle.model.specs.Meaning.Sets.{Marked, ByLink}
 use Rattle.model.specs.Meaning.Maps.{Dim, MapTable, GoodCell, squareWord, cornerWord}
 use Rattle.model.specs.Meaning.Places.{path, place, AtPlace, Follows, Chart}
 use Rattle.model.proofs.Lists.Scan.{test, if-eq, clash, and-l, and-r, and-i, below-at, below-three}
-use Rattle.model.proofs.Sets.Closure.{least-set-unique}
-use Rattle.model.proofs.Sets.Least.{cell-is}
+use Rattle.model.proofs.Sets.Least.{least-set-unique, cell-is}
 use Rattle.model.proofs.Sets.Pigeon.{count-by, apart-by}
 use Rattle.model.proofs.Maps.Dim.{two-cases, size-some}
 use Rattle.model.proofs.Maps.Tables.{live-below, rule-at}
@@ -33,17 +32,20 @@ module _ (n : ℕ) (t : List ℕ) where
   abbrev cornerTurns : ℕ → Bool
   cornerTurns x = elim (eqb n 3) [ true ↦ returns t cornerWord x | false ↦ true ]
 
-  turns-exactly : (x : ℕ) → (turns n t x ≡ true) ↔ ((walk t squareWord x ≡ x) × (n ≡ 3 → walk t cornerWord x ≡ x))
+  abbrev Turned : ℕ → Type 0
+  Turned x = (walk t squareWord x ≡ x) × (n ≡ 3 → walk t cornerWord x ≡ x)
+
+  turns-exactly : (x : ℕ) → (turns n t x ≡ true) ↔ Turned x
   unfolding turns returns
   turns-exactly x = (to, from)
     where
-      to : turns n t x ≡ true → (walk t squareWord x ≡ x) × (n ≡ 3 → walk t cornerWord x ≡ x)
+      to : turns n t x ≡ true → Turned x
       to h = (
         eqb-true _ _ (and-l (returns t squareWord x) (cornerTurns x) h),
         λ e. eqb-true _ _ (rw (eq-eqb n 3 e, cornerTurns) at (and-r (returns t squareWord x) (cornerTurns x) h)),
       )
 
-      from : (walk t squareWord x ≡ x) × (n ≡ 3 → walk t cornerWord x ≡ x) → turns n t x ≡ true
+      from : Turned x → turns n t x ≡ true
       from (square, corner) = and-i (eq-eqb _ _ square)
           (test (eqb n 3) (λ e. rw (e, cornerTurns) (eq-eqb _ _ (corner (eqb-true n 3 e)))) (λ e. rw (e, cornerTurns)))
 
@@ -72,7 +74,8 @@ module _ (n : ℕ) (t : List ℕ) where
   all-turn-exactly a [] = (λ h x m. absurd (omega arith), λ h. refl)
   all-turn-exactly a (y ∷ ys) =
       let rec = all-turn-exactly (suc a) ys in
-      (λ h. let (now, later) = first-turns a y ys .0 h in to now (rec .0 later), λ f. first-turns a y ys .1 (now f, rec .1 (later f)))
+      let split = first-turns a y ys in
+      (λ h. to (split .0 h .0) (rec .0 (split .0 h .1)), λ f. split .1 (now f, rec .1 (later f)))
     where
       to : (y ≡ 1 → turns n t a ≡ true) → AllTurn (suc a) ys → AllTurn a (y ∷ ys)
       to first rest zero m = ap (turns n t) (add-zero a) ∙ first m
@@ -88,12 +91,12 @@ module _ (n : ℕ) (t : List ℕ) where
   unfolding goodCell
   good-cell c = (to, from)
     where
-      turn : allTurn n t 0 c ≡ true → (x : ℕ) → Marked c x → (walk t squareWord x ≡ x) × (n ≡ 3 → walk t cornerWord x ≡ x)
-      turn h x m = turns-exactly x .0 (ap (turns n t) (omega arith) ∙ all-turn-exactly 0 c .0 h x m)
+      turned : allTurn n t 0 c ≡ true → (x : ℕ) → Marked c x → Turned x
+      turned h x m = turns-exactly x .0 (ap (turns n t) (omega arith) ∙ all-turn-exactly 0 c .0 h x m)
 
       to : goodCell n t c ≡ true → GoodCell n t c
       to h =
-          let all = turn (and-r (eqb (count 1 c) (cellSize n)) (allTurn n t 0 c) h) in
+          let all = turned (and-r (eqb (count 1 c) (cellSize n)) (allTurn n t 0 c) h) in
           record {
             size = eqb-true _ _ (and-l (eqb (count 1 c) (cellSize n)) (allTurn n t 0 c) h);
             square = λ x m. all x m .0;

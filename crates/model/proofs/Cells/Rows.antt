@@ -73,9 +73,9 @@ module _ (n k : ℕ) (dim : Dim n) (low : k < cellSize n) where
   link-row : (j : ℕ) → j < 4 → linkRow n k j ≡ true
   link-row j b = below-at (linkRow n k) 4 (and-l (linkRows n k) _ rules-row) j b
 
-  pub row-in : (j : ℕ) → j < 4 → cellLink n j k < cellSize n
+  pub row-goes : (j : ℕ) → j < 4 → cellLink n j k < cellSize n
   unfolding linkRow
-  row-in j b = ltb-true _ _ (and-l (ltb (cellLink n j k) (cellSize n)) _ (link-row j b))
+  row-goes j b = ltb-true _ _ (and-l (ltb (cellLink n j k) (cellSize n)) _ (link-row j b))
 
   pub row-comes : (j : ℕ) → j < 4 → cellLink n j (cellLink n j k) ≡ k
   unfolding linkRow
@@ -97,7 +97,7 @@ module _ (n k : ℕ) (dim : Dim n) (low : k < cellSize n) where
       eqb-true _ _ (⊎-elim (λ q. absurd (eqb-false n 2 (not-true _ q) e)) (λ q. q) (or-cases (not (eqb n 2)) _ row))
 
 pub rows-in : (n i k : ℕ) → Dim n → i < n → k < cellSize n → cellLink n i k < cellSize n
-rows-in n i k dim hi hk = let three = dim .1 in row-in n k dim hk i (omega arith)
+rows-in n i k dim hi hk = let three = dim .1 in row-goes n k dim hk i (omega arith)
 
 pub row-walk-in : (n : ℕ) (w : List ℕ) (k : ℕ) → Dim n → small n w ≡ true → k < cellSize n → rowWalk n w k < cellSize n
 unfolding rowWalk

@@ -11,24 +11,27 @@ use Rattle.model.specs.Table.{link, walk}
 use Rattle.model.specs.Cell.{cellSize}
 use Rattle.model.specs.Numbering.{corners, cellLink}
 
--- a word before which the link i is gone; twice the same link is left out
+-- ---- the word to a place
+
+-- the link i, then the word; where that would go i twice, neither
 unfoldable pub goFirst : ℕ → List ℕ → List ℕ
 goFirst i [] = i ∷ []
 goFirst i (j ∷ w) = elim (eqb i j) [ true ↦ w | false ↦ i ∷ j ∷ w ]
 
+-- the word, with no link twice in a row
 unfoldable pub shorten : List ℕ → List ℕ
 shorten [] = []
 shorten (i ∷ w) = goFirst i (shorten w)
 
--- in the axis order xyz: the word that flips the bit b of the vertex, where s has it
+-- the word, where the vertex s has the bit b
 unfoldable pub ifBit : ℕ → ℕ → List ℕ → List ℕ
 ifBit s b w = elim (eqb (s / b % 2) 1) [ true ↦ w | false ↦ [] ]
 
--- from the vertex 0 to the vertex s
+-- from the vertex 0 to the vertex s, in the first axis order: link 0 flips the first axis, 1.0.1 the second, 2.1.0.1.2 the third
 unfoldable pub toVertex : ℕ → List ℕ
 toVertex s = ifBit s 1 (0 ∷ []) ++ ifBit s 2 (1 ∷ 0 ∷ 1 ∷ []) ++ ifBit s 4 (2 ∷ 1 ∷ 0 ∷ 1 ∷ 2 ∷ [])
 
--- from the first axis order to the order p
+-- from the first axis order to the order p, at one vertex
 unfoldable pub toOrder : ℕ → ℕ → List ℕ
 toOrder n p =
     elim (eqb n 3) [
@@ -36,7 +39,7 @@ toOrder n p =
       | false ↦ getD ([] ∷ (1 ∷ []) ∷ []) p []
     ]
 
--- from the place 0 to the place k
+-- from the place 0 to the place k: to its vertex, then to its axis order
 unfoldable pub path : ℕ → ℕ → List ℕ
 unfolding goFirst shorten ifBit toVertex toOrder corners
 path n k = shorten (toVertex (k % corners n) ++ toOrder n (k / corners n))
