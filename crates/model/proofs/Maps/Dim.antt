@@ -7,7 +7,7 @@ use Rattle.model.specs.Cell.{cellSize}
 use Rattle.model.specs.Meaning.Maps.{Dim}
 use Rattle.model.proofs.Lists.Scan.{if-eq}
 
-dim-cases : (n : ℕ) → Dim n → (n ≡ 2) ⊎ (n ≡ 3)
+pub dim-cases : (n : ℕ) → Dim n → (n ≡ 2) ⊎ (n ≡ 3)
 dim-cases n dim = if-eq n 2 (λ e. inl e) (λ (e : n ≢ 2). inr (omega arith))
 
 pub two-cases : (n : ℕ) → Dim n → (P : ℕ → Type 0) → P 2 → P 3 → P n
