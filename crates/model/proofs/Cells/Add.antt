@@ -87,12 +87,11 @@ module _ {n : ℕ} {t fs : List ℕ} (T : MapTable n t) (fresh : Vacant t fs) (e
       new : (x : ℕ) → In x fs → Live x
       new x i = is (indexOf x fs) (let b = index-in fs x i in omega arith) (sym (getD-index fs x unused i))
 
+      old : (x : ℕ) → x < slots t → (In x fs → ⊥) → Live x ⊎ (live after x ≡ false)
+      old x h out = test (live t x) (λ l. inl (was l)) (λ l. inr (live-same t after x (λ j c. add-old j x c h out) ∙ l))
+
       other : (x : ℕ) → x < slots after → Live x ⊎ (live after x ≡ false)
-      other x b =
-          let h : x < slots t = rw add-slots at b in
-          let old : (In x fs → ⊥) → Live x ⊎ (live after x ≡ false) = λ out.
-          test (live t x) (λ l. inl (was l)) (λ l. inr (live-same t after x (λ j c. add-old j x c h out) ∙ l)) in
-          ⊎-elim (λ i. inl (new x i)) old (in-or fs x)
+      other x b = ⊎-elim (λ i. inl (new x i)) (old x (rw add-slots at b)) (in-or fs x)
 
       row : (j k : ℕ) → j < 4 → k < cellSize n → cellLink n j k < cellSize n
       row j k b h = row-goes n k (T .dim) h j b

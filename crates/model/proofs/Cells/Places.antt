@@ -147,8 +147,8 @@ module _ (n : ℕ) (t : List ℕ) (d : ℕ) (C : ℕ → Type 0) (dim : Dim n) (
 
       by-back : (eqb (cellLink n i to) k && known e i to) ≡ true → Edge
       by-back h =
-          let back : link t i (at to) ≡ at k =
-          s i to (and-r (eqb (cellLink n i to) k) _ h) hi to-in ∙ ap at (eqb-true _ _ (and-l (eqb (cellLink n i to) k) _ h)) in
+          let is-back = eqb-true _ _ (and-l (eqb (cellLink n i to) k) _ h) in
+          let back = s i to (and-r (eqb (cellLink n i to) k) _ h) hi to-in ∙ ap at is-back in
           ap (link t i) (sym back) ∙ T .comes (at to) i hi (at-in to to-in)
 
       by-turn : not (noneLeads n e i to k) ≡ true → Edge

@@ -160,14 +160,16 @@ module _ (p : ℕ → Bool) where
   from-by zero a d r = omega arith
   from-by (suc k) a d r =
       let rec = from-by k (suc a) d in
-      let stop : d ≡ a → leastFrom (suc k) a p ≡ d = λ e. least-stop k a (ap p (sym e) ∙ r .passes (omega arith)) ∙ sym e in
-      let later : d ≢ a → First (suc a) (suc a + k) d = λ e. record {
+      if-eq d a (λ e. least-stop k a (ap p (sym e) ∙ r .passes (omega arith)) ∙ sym e)
+      (λ e. least-step k a (r .before a (omega arith) (omega arith)) ∙ rec (later e))
+    where
+      later : d ≢ a → First (suc a) (suc a + k) d
+      later e = record {
         low = omega arith;
         high = omega arith;
         passes = λ l. r .passes (omega arith);
         before = λ i l u. r .before i (omega arith) u;
-      } in
-      if-eq d a stop (λ e. least-step k a (r .before a (omega arith) (omega arith)) ∙ rec (later e))
+      }
 
   -- `least` gives the first that passes, and nothing else is that
   pub least-is : (k : ℕ) → First 0 k (least k p)
@@ -195,13 +197,16 @@ module _ (v a : ℕ) where
       let rec = count-change m x d (le-of-suc-le-suc l) h e in
       test (eqb y v) (λ q. rw (q, count) (ap suc rec)) (λ q. rw (q, count) rec)
 
+  count-more : (y : ℕ) (m : List ℕ) → count v m ≤ count v (y ∷ m)
+  unfolding count
+  count-more y m = test (eqb y v) (λ q. rw (q, count) (omega arith)) (λ q. rw (q, count) (omega arith))
+
   -- one entry that is replaced
   pub count-le : (m : List ℕ) (x : ℕ) → count v m ≤ suc (count v (set m x a))
   unfolding count
   count-le [] x = omega arith
   count-le (y ∷ m) zero =
-      let more : count v m ≤ count v (a ∷ m) =
-      test (eqb a v) (λ q. rw (q, count) (omega arith)) (λ q. rw (q, count) (omega arith)) in
+      let more = count-more a m in
       test (eqb y v) (λ q. rw (q, count) (omega arith)) (λ q. rw (q, count) (omega arith))
   count-le (y ∷ m) (suc x) =
       let rec = count-le m x in

@@ -174,13 +174,23 @@ module _ (f : ℕ → List ℕ) where
     flood-done zero (z ∷ todo) m fuel bs up = absurd (omega arith)
     flood-done (suc k) (z ∷ todo) m fuel bs up =
         let rec = flood-done k in
-        let new : getD m z 1 ≡ 0 → Done (z ∷ todo) m (flood f (suc k) (z ∷ todo) m) = λ e.
-        rw (flood-new k z todo m e) (new-done z todo m e _
-        (rec (f z ++ todo) (set m z 1) (less k z todo m e fuel) (set-bits m z e bs) (new-up z todo m e up))) in
-        let old : eqb (getD m z 1) 0 ≡ false → Done (z ∷ todo) m (flood f (suc k) (z ∷ todo) m) = λ e.
-        let hz = bits-marked m z bs (eqb-false (getD m z 1) 0 e) in
-        rw (flood-old k z todo m e) (old-done z todo m hz _ (rec todo m (omega arith) bs (old-up z todo m hz up))) in
-        test (eqb (getD m z 1) 0) (λ e. new (eqb-true _ _ e)) old
+        test (eqb (getD m z 1) 0) (λ e. new rec (eqb-true _ _ e)) (old rec)
+      where
+        After : Type 0
+        After = Done (z ∷ todo) m (flood f (suc k) (z ∷ todo) m)
+
+        Rest : Type 0
+        Rest = (todo m : List ℕ) → Enough k todo m → Bits m → Upto todo m → Done todo m (flood f k todo m)
+
+        new : Rest → getD m z 1 ≡ 0 → After
+        new rec e =
+            let r = rec (f z ++ todo) (set m z 1) (less k z todo m e fuel) (set-bits m z e bs) (new-up z todo m e up) in
+            rw (flood-new k z todo m e) (new-done z todo m e _ r)
+
+        old : Rest → eqb (getD m z 1) 0 ≡ false → After
+        old rec e =
+            let hz = bits-marked m z bs (eqb-false (getD m z 1) 0 e) in
+            rw (flood-old k z todo m e) (old-done z todo m hz _ (rec todo m (omega arith) bs (old-up z todo m hz up)))
 
 -- ---- the closure
 
