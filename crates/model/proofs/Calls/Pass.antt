@@ -27,8 +27,7 @@ use Rattle.model.specs.Meaning.Maps.{Dim, Map, MapTable}
 use Rattle.model.specs.Meaning.Sets.{Marked}
 use Rattle.model.specs.Meaning.Sheets.{BlockDart}
 use Rattle.model.proofs.Lists.Ones.{in-member}
-use Rattle.model.proofs.Lists.Scan.{clash, test, and-l, and-r}
-use Rattle.model.proofs.Cells.Places.{or-cases}
+use Rattle.model.proofs.Lists.Scan.{clash, test, and-l, and-r, or-cases}
 use Rattle.model.proofs.Maps.Rules.{map-of}
 use Rattle.model.proofs.Cells.Chart.{block-of}
 

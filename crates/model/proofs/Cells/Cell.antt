@@ -1,332 +1,286 @@
--- A good cell: its darts are its places, each once, and the places follow the rows.
-use Prim.Native.Nat.{ℕ, zero, suc, _+_, _*_, _-_, _≤_, _<_}
+-- The cell of a live dart, and what makes it good: its darts are its places, each once, and their links follow the rows.
+-- Main theorems: `good-cell` (the test says what 01 says), `cell-same`, `good-chart` and `chart-good`, `cell-words`.
+use Prim.Native.Nat.{ℕ, zero, suc, _+_, _<_}
 use mathlib.Core.Path.{_≡_, refl, sym, ap, _∙_, subst}
-use mathlib.Core.Logic.{_⊎_, inl, inr, ⊎-elim}
+use mathlib.Core.Logic.{_↔_, _≢_}
 use mathlib.Core.Bool.{Bool, true, false, _&&_}
-use mathlib.Core.List.{List, [], _∷_, _++_, List·Memᴰ as In, List·Memᴰ·not-nil as not-nil, List·Memᴰ·cases-cons as in-cons, List·Memᴰ·head as here, List·Memᴰ·tail as there, Memᴰ·append-left as in-left, Memᴰ·append-right as in-right, Memᴰ·cast as in-cast, List·Memᴰ·eq-of-singleton as eq-of-singleton}
-use native.Mathlib.Decide.{ℕ-discrete}
+use mathlib.Core.List.{List, [], _∷_}
 use native.Mathlib.Nat.{add-zero}
 use native.Mathlib.Omega.{arith}
-use lib.ListN.{length, getD, length-append}
-use lib.Dec.{eqb, ltb}
-use borrow.Author.Tests.{eqb-true, eqb-false, eq-eqb, ltb-true, lt-ltb}
-use Rattle.model.specs.Lists.{count, tabulateFrom, allBelow}
-use Rattle.model.specs.Table.{slots, link, walk, live}
+use lib.Dec.{eqb}
+use borrow.Author.Tests.{eqb-true, eq-eqb, ne-eqb}
+use Rattle.model.specs.Lists.{count, allBelow}
+use Rattle.model.specs.Table.{link, walk, live}
 use Rattle.model.specs.Map.{returns}
-use Rattle.model.specs.Reach.{steps, links}
-use Rattle.model.specs.Cell.{cellWords, cellSize, cellOf, turns, allTurn, goodCell}
+use Rattle.model.specs.Cell.{cellSize, cellOf, turns, allTurn, goodCell}
 use Rattle.model.specs.Numbering.{cellLink}
 use Rattle.model.specs.Everything.{everything}
-use Rattle.model.specs.Meaning.Maps.{Dim, MapTable}
-use Rattle.model.specs.Meaning.Places.{path, place}
-use Rattle.model.specs.Meaning.Sets.{Least, Marked}
-use Rattle.model.proofs.Maps.Dim.{dim-cases, two-cases, size-some}
-use Rattle.model.proofs.Lists.Scan.{test, bool-cases, clash, and-l, and-r, and-i, if-lt, below-at, length-tabFrom}
-use Rattle.model.proofs.Sets.Closure.{closure-least}
-use Rattle.model.proofs.Maps.Rules.{live-in}
-use Rattle.model.proofs.Maps.Tables.{rule-at}
-use Rattle.model.proofs.Sets.Links.{step-in, step-of}
-use Rattle.model.proofs.Cells.Places.{rest, Turning, places-follow}
-use Rattle.model.proofs.Sets.Pigeon.{cover, Distinct, none, more, distinct-le}
+use Rattle.model.specs.Meaning.Sets.{Marked, ByLink}
+use Rattle.model.specs.Meaning.Maps.{Dim, MapTable, GoodCell, squareWord, cornerWord}
+use Rattle.model.specs.Meaning.Places.{path, place, AtPlace, Follows, Chart}
+use Rattle.model.proofs.Lists.Scan.{test, if-eq, clash, and-l, and-r, and-i, below-at, below-three}
+use Rattle.model.proofs.Sets.Least.{least-set-unique, cell-is}
+use Rattle.model.proofs.Sets.Pigeon.{count-by, apart-by}
+use Rattle.model.proofs.Maps.Dim.{two-cases, size-some}
+use Rattle.model.proofs.Maps.Tables.{live-below, rule-at}
+use Rattle.model.proofs.Cells.Rows.{small, rowWalk, walk-keeps, walk-rows, rows-in, path-small, path-zero}
+use Rattle.model.proofs.Cells.Places.{around, Turning, places-follow}
 
-sole : {w v : List ℕ} → In w (v ∷ []) → w ≡ v
-sole i = eq-of-singleton i
+-- ---- the test of a cell
 
-pub tab-in : (f : ℕ → ℕ) (n a k : ℕ) → a ≤ k → k < a + n → In (f k) (tabulateFrom n a f)
-unfolding tabulateFrom
-tab-in f zero a k l u = absurd (omega arith)
-tab-in f (suc n) a k l u = go (tab-in f n (suc a) k) (ℕ-discrete k a)
-  where
-    go : (suc a ≤ k → k < suc a + n → In (f k) (tabulateFrom n (suc a) f)) → Dec (k ≡ a) → In (f k) (f a ∷ tabulateFrom n (suc a) f)
-    go rec (yes e) = here (ap f e)
-    go rec (no e) = there (rec (omega arith) (omega arith))
+module _ (n : ℕ) (t : List ℕ) where
+  abbrev cornerTurns : ℕ → Bool
+  cornerTurns x = elim (eqb n 3) [ true ↦ returns t cornerWord x | false ↦ true ]
 
-rows-true : (n : ℕ) → Dim n → allBelow (cellSize n) (λ k. allBelow n (λ i. ltb (cellLink n i k) (cellSize n))) ≡ true
-unfolding everything
-rows-true n n23 = two-cases n n23 (λ n. allBelow (cellSize n) (λ k. allBelow n (λ i. ltb (cellLink n i k) (cellSize n))) ≡ true) refl refl
+  abbrev Turned : ℕ → Type 0
+  Turned x = (walk t squareWord x ≡ x) × (n ≡ 3 → walk t cornerWord x ≡ x)
 
-pub rows-in : (n i k : ℕ) → Dim n → i < n → k < cellSize n → cellLink n i k < cellSize n
-rows-in n i k n23 hi hk = ltb-true _ _ (below-at (λ i. ltb (cellLink n i k) (cellSize n)) n (below-at (λ k. allBelow n (λ i. ltb (cellLink n i k) (cellSize n))) (cellSize n) (rows-true n n23) k hk) i hi)
-
-place-0 : (n : ℕ) → Dim n → (t : List ℕ) (d : ℕ) → d ≡ place n t d 0
-unfolding place path walk
-place-0 n n23 t d = two-cases n n23 (λ n. d ≡ place n t d 0) refl refl
-
--- every marked dart turns
-turn-at : (n : ℕ) (t : List ℕ) (xs : List ℕ) (a : ℕ) → allTurn n t a xs ≡ true → (x : ℕ) → getD xs x 0 ≡ 1 → turns n t (a + x) ≡ true
-unfolding allTurn
-turn-at n t [] a h x m = absurd (omega arith)
-turn-at n t (y ∷ ys) a h x m = go (turn-at n t ys (suc a)) (bool-cases (eqb y 1)) (bool-cases (turns n t a)) x m
-  where
-    go : (allTurn n t (suc a) ys ≡ true → (z : ℕ) → getD ys z 0 ≡ 1 → turns n t (suc a + z) ≡ true) → (eqb y 1 ≡ true) ⊎ (eqb y 1 ≡ false) → (turns n t a ≡ true) ⊎ (turns n t a ≡ false)
-        → (x : ℕ) → getD (y ∷ ys) x 0 ≡ 1 → turns n t (a + x) ≡ true
-    go rec (inl e) (inl f) zero m = ap (turns n t) (add-zero a) ∙ f
-    go rec (inl e) (inl f) (suc z) m = ap (turns n t) (omega arith) ∙ rec (rw (e, f, allTurn) at h) z m
-    go rec (inl e) (inr f) x m = absurd (clash h (rw (e, f, allTurn)))
-    go rec (inr e) f zero m = absurd (eqb-false y 1 e m)
-    go rec (inr e) f (suc z) m = ap (turns n t) (omega arith) ∙ rec (rw (e, allTurn) at h) z m
-
-module _ {n : ℕ} {t : List ℕ} (T : MapTable n t) (d : ℕ) (live-d : live t d ≡ true) where
-  abbrev cell : List ℕ
-  cell = cellOf n t d
-
-  pub cell-least : Least (steps t (cellWords n)) (slots t) (d ∷ []) cell
-  unfolding cellOf
-  cell-least = closure-least t (cellWords n) (d ∷ [])
-
-  pub cell-step : (x y : ℕ) → In y (steps t (cellWords n) x) → (j : ℕ) × (j < n) × (y ≡ link t j x)
-  unfolding cellWords links
-  cell-step x y i = let r = step-of t x (λ j. ltb j n) (suc n) 0 y i in (r .0, ltb-true (r .0) n (r .2), r .3)
-
-  pub cell-live : (x : ℕ) → Marked cell x → live t x ≡ true
-  cell-live = cell-least .within (λ x. live t x ≡ true) (λ x j _. seed x (in-cons j)) (λ x y _ h j _. let r = cell-step x y j in let l = r .1 in rw (r .2) (rule-at T x h .goes (r .0) (omega arith)))
+  turns-exactly : (x : ℕ) → (turns n t x ≡ true) ↔ Turned x
+  unfolding turns returns
+  turns-exactly x = (to, from)
     where
-      seed : (x : ℕ) → (x ≡ d) ⊎ In x [] → live t x ≡ true
-      seed x (inl q) = rw q live-d
-      seed x (inr j) = absurd (not-nil j)
+      to : turns n t x ≡ true → Turned x
+      to h = (
+        eqb-true _ _ (and-l (returns t squareWord x) (cornerTurns x) h),
+        λ e. eqb-true _ _ (rw (eq-eqb n 3 e, cornerTurns) at (and-r (returns t squareWord x) (cornerTurns x) h)),
+      )
 
-  pub cell-goes : (x j : ℕ) → Marked cell x → j < n → Marked cell (link t j x)
-  unfolding cellWords links
-  cell-goes x j h l =
-      cell-least .closed x (link t j x) h (step-in t x (λ j. ltb j n) (suc n) 0 j (omega arith) (omega arith) (lt-ltb j n l)) (live-in t _ (T .whole) (rule-at T x (cell-live x h) .goes j (omega arith)))
+      from : Turned x → turns n t x ≡ true
+      from (square, corner) = and-i (eq-eqb _ _ square)
+          (test (eqb n 3) (λ e. rw (e, cornerTurns) (eq-eqb _ _ (corner (eqb-true n 3 e)))) (λ e. rw (e, cornerTurns)))
 
-  module _ (good : goodCell n t cell ≡ true) where
-    cell-turns : (x : ℕ) → Marked cell x → turns n t x ≡ true
-    unfolding goodCell
-    cell-turns x h = ap (turns n t) (omega arith) ∙ turn-at n t cell 0 (and-r (eqb (count 1 cell) (cellSize n)) (allTurn n t 0 cell) good) x h
-
-    cell-count : count 1 cell ≡ cellSize n
-    unfolding goodCell
-    cell-count = eqb-true _ _ (and-l (eqb (count 1 cell) (cellSize n)) (allTurn n t 0 cell) good)
-
-    comes : (x i : ℕ) → i < n → Marked cell x → link t i (link t i x) ≡ x
-    comes x i l h = rule-at T x (cell-live x h) .comes i (omega arith)
-
-    -- a word that returns everywhere returns when it is begun one step later
-    rotate : (a : ℕ) (w : List ℕ) → a < n → ((x : ℕ) → Marked cell x → walk t w (link t a x) ≡ x) → (x : ℕ) → Marked cell x → link t a (walk t w x) ≡ x
-    rotate a w l h x c = ap (λ (z : ℕ). link t a (walk t w z)) (sym (comes x a l c)) ∙ ap (link t a) (h (link t a x) (cell-goes x a c l)) ∙ comes x a l c
-
-    eight : (x : ℕ) → Marked cell x → walk t (0 ∷ 1 ∷ 0 ∷ 1 ∷ 0 ∷ 1 ∷ 0 ∷ 1 ∷ []) x ≡ x
-    unfolding turns returns
-    eight x c = eqb-true _ _ (and-l (eqb (walk t (0 ∷ 1 ∷ 0 ∷ 1 ∷ 0 ∷ 1 ∷ 0 ∷ 1 ∷ []) x) x) _ (cell-turns x c))
-
-    six : n ≡ 3 → (x : ℕ) → Marked cell x → walk t (1 ∷ 2 ∷ 1 ∷ 2 ∷ 1 ∷ 2 ∷ []) x ≡ x
-    unfolding turns returns
-    six e x c = eqb-true _ _ (rw (eq-eqb n 3 e) at (and-r (eqb (walk t (0 ∷ 1 ∷ 0 ∷ 1 ∷ 0 ∷ 1 ∷ 0 ∷ 1 ∷ []) x) x) (elim (eqb n 3) [ true ↦ eqb (walk t (1 ∷ 2 ∷ 1 ∷ 2 ∷ 1 ∷ 2 ∷ []) x) x | false ↦ true ]) (cell-turns x c)))
-
-    four : (x : ℕ) → n ≡ 3 → Marked cell x → walk t (0 ∷ 2 ∷ 0 ∷ 2 ∷ []) x ≡ x
-    unfolding walk
-    four x e c = rule-at T x (cell-live x c) .cross 0 2 (omega arith) (omega arith)
-
-    Back : ℕ → List ℕ → Type 0
-    Back i w = (x : ℕ) → Marked cell x → link t i (walk t w x) ≡ x
-
-    back-2 : (i : ℕ) (w : List ℕ) → n ≡ 2 → i < 2 → In w (rest 2 i) → Back i w
-    unfolding rest walk Back
-    back-2 zero w e l j = subst (Back 0) (sym (sole j)) (rotate 0 (1 ∷ 0 ∷ 1 ∷ 0 ∷ 1 ∷ 0 ∷ 1 ∷ []) (omega arith) eight)
-    back-2 (suc zero) w e l j = subst (Back 1) (sym (sole j)) eight
-    back-2 (suc (suc i)) w e l j = absurd (omega arith)
-
-    back-3 : (i : ℕ) (w : List ℕ) → n ≡ 3 → i < 3 → In w (rest 3 i) → Back i w
-    unfolding rest walk Back
-    back-3 zero w e l j = ⊎-elim (λ q. subst (Back 0) (sym q) (rotate 0 (1 ∷ 0 ∷ 1 ∷ 0 ∷ 1 ∷ 0 ∷ 1 ∷ []) (omega arith) eight))
-        (λ k. subst (Back 0) (sym (sole k)) (rotate 0 (2 ∷ 0 ∷ 2 ∷ []) (omega arith) (λ x c. four x e c))) (in-cons j)
-    back-3 (suc zero) w e l j = ⊎-elim (λ q. subst (Back 1) (sym q) eight) (λ k. subst (Back 1) (sym (sole k)) (rotate 1 (2 ∷ 1 ∷ 2 ∷ 1 ∷ 2 ∷ []) (omega arith) (six e))) (in-cons j)
-    back-3 (suc (suc zero)) w e l j = ⊎-elim (λ q. subst (Back 2) (sym q) (six e)) (λ k. subst (Back 2) (sym (sole k)) (λ x c. four x e c)) (in-cons j)
-    back-3 (suc (suc (suc i))) w e l j = absurd (omega arith)
-
-    turning : Turning n t (Marked cell)
-    unfolding Back
-    turning = record { goes = λ x i l c. cell-goes x i c l; comes = comes; turn = λ x i w l j c. go (dim-cases n (T .dim)) i w l j x c }
-      where
-        go : (n ≡ 2) ⊎ (n ≡ 3) → (i : ℕ) (w : List ℕ) → i < n → In w (rest n i) → Back i w
-        go (inl e) i w l j = back-2 i w e (omega arith) (subst (λ (k : ℕ). In w (rest k i)) e j)
-        go (inr e) i w l j = back-3 i w e (omega arith) (subst (λ (k : ℕ). In w (rest k i)) e j)
-
-    d-in : Marked cell d
-    d-in = cell-least .holds d (here refl) (live-in t d (T .whole) live-d)
-
-    pub follows : (i k : ℕ) → i < n → k < cellSize n → link t i (place n t d k) ≡ place n t d (cellLink n i k)
-    follows = places-follow n t d (Marked cell) (T .dim) turning d-in
-
-    -- ---- the darts of the cell are its places
-
-    pub d-place : d ≡ place n t d 0
-    d-place = place-0 n (T .dim) t d
-
-    pub all-places : (x : ℕ) → Marked cell x → (k : ℕ) × (k < cellSize n) × (x ≡ place n t d k)
-    all-places = cell-least .within (λ x. (k : ℕ) × (k < cellSize n) × (x ≡ place n t d k)) (λ x j _. seed x (in-cons j)) (λ x y _ h j _. step x y h (cell-step x y j))
-      where
-        seed : (x : ℕ) → (x ≡ d) ⊎ In x [] → (k : ℕ) × (k < cellSize n) × (x ≡ place n t d k)
-        seed x (inl q) = (0, size-some n (T .dim), q ∙ d-place)
-        seed x (inr j) = absurd (not-nil j)
-
-        step : (x y : ℕ) → (k : ℕ) × (k < cellSize n) × (x ≡ place n t d k) → (j : ℕ) × (j < n) × (y ≡ link t j x) → (k : ℕ) × (k < cellSize n) × (y ≡ place n t d k)
-        step x y h r = (cellLink n (r .0) (h .0), rows-in n (r .0) (h .0) (T .dim) (r .1) (h .1), r .2 ∙ ap (link t (r .0)) (h .2) ∙ follows (r .0) (h .0) (r .1) (h .1))
-
-    -- and no two of them are one dart
-    pub distinct : (a b : ℕ) → a < b → b < cellSize n → place n t d a ≡ place n t d b → ⊥
-    distinct a b ab hb q =
-        let r = cover l cell (λ x c. back-in x (all-places x c)) in
-        let u = length-append (tabulateFrom b 0 f) (tabulateFrom (cellSize n - suc b) (suc b) f) in
-        let v = length-tabFrom f b 0 in
-        let w = length-tabFrom f (cellSize n - suc b) (suc b) in
-        let c = cell-count in
-        omega arith
-      where
-        f : ℕ → ℕ
-        f k = place n t d k
-
-        l : List ℕ
-        l = tabulateFrom b 0 f ++ tabulateFrom (cellSize n - suc b) (suc b) f
-
-        low : (k : ℕ) → k < b → In (f k) l
-        low k h = in-left (tabulateFrom (cellSize n - suc b) (suc b) f) (tab-in f b 0 k (omega arith) (omega arith))
-
-        back-in : (x : ℕ) → (k : ℕ) × (k < cellSize n) × (x ≡ place n t d k) → In x l
-        back-in x r = go (ℕ-discrete (r .0) b) (if-lt (r .0) b inl inr)
-          where
-            h : r .0 < cellSize n
-            h = r .1
-
-            go : Dec (r .0 ≡ b) → (r .0 < b) ⊎ (b ≤ r .0) → In x l
-            go (yes e) z = in-cast (r .2 ∙ ap f e ∙ sym q) (low a ab)
-            go (no e) (inl z) = in-cast (r .2) (low (r .0) z)
-            go (no e) (inr z) = in-cast (r .2) (in-right (tabulateFrom b 0 f) (tab-in f (cellSize n - suc b) (suc b) (r .0) (omega arith) (omega arith)))
-
--- ---- words on places
-
-unfoldable pub rowWalk : ℕ → List ℕ → ℕ → ℕ
-rowWalk n [] k = k
-rowWalk n (i ∷ w) k = rowWalk n w (cellLink n i k)
-
-unfoldable pub small : ℕ → List ℕ → Bool
-small n [] = true
-small n (i ∷ w) = elim (ltb i n) [ true ↦ small n w | false ↦ false ]
-
--- where darts, by their places, follow the rows, a word leads as it does in the rows
-module _ (n : ℕ) (t : List ℕ) (c : ℕ → ℕ) (n23 : Dim n) (follow : (i k : ℕ) → i < n → k < cellSize n → link t i (c k) ≡ c (cellLink n i k)) where
-  pub walk-rows : (w : List ℕ) (k : ℕ) → small n w ≡ true → k < cellSize n → walk t w (c k) ≡ c (rowWalk n w k)
-  unfolding walk rowWalk small
-  walk-rows [] k h l = refl
-  walk-rows (i ∷ w) k h l = go (walk-rows w (cellLink n i k)) (bool-cases (ltb i n))
+  first-turns : (a y : ℕ) (ys : List ℕ)
+      → (allTurn n t a (y ∷ ys) ≡ true) ↔ ((y ≡ 1 → turns n t a ≡ true) × (allTurn n t (suc a) ys ≡ true))
+  unfolding allTurn
+  first-turns a y ys = (λ h. if-eq y 1 (one h) (other h), from)
     where
-      go : (small n w ≡ true → cellLink n i k < cellSize n → walk t w (c (cellLink n i k)) ≡ c (rowWalk n w (cellLink n i k))) → (ltb i n ≡ true) ⊎ (ltb i n ≡ false)
-          → walk t w (link t i (c k)) ≡ c (rowWalk n w (cellLink n i k))
-      go rec (inl e) = ap (walk t w) (follow i k (ltb-true i n e) l) ∙ rec (rw (e, small) at h) (rows-in n i k n23 (ltb-true i n e) l)
-      go rec (inr e) = absurd (clash h (rw (e, small)))
+      one : allTurn n t a (y ∷ ys) ≡ true → y ≡ 1 → (y ≡ 1 → turns n t a ≡ true) × (allTurn n t (suc a) ys ≡ true)
+      one h e =
+          let i = eq-eqb y 1 e in
+          test (turns n t a) (λ q. (λ _. q, rw (i, q, allTurn) at h)) (λ q. absurd (clash h (rw (i, q, allTurn))))
 
-pub row-walk-in : (n : ℕ) (w : List ℕ) (k : ℕ) → Dim n → small n w ≡ true → k < cellSize n → rowWalk n w k < cellSize n
-unfolding rowWalk small
-row-walk-in n [] k n23 h l = l
-row-walk-in n (i ∷ w) k n23 h l = let rec = row-walk-in n w (cellLink n i k) n23 in
-    test (ltb i n) (λ e. rec (rw (e, small) at h) (rows-in n i k n23 (ltb-true i n e) l)) (λ e. absurd (clash h (rw (e, small))))
+      other : allTurn n t a (y ∷ ys) ≡ true → y ≢ 1 → (y ≡ 1 → turns n t a ≡ true) × (allTurn n t (suc a) ys ≡ true)
+      other h e = (λ q. absurd (e q), rw (ne-eqb y 1 e, allTurn) at h)
 
--- so two words that agree in the rows agree at each dart of a good cell
-pub cell-words : {n : ℕ} {t : List ℕ} → MapTable n t → (d : ℕ) → live t d ≡ true → goodCell n t (cellOf n t d) ≡ true
-    → (v w : List ℕ) → small n v ≡ true → small n w ≡ true → rowWalk n v 0 ≡ rowWalk n w 0 → walk t v d ≡ walk t w d
-cell-words {n} {t} T d live-d good v w hv hw e =
-    let f = follows T d live-d good in
-    let p = d-place T d live-d good in
-    let z = size-some n (T .dim) in
-    ap (walk t v) p ∙ walk-rows n t (place n t d) (T .dim) f v 0 hv z
-    ∙ ap (place n t d) e
-    ∙ sym (walk-rows n t (place n t d) (T .dim) f w 0 hw z) ∙ ap (walk t w) (sym p)
+      from : (y ≡ 1 → turns n t a ≡ true) × (allTurn n t (suc a) ys ≡ true) → allTurn n t a (y ∷ ys) ≡ true
+      from (now, later) = if-eq y 1 (λ e. rw (eq-eqb y 1 e, now e, allTurn) later) (λ e. rw (ne-eqb y 1 e, allTurn) later)
 
--- ---- the other way: a cell whose places follow the rows, and are distinct, is good
+  -- each marked dart turns; the marks are those of the slots from a on
+  abbrev AllTurn : ℕ → List ℕ → Type 0
+  AllTurn a xs = (x : ℕ) → Marked xs x → turns n t (a + x) ≡ true
 
-path-small : (n : ℕ) → Dim n → allBelow (cellSize n) (λ k. small n (path n k)) ≡ true
-unfolding everything path small
-path-small n n23 = two-cases n n23 (λ n. allBelow (cellSize n) (λ k. small n (path n k)) ≡ true) refl refl
-
--- the words of the rule return in the rows
-rows-turn : ℕ → ℕ → Bool
-rows-turn n k = eqb (rowWalk n (0 ∷ 1 ∷ 0 ∷ 1 ∷ 0 ∷ 1 ∷ 0 ∷ 1 ∷ []) k) k && elim (eqb n 3) [ true ↦ eqb (rowWalk n (1 ∷ 2 ∷ 1 ∷ 2 ∷ 1 ∷ 2 ∷ []) k) k | false ↦ true ]
-
-rows-turn-true : (n : ℕ) → Dim n → allBelow (cellSize n) (rows-turn n) ≡ true
-unfolding everything rows-turn rowWalk
-rows-turn-true n n23 = two-cases n n23 (λ n. allBelow (cellSize n) (rows-turn n) ≡ true) refl refl
-
-all-turn : (n : ℕ) (t xs : List ℕ) (a : ℕ) → ((x : ℕ) → getD xs x 0 ≡ 1 → turns n t (a + x) ≡ true) → allTurn n t a xs ≡ true
-unfolding allTurn
-all-turn n t [] a h = refl
-all-turn n t (y ∷ ys) a h = go (all-turn n t ys (suc a) (λ x m. ap (turns n t) (omega arith) ∙ h (suc x) m)) (bool-cases (eqb y 1))
-  where
-    go : allTurn n t (suc a) ys ≡ true → (eqb y 1 ≡ true) ⊎ (eqb y 1 ≡ false) → allTurn n t a (y ∷ ys) ≡ true
-    go rec (inl e) = rw (e, ap (turns n t) (sym (add-zero a)) ∙ h 0 (eqb-true y 1 e), allTurn) rec
-    go rec (inr e) = rw (e, allTurn) rec
-
-pub in-tab : (f : ℕ → ℕ) (n a x : ℕ) → In x (tabulateFrom n a f) → (k : ℕ) × (a ≤ k) × (k < a + n) × (x ≡ f k)
-unfolding tabulateFrom
-in-tab f zero a x i = absurd (not-nil i)
-in-tab f (suc n) a x i = go (in-tab f n (suc a) x) (in-cons i)
-  where
-    go : (In x (tabulateFrom n (suc a) f) → (k : ℕ) × (suc a ≤ k) × (k < suc a + n) × (x ≡ f k)) → (x ≡ f a) ⊎ In x (tabulateFrom n (suc a) f) → (k : ℕ) × (a ≤ k) × (k < a + suc n) × (x ≡ f k)
-    go rec (inl e) = (a, omega arith, omega arith, e)
-    go rec (inr j) = let r = rec j in let p = r .1 in let q = r .2 in (r .0, omega arith, omega arith, r .3)
-
-pub distinct-tab : (f : ℕ → ℕ) (n a : ℕ) → ((k l : ℕ) → k < l → l < a + n → f k ≡ f l → ⊥) → Distinct (tabulateFrom n a f)
-unfolding tabulateFrom
-distinct-tab f zero a h = none
-distinct-tab f (suc n) a h = more (λ i. let r = in-tab f n (suc a) (f a) i in let p = r .1 in let q = r .2 in h a (r .0) (omega arith) (omega arith) (r .3))
-    (distinct-tab f n (suc a) (λ k l kl b. h k l kl (omega arith)))
-
-module _ {n : ℕ} {t : List ℕ} (T : MapTable n t) (d : ℕ) (live-d : live t d ≡ true)
-    (follow : (i k : ℕ) → i < n → k < cellSize n → link t i (place n t d k) ≡ place n t d (cellLink n i k))
-    (apart : (a b : ℕ) → a < b → b < cellSize n → place n t d a ≡ place n t d b → ⊥) where
-  abbrev cell′ : List ℕ
-  cell′ = cellOf n t d
-
-  marked-walk : (w : List ℕ) (x : ℕ) → small n w ≡ true → Marked cell′ x → Marked cell′ (walk t w x)
-  unfolding walk small
-  marked-walk [] x h c = c
-  marked-walk (i ∷ w) x h c = go (marked-walk w (link t i x)) (bool-cases (ltb i n))
+  all-turn-exactly : (a : ℕ) (xs : List ℕ) → (allTurn n t a xs ≡ true) ↔ AllTurn a xs
+  unfolding allTurn
+  all-turn-exactly a [] = (λ h x m. absurd (omega arith), λ h. refl)
+  all-turn-exactly a (y ∷ ys) =
+      let rec = all-turn-exactly (suc a) ys in
+      let split = first-turns a y ys in
+      (λ h. to (split .0 h .0) (rec .0 (split .0 h .1)), λ f. split .1 (now f, rec .1 (later f)))
     where
-      go : (small n w ≡ true → Marked cell′ (link t i x) → Marked cell′ (walk t w (link t i x))) → (ltb i n ≡ true) ⊎ (ltb i n ≡ false) → Marked cell′ (walk t w (link t i x))
-      go rec (inl e) = rec (rw (e, small) at h) (cell-goes T d live-d x i c (ltb-true i n e))
-      go rec (inr e) = absurd (clash h (rw (e, small)))
+      to : (y ≡ 1 → turns n t a ≡ true) → AllTurn (suc a) ys → AllTurn a (y ∷ ys)
+      to first rest zero m = ap (turns n t) (add-zero a) ∙ first m
+      to first rest (suc x) m = ap (turns n t) (omega arith) ∙ rest x m
 
-  pub place-in : (k : ℕ) → k < cellSize n → Marked cell′ (place n t d k)
-  unfolding place
-  place-in k l = marked-walk (path n k) d (below-at (λ k. small n (path n k)) (cellSize n) (path-small n (T .dim)) k l)
-      (cell-least T d live-d .holds d (here refl) (live-in t d (T .whole) live-d))
+      now : AllTurn a (y ∷ ys) → y ≡ 1 → turns n t a ≡ true
+      now f e = ap (turns n t) (sym (add-zero a)) ∙ f 0 e
 
-  places-all : (x : ℕ) → Marked cell′ x → (k : ℕ) × (k < cellSize n) × (x ≡ place n t d k)
-  places-all = cell-least T d live-d .within (λ x. (k : ℕ) × (k < cellSize n) × (x ≡ place n t d k)) (λ x j _. seed x (in-cons j)) (λ x y _ h j _. step x y h (cell-step T d live-d x y j))
-    where
-      seed : (x : ℕ) → (x ≡ d) ⊎ In x [] → (k : ℕ) × (k < cellSize n) × (x ≡ place n t d k)
-      seed x (inl q) = (0, size-some n (T .dim), q ∙ place-0 n (T .dim) t d)
-      seed x (inr j) = absurd (not-nil j)
+      later : AllTurn a (y ∷ ys) → AllTurn (suc a) ys
+      later f x m = ap (turns n t) (omega arith) ∙ f (suc x) m
 
-      step : (x y : ℕ) → (k : ℕ) × (k < cellSize n) × (x ≡ place n t d k) → (j : ℕ) × (j < n) × (y ≡ link t j x) → (k : ℕ) × (k < cellSize n) × (y ≡ place n t d k)
-      step x y h r = (cellLink n (r .0) (h .0), rows-in n (r .0) (h .0) (T .dim) (r .1) (h .1), r .2 ∙ ap (link t (r .0)) (h .2) ∙ follow (r .0) (h .0) (r .1) (h .1))
-
-  size-is : count 1 cell′ ≡ cellSize n
-  size-is =
-      let l = tabulateFrom (cellSize n) 0 (place n t d) in
-      let a = cover l cell′ (λ x c. let r = places-all x c in in-cast (r .2) (tab-in (place n t d) (cellSize n) 0 (r .0) (omega arith) (let q = r .1 in omega arith))) in
-      let b = distinct-le l cell′ (distinct-tab (place n t d) (cellSize n) 0 (λ k j kj h. apart k j kj (omega arith))) (λ x i. let r = in-tab (place n t d) (cellSize n) 0 x i in let q = r .2 in rw (r .3) (place-in (r .0) (omega arith))) in
-      let c = length-tabFrom (place n t d) (cellSize n) 0 in
-      omega arith
-
-  place-turns : (k : ℕ) → k < cellSize n → turns n t (place n t d k) ≡ true
-  unfolding turns returns rows-turn small
-  place-turns k l = and-i (eq-eqb _ _ (walk-rows n t (place n t d) (T .dim) follow w8 k (two-cases n (T .dim) (λ n. small n w8 ≡ true) refl refl) l ∙ ap (place n t d) (eqb-true _ _ (and-l (eqb (rowWalk n w8 k) k) _ rt)))) (last (bool-cases (eqb n 3)))
-    where
-      w8 : List ℕ
-      w8 = 0 ∷ 1 ∷ 0 ∷ 1 ∷ 0 ∷ 1 ∷ 0 ∷ 1 ∷ []
-
-      w6 : List ℕ
-      w6 = 1 ∷ 2 ∷ 1 ∷ 2 ∷ 1 ∷ 2 ∷ []
-
-      rt : rows-turn n k ≡ true
-      rt = below-at (rows-turn n) (cellSize n) (rows-turn-true n (T .dim)) k l
-
-      last : (eqb n 3 ≡ true) ⊎ (eqb n 3 ≡ false) → (elim (eqb n 3) [ true ↦ eqb (walk t w6 (place n t d k)) (place n t d k) | false ↦ true ]) ≡ true
-      last (inl e) = rw e (eq-eqb _ _ (walk-rows n t (place n t d) (T .dim) follow w6 k (subst (λ (n : ℕ). small n w6 ≡ true) (sym (eqb-true n 3 e)) refl) l
-          ∙ ap (place n t d) (eqb-true _ _ (rw e at (and-r (eqb (rowWalk n w8 k) k) (elim (eqb n 3) [ true ↦ eqb (rowWalk n w6 k) k | false ↦ true ]) rt)))))
-      last (inr e) = rw e
-
-  pub good-of : goodCell n t (cellOf n t d) ≡ true
+  pub good-cell : (c : List ℕ) → (goodCell n t c ≡ true) ↔ GoodCell n t c
   unfolding goodCell
-  good-of = and-i (eq-eqb _ _ size-is) (all-turn n t cell′ 0 (λ x c. let r = places-all x c in rw (let q : 0 + x ≡ x = omega arith in q, r .2) (place-turns (r .0) (r .1))))
+  good-cell c = (to, from)
+    where
+      turned : allTurn n t 0 c ≡ true → (x : ℕ) → Marked c x → Turned x
+      turned h x m = turns-exactly x .0 (ap (turns n t) (omega arith) ∙ all-turn-exactly 0 c .0 h x m)
+
+      to : goodCell n t c ≡ true → GoodCell n t c
+      to h =
+          let all = turned (and-r (eqb (count 1 c) (cellSize n)) (allTurn n t 0 c) h) in
+          record {
+            size = eqb-true _ _ (and-l (eqb (count 1 c) (cellSize n)) (allTurn n t 0 c) h);
+            square = λ x m. all x m .0;
+            corner = λ e x m. all x m .1 e;
+          }
+
+      from : GoodCell n t c → goodCell n t c ≡ true
+      from g = and-i (eq-eqb _ _ (g .size)) (all-turn-exactly 0 c .1 (λ x m.
+          ap (turns n t) (omega arith) ∙ turns-exactly x .1 (g .square x m, λ e. g .corner e x m)))
+
+-- ---- the words of the rule, on the rows
+
+rowsReturn : ℕ → List ℕ → Bool
+rowsReturn n w = small n w && allBelow (cellSize n) (λ k. eqb (rowWalk n w k) k)
+
+square-returns : (n : ℕ) → Dim n → rowsReturn n squareWord ≡ true
+unfolding everything small rowWalk rowsReturn
+square-returns n dim = two-cases n dim (λ n. rowsReturn n squareWord ≡ true) refl refl
+
+corner-returns : rowsReturn 3 cornerWord ≡ true
+unfolding everything small rowWalk rowsReturn
+corner-returns = refl
+
+-- ---- the cell of a live dart of a map
+
+module _ {n : ℕ} {t : List ℕ} (T : MapTable n t) where
+  module _ (d : ℕ) (live-d : live t d ≡ true) where
+    abbrev cell : List ℕ
+    cell = cellOf n t d
+
+    pub cell-own : Marked cell d
+    cell-own = cell-is n t d .holds d refl (live-below T d live-d)
+
+    pub cell-live : (x : ℕ) → Marked cell x → live t x ≡ true
+    cell-live = cell-is n t d .within (λ x. live t x ≡ true) (λ x e _. rw e live-d) (λ x y _ l s _. step x y l s)
+      where
+        step : (x y : ℕ) → live t x ≡ true → ByLink t (λ j. j < n) x y → live t y ≡ true
+        step x y l s =
+            let low = s .allowed in
+            rw (s .leads) (rule-at T x l .goes (s .by) (omega arith))
+
+    pub cell-goes : (x j : ℕ) → Marked cell x → j < n → Marked cell (link t j x)
+    cell-goes x j h l =
+        let next = rule-at T x (cell-live x h) .goes j (omega arith) in
+        cell-is n t d .closed x (link t j x) h (record { by = j; allowed = l; leads = refl }) (live-below T _ next)
+
+    -- the places are in the cell
+    pub place-in : (k : ℕ) → k < cellSize n → Marked cell (place n t d k)
+    unfolding place
+    place-in k l = walk-keeps n t (Marked cell) (λ x i b h. cell-goes x i h b) (path n k) (path-small n k (T .dim) l) d cell-own
+
+    -- where their links follow the rows, they are all of it
+    pub all-places : Follows n t (place n t d) → (x : ℕ) → Marked cell x → AtPlace n t d x
+    all-places follow =
+        cell-is n t d .within (AtPlace n t d) (λ x e _. first x e) (λ x y _ p s _. step x y p s)
+      where
+        first : (x : ℕ) → x ≡ d → AtPlace n t d x
+        first x e = (0, size-some n (T .dim), e ∙ path-zero n (T .dim) t d)
+
+        step : (x y : ℕ) → AtPlace n t d x → ByLink t (λ j. j < n) x y → AtPlace n t d y
+        step x y (k, l, e) s = (
+          cellLink n (s .by) k,
+          rows-in n (s .by) k (T .dim) (s .allowed) l,
+          s .leads ∙ ap (link t (s .by)) e ∙ follow (s .by) k (s .allowed) l,
+        )
+
+    -- ---- a good cell has a chart
+
+    module _ (good : GoodCell n t cell) where
+      comes : (x i : ℕ) → i < n → Marked cell x → link t i (link t i x) ≡ x
+      comes x i l h = rule-at T x (cell-live x h) .comes i (omega arith)
+
+      -- the word returns with the link i after it
+      abbrev Back : ℕ → List ℕ → Type 0
+      Back i w = (x : ℕ) → Marked cell x → link t i (walk t w x) ≡ x
+
+      -- and so it does if it returns with the link before it
+      back-of : (i : ℕ) (w : List ℕ) → i < n → ((x : ℕ) → Marked cell x → walk t (i ∷ w) x ≡ x) → Back i w
+      unfolding walk
+      back-of i w l h x c =
+          ap (λ (z : ℕ). link t i (walk t w z)) (sym (comes x i l c))
+          ∙ ap (link t i) (h (link t i x) (cell-goes x i c l)) ∙ comes x i l c
+
+      cross : n ≡ 3 → (x : ℕ) → Marked cell x → walk t (0 ∷ 2 ∷ 0 ∷ 2 ∷ []) x ≡ x
+      unfolding walk
+      cross e x c = rule-at T x (cell-live x c) .cross 0 2 (omega arith) (omega arith)
+
+      abbrev Turns : ℕ → ℕ → Type 0
+      Turns i j = i < n → j < n → i ≢ j → Back i (around i j)
+
+      turn : (i j : ℕ) → Turns i j
+      unfolding around walk
+      turn i j hi hj =
+          let i3 : i < 3 = omega arith in
+          let j3 : j < 3 = omega arith in
+          below-three (λ i. Turns i j) (zeroth j j3) (first j j3) (second j j3) i i3 hi hj
+        where
+          none : (k : ℕ) → Turns k k
+          none k _ _ e = absurd (e refl)
+
+          zeroth : (j : ℕ) → j < 3 → Turns 0 j
+          zeroth = below-three (Turns 0) (none 0) (λ l _ _. back-of 0 (around 0 1) l (good .square))
+              (λ l h _. back-of 0 (around 0 2) l (cross (omega arith)))
+
+          first : (j : ℕ) → j < 3 → Turns 1 j
+          first = below-three (Turns 1) (λ _ _ _. good .square) (none 1)
+              (λ l h _. back-of 1 (around 1 2) l (good .corner (omega arith)))
+
+          second : (j : ℕ) → j < 3 → Turns 2 j
+          second = below-three (Turns 2) (λ h _ _. cross (omega arith)) (λ h _ _. good .corner (omega arith)) (none 2)
+
+      turning : Turning n t (Marked cell)
+      turning = record { goes = λ x i l c. cell-goes x i c l; comes = comes; turn = λ x i j hi hj e c. turn i j hi hj e x c }
+
+      good-follows : Follows n t (place n t d)
+      good-follows = places-follow n t d (Marked cell) (T .dim) turning cell-own
+
+      good-listed : Chart n t (place n t d)
+      good-listed = record {
+        follow = good-follows;
+        apart = apart-by cell (place n t d) (cellSize n) (all-places good-follows) (good .size);
+      }
+
+    pub good-chart : goodCell n t cell ≡ true → Chart n t (place n t d)
+    good-chart h = good-listed (good-cell n t cell .0 h)
+
+    -- ---- a cell with a chart is good
+
+    module _ (ch : Chart n t (place n t d)) where
+      rows-return : (w : List ℕ) → rowsReturn n w ≡ true → (x : ℕ) → Marked cell x → walk t w x ≡ x
+      unfolding rowsReturn
+      rows-return w h x m =
+          let (k, l, e) = all-places (ch .follow) x m in
+          let low = and-l (small n w) _ h in
+          let back = eqb-true _ _ (below-at (λ k. eqb (rowWalk n w k) k) (cellSize n) (and-r (small n w) _ h) k l) in
+          ap (walk t w) e ∙ walk-rows n t (place n t d) (T .dim) (ch .follow) w k low l ∙ ap (place n t d) back ∙ sym e
+
+      pub chart-good : goodCell n t cell ≡ true
+      chart-good = good-cell n t cell .1 (record {
+        size = count-by cell (place n t d) (cellSize n) (all-places (ch .follow)) place-in (ch .apart);
+        square = rows-return squareWord (square-returns n (T .dim));
+        corner = λ e. rows-return cornerWord (subst (λ (k : ℕ). rowsReturn k cornerWord ≡ true) (sym e) corner-returns);
+      })
+
+  -- ---- the darts of one cell have one cell
+
+  cell-sub : (x y : ℕ) → Marked (cellOf n t y) x → (z : ℕ) → Marked (cellOf n t x) z → Marked (cellOf n t y) z
+  cell-sub x y h =
+      cell-is n t x .within (Marked (cellOf n t y)) (λ z e _. rw e h) (λ a b _. cell-is n t y .closed a b)
+
+  cell-back : (d : ℕ) → live t d ≡ true → (x : ℕ) → Marked (cellOf n t d) x → Marked (cellOf n t x) d
+  cell-back d ld x h =
+      cell-is n t d .within Mutual (λ z e _. rw e (ld, cell-own d ld)) (λ y z _ p s _. step y z p s) x h .1
+    where
+      Mutual : ℕ → Type 0
+      Mutual z = (live t z ≡ true) × Marked (cellOf n t z) d
+
+      step : (y z : ℕ) → Mutual y → ByLink t (λ j. j < n) y z → Mutual z
+      step y z (ly, m) s =
+          let j = s .by in
+          let low = s .allowed in
+          let next = rule-at T y ly .goes j (omega arith) in
+          let own = cell-goes (link t j y) next (link t j y) j (cell-own (link t j y) next) low in
+          rw (s .leads) (next, cell-sub y (link t j y) (rw (rule-at T y ly .comes j (omega arith)) at own) d m)
+
+  pub cell-same : (d x : ℕ) → live t d ≡ true → Marked (cellOf n t d) x → cellOf n t x ≡ cellOf n t d
+  cell-same d x ld h =
+      let c = cell-is n t d in
+      least-set-unique (cell-is n t x) (record {
+        long = c .long;
+        bits = c .bits;
+        holds = λ z e _. rw e h;
+        closed = c .closed;
+        within = λ P seed kept z m. cell-is n t x .within P seed kept z (cell-sub d x (cell-back d ld x h) z m);
+      })
+
+  -- ---- words in a good cell
+
+  -- two words that agree in the rows agree at its darts
+  pub cell-words : (d : ℕ) → live t d ≡ true → goodCell n t (cellOf n t d) ≡ true
+      → (v w : List ℕ) → small n v ≡ true → small n w ≡ true → rowWalk n v 0 ≡ rowWalk n w 0 → walk t v d ≡ walk t w d
+  cell-words d ld good v w hv hw e = by-rows v hv ∙ ap (place n t d) e ∙ sym (by-rows w hw)
+    where
+      by-rows : (w : List ℕ) → small n w ≡ true → walk t w d ≡ place n t d (rowWalk n w 0)
+      by-rows w h =
+          ap (walk t w) (path-zero n (T .dim) t d)
+          ∙ walk-rows n t (place n t d) (T .dim) (good-chart d ld good .follow) w 0 h (size-some n (T .dim))

@@ -1,30 +1,28 @@
 -- Maps by their live slots, and block maps by charts: a chart lists a cell's darts by their places.
+-- Main theorems: `ruled-table`; `block-by` (each live dart is in a chart), `place-chart` (the places are one), `relink-block`;
+-- `block-of` and `of-block` (the block test).
 use Prim.Native.Nat.{ℕ, _+_, _*_, _≤_, _<_}
-use mathlib.Core.Path.{_≡_, refl, sym, ap, _∙_, subst}
+use mathlib.Core.Path.{_≡_, sym, ap, _∙_}
 use mathlib.Core.Logic.{_⊎_, ⊎-elim}
-use mathlib.Core.Bool.{Bool, true, false, not, _&&_}
-use mathlib.Core.List.{List, [], _∷_, List·Memᴰ·head as here, List·Memᴰ·eq-of-singleton as sole}
+use mathlib.Core.Bool.{true, false}
+use mathlib.Core.List.{List}
 use native.Mathlib.Nat.{le-refl}
 use native.Mathlib.Omega.{arith}
 use lib.ListN.{length}
-use lib.Dec.{eqb, ltb}
-use borrow.Author.Tests.{eqb-true, ltb-true, eq-eqb, not-false}
-use Rattle.model.specs.Lists.{allBelow, least}
+use borrow.Author.Tests.{eqb-true, eq-eqb}
 use Rattle.model.specs.Table.{slots, link, walk, live, relink}
-use Rattle.model.specs.Reach.{steps}
-use Rattle.model.specs.Cell.{cellWords, cellSize, cellOf, goodCell, isBlock, leastWrong, inWrongCell}
+use Rattle.model.specs.Cell.{cellSize, cellOf, goodCell, isBlock, leastWrong, inWrongCell}
 use Rattle.model.specs.Numbering.{cellLink}
-use Rattle.model.specs.Everything.{everything}
-use Rattle.model.specs.Meaning.Maps.{Dim, Map, MapTable, BlockTable}
-use Rattle.model.specs.Meaning.Places.{path, place}
 use Rattle.model.specs.Meaning.Sets.{Marked}
-use Rattle.model.proofs.Maps.Dim.{two-cases, size-some}
-use Rattle.model.proofs.Lists.Scan.{test, if-eq, if-lt, clash, and-l, and-r, below-at}
-use Rattle.model.proofs.Sets.Closure.{least-set-unique}
-use Rattle.model.proofs.Maps.Rules.{live-in, live-by, Relinking, relink-table, relink-slots, relink-live, relink-link, at-other}
-use Rattle.model.proofs.Maps.Tables.{mapTable, live-below, rule-at}
+use Rattle.model.specs.Meaning.Maps.{Dim, Map, MapTable, BlockTable}
+use Rattle.model.specs.Meaning.Places.{path, place, AtPlace, Chart}
+use Rattle.model.proofs.Lists.Scan.{if-eq, if-lt, clash}
+use Rattle.model.proofs.Maps.Dim.{size-some}
 use Rattle.model.proofs.Maps.Failing.{failing, none-failing}
-use Rattle.model.proofs.Cells.Cell.{cell-least, cell-step, cell-goes, rowWalk, small, walk-rows, place-in, good-of, follows, distinct, d-place, rows-in, all-places}
+use Rattle.model.proofs.Maps.Rules.{live-by, Relinking, relink-table, relink-slots, relink-live, relink-link, at-other}
+use Rattle.model.proofs.Maps.Tables.{mapTable, live-below, rule-at}
+use Rattle.model.proofs.Cells.Rows.{small, walk-keeps, walk-rows, rows-in, path-small, path-leads, path-zero}
+use Rattle.model.proofs.Cells.Cell.{cell-own, cell-same, place-in, all-places, good-chart, chart-good}
 
 -- ---- a map by its live slots
 
@@ -63,83 +61,28 @@ pub live-same : (t u : List ℕ) (x : ℕ) → ((j : ℕ) → j < 4 → link u j
 unfolding live
 live-same t u x h = rw (h 0 (omega arith), h 1 (omega arith), h 2 (omega arith), h 3 (omega arith))
 
--- ---- the darts of one cell have one cell
+-- ---- block maps by charts
 
-module _ {n : ℕ} {t : List ℕ} (T : MapTable n t) where
-  pub own : (d : ℕ) → live t d ≡ true → Marked (cellOf n t d) d
-  own d l = cell-least T d l .holds d (here refl) (live-in t d (T .whole) l)
-
-  sub : (x y : ℕ) → live t x ≡ true → live t y ≡ true → Marked (cellOf n t y) x → (z : ℕ) → Marked (cellOf n t x) z → Marked (cellOf n t y) z
-  sub x y lx ly h = cell-least T x lx .within (Marked (cellOf n t y)) (λ z i _. subst (Marked (cellOf n t y)) (sym (sole i)) h)
-      (λ a b _ p i l. cell-least T y ly .closed a b p i l)
-
-  back : (d : ℕ) → live t d ≡ true → (x : ℕ) → Marked (cellOf n t d) x → (live t x ≡ true) × Marked (cellOf n t x) d
-  back d ld = cell-least T d ld .within (λ z. (live t z ≡ true) × Marked (cellOf n t z) d) (λ z i _. seed z (sole i)) (λ y z _ h i _. step y z h (cell-step T d ld y z i))
-    where
-      seed : (z : ℕ) → z ≡ d → (live t z ≡ true) × Marked (cellOf n t z) d
-      seed z e = rw e (ld, own d ld)
-
-      step : (y z : ℕ) → (live t y ≡ true) × Marked (cellOf n t y) d → (j : ℕ) × (j < n) × (z ≡ link t j y) → (live t z ≡ true) × Marked (cellOf n t z) d
-      step y z h r =
-          let b = r .1 in
-          let ru = rule-at T y (h .0) in
-          let lz : live t (link t (r .0) y) ≡ true = ru .goes (r .0) (omega arith) in
-          let i : Marked (cellOf n t (link t (r .0) y)) y = rw (ru .comes (r .0) (omega arith)) at (cell-goes T (link t (r .0) y) lz (link t (r .0) y) (r .0) (own (link t (r .0) y) lz) b) in
-          rw (r .2) (lz, sub y (link t (r .0) y) (h .0) lz i d (h .1))
-
-  pub cell-same : (d x : ℕ) → live t d ≡ true → Marked (cellOf n t d) x → cellOf n t x ≡ cellOf n t d
-  cell-same d x ld h =
-      let b = back d ld x h in
-      let c = cell-least T d ld in
-      let e = cell-least T x (b .0) in
-      least-set-unique e (record {
-        long = c .long;
-        bits = c .bits;
-        holds = λ z i _. subst (Marked (cellOf n t d)) (sym (sole i)) h;
-        closed = c .closed;
-        within = λ P hs kept z q. e .within P hs kept z (sub d x ld (b .0) (b .1) z q);
-      })
-
--- ---- charts
-
--- c has the darts of a cell, each once, by their places
-pub record Chart (n : ℕ) (u : List ℕ) (c : ℕ → ℕ) : Type 0 where
-  pub follow : (i k : ℕ) → i < n → k < cellSize n → link u i (c k) ≡ c (cellLink n i k)
-  pub apart : (a b : ℕ) → a < b → b < cellSize n → c a ≡ c b → ⊥
-
-path-rows : ℕ → ℕ → Bool
-path-rows n k = small n (path n k) && eqb (rowWalk n (path n k) 0) k
-
-path-rows-true : (n : ℕ) → Dim n → allBelow (cellSize n) (path-rows n) ≡ true
-unfolding everything path small rowWalk path-rows
-path-rows-true n n23 = two-cases n n23 (λ n. allBelow (cellSize n) (path-rows n) ≡ true) refl refl
-
--- a path is a word of the cell's links, and leads from the place 0 to its place
-pub path-small : (n k : ℕ) → Dim n → k < cellSize n → small n (path n k) ≡ true
-unfolding path-rows
-path-small n k n23 l = and-l (small n (path n k)) _ (below-at (path-rows n) (cellSize n) (path-rows-true n n23) k l)
-
-pub path-leads : (n k : ℕ) → Dim n → k < cellSize n → rowWalk n (path n k) 0 ≡ k
-unfolding path-rows
-path-leads n k n23 l = eqb-true _ _ (and-r (small n (path n k)) _ (below-at (path-rows n) (cellSize n) (path-rows-true n n23) k l))
-
-module _ {n : ℕ} {u : List ℕ} (U : MapTable n u) (c : ℕ → ℕ) (ch : Chart n u c) (l : live u (c 0) ≡ true) where
-  chart-place : (k : ℕ) → k < cellSize n → place n u (c 0) k ≡ c k
+-- the cell of a chart is good, seen from each of its darts
+module _ {n : ℕ} {u : List ℕ} (U : MapTable n u) (c : ℕ → ℕ) (ch : Chart n u c) (base : live u (c 0) ≡ true) where
+  pub chart-place : (k : ℕ) → k < cellSize n → place n u (c 0) k ≡ c k
   unfolding place
-  chart-place k h = walk-rows n u c (U .dim) (ch .follow) (path n k) 0 (path-small n k (U .dim) h) (size-some n (U .dim)) ∙ ap c (path-leads n k (U .dim) h)
+  chart-place k h =
+      walk-rows n u c (U .dim) (ch .follow) (path n k) 0 (path-small n k (U .dim) h) (size-some n (U .dim))
+      ∙ ap c (path-leads n k (U .dim) h)
 
-  pub chart-good : (k : ℕ) → k < cellSize n → goodCell n u (cellOf n u (c k)) ≡ true
-  chart-good k h =
-      ap (goodCell n u) (cell-same U (c 0) (c k) l (subst (Marked (cellOf n u (c 0))) (chart-place k h) (place-in U (c 0) l follow apart k h)))
-      ∙ good-of U (c 0) l follow apart
-    where
-      follow : (i k : ℕ) → i < n → k < cellSize n → link u i (place n u (c 0) k) ≡ place n u (c 0) (cellLink n i k)
-      follow i k hi hk = rw (chart-place k hk) (ch .follow i k hi hk ∙ sym (chart-place (cellLink n i k) (rows-in n i k (U .dim) hi hk)))
+  chart-places : Chart n u (place n u (c 0))
+  chart-places = record {
+    follow = λ i k hi hk.
+        let next = chart-place (cellLink n i k) (rows-in n i k (U .dim) hi hk) in
+        rw (chart-place k hk) (ch .follow i k hi hk ∙ sym next);
+    apart = λ a b ab hb e. ch .apart a b ab hb (sym (chart-place a (omega arith)) ∙ e ∙ chart-place b hb);
+  }
 
-      apart : (a b : ℕ) → a < b → b < cellSize n → place n u (c 0) a ≡ place n u (c 0) b → ⊥
-      apart a b ab hb e = ch .apart a b ab hb (sym (chart-place a (omega arith)) ∙ e ∙ chart-place b hb)
-
--- ---- block maps
+  pub chart-cell : (k : ℕ) → k < cellSize n → goodCell n u (cellOf n u (c k)) ≡ true
+  chart-cell k h =
+      let here : Marked (cellOf n u (c 0)) (c k) = rw chart-place at (place-in U (c 0) base k h) in
+      ap (goodCell n u) (cell-same U (c 0) (c k) base here) ∙ chart-good U (c 0) base chart-places
 
 -- a dart is in a chart
 pub record Charted (n : ℕ) (u : List ℕ) (x : ℕ) : Type 0 where
@@ -151,54 +94,59 @@ pub record Charted (n : ℕ) (u : List ℕ) (x : ℕ) : Type 0 where
   pub is : x ≡ c k
 
 pub block-by : {n : ℕ} {u : List ℕ} → MapTable n u → ((x : ℕ) → live u x ≡ true → Charted n u x) → BlockTable n u
-block-by {n} {u} U h = record {
+block-by {n} {u} U charted = record {
   dim = U .dim;
   whole = U .whole;
   few = U .few;
   map = U .map;
   good = λ x l.
-      let a = h x l in
-      subst (λ (z : ℕ). goodCell n u (cellOf n u z) ≡ true) (sym (a .is)) (chart-good U (a .c) (a .chart) (a .base) (a .k) (a .low));
+      let a = charted x l in
+      rw (a .is) (chart-cell U (a .c) (a .chart) (a .base) (a .k) (a .low));
 }
+
+-- ---- the places in a block map
 
 module _ {n : ℕ} {t : List ℕ} (B : BlockTable n t) where
   -- the places of a dart are a chart
   pub place-chart : (d : ℕ) → live t d ≡ true → Chart n t (place n t d)
-  place-chart d l = record { follow = follows (mapTable B) d l (B .good d l); apart = distinct (mapTable B) d l (B .good d l) }
+  place-chart d l = good-chart (mapTable B) d l (B .good d l)
 
   pub place-zero : (d : ℕ) → live t d ≡ true → d ≡ place n t d 0
-  place-zero d l = d-place (mapTable B) d l (B .good d l)
+  place-zero d l = path-zero n (B .dim) t d
 
-  pub keep : (P : ℕ → Type 0) → ((x j : ℕ) → j < n → live t x ≡ true → P x → P (link t j x)) → (w : List ℕ) → small n w ≡ true → (x : ℕ) → live t x ≡ true → P x → (live t (walk t w x) ≡ true) × P (walk t w x)
-  unfolding small walk
-  keep P k [] h x l p = (l, p)
-  keep P k (i ∷ w) h x l p =
-      let rec = keep P k w in
-      let s = B .dim .1 in
-      test (ltb i n) (λ e. let b = ltb-true i n e in rec (rw (e, small) at h) (link t i x) (B .map .rule x (live-in t x (B .whole) l) l .goes i (omega arith)) (k x i b l p)) (λ e. absurd (clash h (rw (e, small))))
+  -- what holds of a live dart, and is kept by the links of a cell, holds along a word of them; and all is live there
+  pub word-keeps : (P : ℕ → Type 0) → ((x j : ℕ) → j < n → live t x ≡ true → P x → P (link t j x))
+      → (w : List ℕ) → small n w ≡ true → (x : ℕ) → live t x ≡ true → P x → (live t (walk t w x) ≡ true) × P (walk t w x)
+  word-keeps P kept w h x l p = walk-keeps n t (λ y. (live t y ≡ true) × P y)
+      (λ y j b (ly, q). let top = B .dim .1 in (rule-at (mapTable B) y ly .goes j (omega arith), kept y j b ly q)) w h x (l, p)
 
-  -- what holds of a dart, and is kept by the links of a cell, holds of its places
-  pub place-keep : (P : ℕ → Type 0) → ((x j : ℕ) → j < n → live t x ≡ true → P x → P (link t j x)) → (x k : ℕ) → live t x ≡ true → k < cellSize n → P x → P (place n t x k)
+  -- and so of the places
+  pub place-keep : (P : ℕ → Type 0) → ((x j : ℕ) → j < n → live t x ≡ true → P x → P (link t j x))
+      → (x k : ℕ) → live t x ≡ true → k < cellSize n → P x → P (place n t x k)
   unfolding place
-  place-keep P h x k l b p = keep P h (path n k) (path-small n k (B .dim) b) x l p .1
+  place-keep P kept x k l b p = word-keeps P kept (path n k) (path-small n k (B .dim) b) x l p .1
 
   pub place-live : (x k : ℕ) → live t x ≡ true → k < cellSize n → live t (place n t x k) ≡ true
-  place-live x k l b = let s = B .dim .1 in place-keep (λ y. live t y ≡ true) (λ y j c h _. B .map .rule y (live-in t y (B .whole) h) h .goes j (omega arith)) x k l b l
+  unfolding place
+  place-live x k l b = word-keeps (λ _. Unit {0}) (λ _ _ _ _ _. tt) (path n k) (path-small n k (B .dim) b) x l tt .0
 
   -- a dart is a place of each of its places
-  pub place-back : (x k : ℕ) → live t x ≡ true → k < cellSize n → (p : ℕ) × (p < cellSize n) × (x ≡ place n t (place n t x k) p)
+  pub place-back : (x k : ℕ) → live t x ≡ true → k < cellSize n → AtPlace n t (place n t x k) x
   place-back x k l h =
+      let T = mapTable B in
       let y = place n t x k in
       let ly = place-live x k l h in
-      let ch = place-chart x l in
-      let i = place-in (mapTable B) x l (ch .follow) (ch .apart) k h in
-      all-places (mapTable B) y ly (B .good y ly) x (subst (λ (m : List ℕ). Marked m x) (sym (cell-same (mapTable B) x y l i)) (own (mapTable B) x l))
+      let own = cell-own T x l in
+      all-places T y ly (place-chart y ly .follow) x (rw (sym (cell-same T x y l (place-in T x l k h))) at own)
 
   pub place-one : (d a b : ℕ) → live t d ≡ true → a < cellSize n → b < cellSize n → place n t d a ≡ place n t d b → a ≡ b
-  place-one d a b l ha hb e = if-eq a b (λ q. q) (λ q. if-lt a b (λ h. absurd (place-chart d l .apart a b h hb e)) (λ h. absurd (place-chart d l .apart b a (omega arith) ha (sym e))))
+  place-one d a b l ha hb e =
+      let apart = place-chart d l .apart in
+      if-eq a b (λ q. q) (λ q. if-lt a b (λ h. absurd (apart a b h hb e)) (λ h. absurd (apart b a (omega arith) ha (sym e))))
 
   -- a chart of t whose darts keep their links below n is a chart of u
-  pub chart-kept : (u : List ℕ) (c : ℕ → ℕ) → Chart n t c → ((i k : ℕ) → i < n → k < cellSize n → link u i (c k) ≡ link t i (c k)) → Chart n u c
+  pub chart-kept : (u : List ℕ) (c : ℕ → ℕ) → Chart n t c
+      → ((i k : ℕ) → i < n → k < cellSize n → link u i (c k) ≡ link t i (c k)) → Chart n u c
   chart-kept u c ch h = record { follow = λ i k hi hk. h i k hi hk ∙ ch .follow i k hi hk; apart = ch .apart }
 
 -- a change of link n leaves the cells
@@ -211,36 +159,35 @@ relink-block {n} {t} {g} B c = block-by table charted
     T : MapTable n t
     T = mapTable B
 
-    u-slots : slots u ≡ slots t
-    u-slots = relink-slots T (le-refl n) c
-
     table : MapTable n u
     table = relink-table T (le-refl n) c
 
-    u-live : (x : ℕ) → x < slots t → live u x ≡ live t x
-    u-live = relink-live T (le-refl n) c
+    live-kept : (x : ℕ) → live t x ≡ true → live u x ≡ true
+    live-kept x l = relink-live T (le-refl n) c x (live-below T x l) ∙ l
 
-    kept : (x i : ℕ) → i < n → live t x ≡ true → link u i x ≡ link t i x
-    kept x i b l =
-        let s = B .dim .1 in
+    live-was : (x : ℕ) → live u x ≡ true → live t x ≡ true
+    live-was x h = sym (relink-live T (le-refl n) c x (rw (relink-slots T (le-refl n) c) at (live-below table x h))) ∙ h
+
+    link-kept : (x i : ℕ) → i < n → live t x ≡ true → link u i x ≡ link t i x
+    link-kept x i b l =
+        let top = B .dim .1 in
         relink-link T (le-refl n) c x i (live-below T x l) (omega arith) ∙ at-other t n g x i (omega arith)
 
     charted : (x : ℕ) → live u x ≡ true → Charted n u x
     charted x h =
-        let b : x < slots t = rw u-slots at (live-below table x h) in
-        let l : live t x ≡ true = sym (u-live x b) ∙ h in
-        let l₀ = place-live B x 0 l (size-some n (B .dim)) in
+        let l = live-was x h in
+        let some = size-some n (B .dim) in
         record {
           c = place n t x;
           chart = chart-kept B u (place n t x) (place-chart B x l)
-              (λ i k hi hk. kept (place n t x k) i hi (place-live B x k l hk));
-          base = u-live _ (live-below T _ l₀) ∙ l₀;
+              (λ i k hi hk. link-kept (place n t x k) i hi (place-live B x k l hk));
+          base = live-kept _ (place-live B x 0 l some);
           k = 0;
-          low = size-some n (B .dim);
+          low = some;
           is = place-zero B x l;
         }
 
--- ---- the test and the property
+-- ---- the block test
 
 module _ (n : ℕ) (t : List ℕ) where
   pub block-of : MapTable n t → isBlock n t ≡ true → BlockTable n t

@@ -1,7 +1,7 @@
 -- The cells after split: each cell that holds a dart of the sheet becomes two good cells (`two-cells`), every other cell
 -- stays (`cell-stays`), and there are no others (`all-cells`).
 use Prim.Native.Nat.{ℕ, _<_}
-use mathlib.Core.Path.{_≡_, sym, ap, _∙_}
+use mathlib.Core.Path.{_≡_, sym, _∙_}
 use mathlib.Core.Logic.{_⊎_, inl, inr, ⊎-elim}
 use mathlib.Core.Bool.{true}
 use mathlib.Core.List.{List, List·Memᴰ as In}
@@ -10,12 +10,11 @@ use Rattle.model.specs.Table.{link, live}
 use Rattle.model.specs.Cell.{cellSize, cellOf, goodCell}
 use Rattle.model.specs.Split.{newDart, halved}
 use Rattle.model.specs.Meaning.Maps.{BlockTable}
-use Rattle.model.specs.Meaning.Places.{path, place}
+use Rattle.model.specs.Meaning.Places.{place, AtPlace, Chart}
 use Rattle.model.specs.Meaning.Sets.{Marked}
-use Rattle.model.proofs.Maps.Dim.{size-some}
 use Rattle.model.proofs.Maps.Tables.{mapTable}
-use Rattle.model.proofs.Cells.Cell.{cell-live, walk-rows, all-places, place-in}
-use Rattle.model.proofs.Cells.Chart.{Chart, own, cell-same, path-small, path-leads, place-chart}
+use Rattle.model.proofs.Cells.Cell.{cell-own, cell-live, cell-same, all-places, place-in}
+use Rattle.model.proofs.Cells.Chart.{chart-place, place-chart}
 use Rattle.model.proofs.Operations.Frame.{cell-kept}
 use Rattle.model.proofs.Layers.Cut.{Cut, split-slots, split-kept}
 use Rattle.model.proofs.Layers.Split.{Live, old, new, split-live, live-split}
@@ -26,26 +25,23 @@ use Rattle.model.proofs.Layers.Halves.{place-in-half, new-in-half, half
 
 module _ {n : ℕ} {t : List ℕ} (B : BlockTable n t) (d : ℕ) (l : live t d ≡ true) where
   place-marked : (k : ℕ) → k < cellSize n → Marked (cellOf n t d) (place n t d k)
-  place-marked = let places = place-chart B d l in place-in (mapTable B) d l (places .follow) (places .apart)
+  place-marked = place-in (mapTable B) d l
 
-  marked-place : (x : ℕ) → Marked (cellOf n t d) x → (k : ℕ) × (k < cellSize n) × (x ≡ place n t d k)
-  marked-place = all-places (mapTable B) d l (B .good d l)
+  marked-place : (x : ℕ) → Marked (cellOf n t d) x → AtPlace n t d x
+  marked-place = all-places (mapTable B) d l (place-chart B d l .follow)
 
 module _ {n : ℕ} {u : List ℕ} (U : BlockTable n u) (c : ℕ → ℕ) (chart : Chart n u c) (base : live u (c 0) ≡ true) where
-  chart-place : (k : ℕ) → k < cellSize n → place n u (c 0) k ≡ c k
-  unfolding place
-  chart-place k h =
-      walk-rows n u c (U .dim) (chart .follow) (path n k) 0 (path-small n k (U .dim) h) (size-some n (U .dim))
-      ∙ ap c (path-leads n k (U .dim) h)
+  seen : (k : ℕ) → k < cellSize n → place n u (c 0) k ≡ c k
+  seen = chart-place (mapTable U) c chart base
 
   -- of a dart that stands first in its chart
   chart-marked : (d : ℕ) → d ≡ c 0 → (x : ℕ) → (k : ℕ) × (k < cellSize n) × (x ≡ c k) → Marked (cellOf n u d) x
-  chart-marked d q x (k, h, e) = rw (q, e, ← chart-place k h) (place-marked U (c 0) base k h)
+  chart-marked d q x (k, h, e) = rw (q, e, ← seen k h) (place-marked U (c 0) base k h)
 
   marked-chart : (d : ℕ) → d ≡ c 0 → (x : ℕ) → Marked (cellOf n u d) x → (k : ℕ) × (k < cellSize n) × (x ≡ c k)
   marked-chart d q x m =
       let (k, h, e) = marked-place U (c 0) base x (rw q at m) in
-      (k, h, e ∙ chart-place k h)
+      (k, h, e ∙ seen k h)
 
 -- ---- each cut cell becomes two
 
@@ -101,7 +97,7 @@ module _ {n : ℕ} {t gs fs : List ℕ} (C : Cut n t gs fs) where
       apart : (x : ℕ) → Marked (cellOf n after g) x → Marked (cellOf n after (link t 0 g)) x → ⊥
       apart x m m₀ =
           let same = sym (cell-same (mapTable U) (link t 0 g) x l₀ m₀) ∙ cell-same (mapTable U) g x l m in
-          across-out C g i (marked-half g i (link t 0 g) (rw same at (own (mapTable U) (link t 0 g) l₀)))
+          across-out C g i (marked-half g i (link t 0 g) (rw same at (cell-own (mapTable U) (link t 0 g) l₀)))
 
       shared : (x : ℕ) → Marked (cellOf n t g) x → Marked (cellOf n after g) x ⊎ Marked (cellOf n after (link t 0 g)) x
       shared x m =

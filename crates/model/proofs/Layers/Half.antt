@@ -18,7 +18,7 @@ use Rattle.model.specs.Meaning.Places.{path, place}
 use Rattle.model.specs.Meaning.Sheets.{half}
 use Rattle.model.proofs.Lists.Scan.{clash, and-l, and-r, below-at, or-cases}
 use Rattle.model.proofs.Maps.Dim.{two-cases}
-use Rattle.model.proofs.Cells.Cell.{rows-in}
+use Rattle.model.proofs.Cells.Rows.{rows-in}
 use Rattle.model.proofs.Cells.Chart.{place-chart}
 use Rattle.model.proofs.Layers.Sheet.{Sheet}
 use Rattle.model.proofs.Layers.Role.{keepsSheet, sheet-walk}

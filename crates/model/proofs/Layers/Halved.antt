@@ -19,12 +19,13 @@ use Rattle.model.specs.Meaning.Maps.{BlockTable}
 use Rattle.model.specs.Meaning.Sets.{Marked}
 use Rattle.model.proofs.Lists.Scan.{if-lt, clash}
 use Rattle.model.proofs.Lists.Ones.{index-in, ones-in, ones-of}
+use Rattle.model.proofs.Sets.Sizes.{length-ones}
 use Rattle.model.proofs.Maps.Dim.{two-cases}
 use Rattle.model.proofs.Maps.Rules.{link-out}
 use Rattle.model.proofs.Maps.Tables.{mapTable, rule-at}
 use Rattle.model.proofs.Operations.Changes.{changedLinks, changed-one, changed-none}
 use Rattle.model.proofs.Operations.Frame.{split-frame}
-use Rattle.model.proofs.Operations.Slots.{Rising, ones-count, ones-rising, rising-at, index-rising}
+use Rattle.model.proofs.Operations.Slots.{Rising, ones-rising, rising-at, index-rising}
 use Rattle.model.proofs.Operations.Slots.{Lowest, LowestUnused, Filled, lowest-slots, lowest-first}
 use Rattle.model.proofs.Operations.Slots.{filled-count, filled-changes}
 use Rattle.model.proofs.Layers.Sheet.{sheet-own, sheet-least, sheet-live}
@@ -44,7 +45,7 @@ module _ (n : ℕ) (t : List ℕ) (d : ℕ) where
   darts-rising = ones-rising (sheet n t d) 0
 
   pub darts-number : length sheetDarts ≡ count 1 (sheet n t d)
-  darts-number = ones-count (sheet n t d) 0
+  darts-number = length-ones (sheet n t d) 0
 
   -- the new slots, and the new dart of g: a(g), b(g), c(g) where r is 0, 1, 2
   abbrev pub newSlots : List ℕ

@@ -14,13 +14,13 @@ use Rattle.model.specs.Cell.{cellSize}
 use Rattle.model.specs.Numbering.{cellLink}
 use Rattle.model.specs.Split.{newDart, halved}
 use Rattle.model.specs.Meaning.Maps.{BlockTable, Dim}
-use Rattle.model.specs.Meaning.Places.{path, place}
+use Rattle.model.specs.Meaning.Places.{path, place, Chart}
 use Rattle.model.specs.Meaning.Sheets.{half}
 use Rattle.model.proofs.Lists.Scan.{test, if-eq, if-lt, clash, and-l, and-r, below-at, below-not}
 use Rattle.model.proofs.Lists.Ones.{member-in, in-member}
 use Rattle.model.proofs.Maps.Dim.{two-cases, size-some}
-use Rattle.model.proofs.Cells.Cell.{walk-rows, rows-in}
-use Rattle.model.proofs.Cells.Chart.{Chart, Charted, block-by, chart-kept, path-small}
+use Rattle.model.proofs.Cells.Rows.{walk-rows, rows-in, path-small}
+use Rattle.model.proofs.Cells.Chart.{Charted, block-by, chart-kept}
 use Rattle.model.proofs.Cells.Chart.{place-chart, place-zero, place-live, place-back, place-one}
 use Rattle.model.proofs.Layers.Cut.{Cut, new-in, new-one, not-new, split-cut, split-kept}
 use Rattle.model.proofs.Layers.Role.{roleTo, roleWord, roleDart, sheet-rule, role-link}

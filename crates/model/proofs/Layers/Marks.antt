@@ -23,8 +23,7 @@ use Rattle.model.proofs.Lists.Scan.{if-eq, clash}
 use Rattle.model.proofs.Lists.Ones.{ones-of, ones-in}
 use Rattle.model.proofs.Sets.Closure.{closure-least}
 use Rattle.model.proofs.Maps.Tables.{mapTable}
-use Rattle.model.proofs.Cells.Cell.{cell-least, cell-live, cell-goes}
-use Rattle.model.proofs.Cells.Chart.{own}
+use Rattle.model.proofs.Cells.Cell.{cell-own, cell-live, cell-goes}
 use Rattle.model.proofs.Layers.Sheet.{sheet-least, sheet-own, sheet-live}
 
 -- ---- two sets laid one over the other
@@ -83,17 +82,21 @@ module _ {n : ℕ} {t : List ℕ} {d : ℕ} (D : BlockDart n t d) where
   cells-least : Least (steps t (cellWords n)) (slots t) (ones S) cells
   cells-least = closure-least t (cellWords n) (ones S)
 
-  cell-own : (g : ℕ) → Marked S g → Marked (cellOf n t g) g
-  cell-own g h = own T g (sheet-live D g h)
+  cell-least : (g : ℕ) → Least (steps t (cellWords n)) (slots t) (g ∷ []) (cellOf n t g)
+  unfolding cellOf
+  cell-least g = closure-least t (cellWords n) (g ∷ [])
+
+  sheet-cell : (g : ℕ) → Marked S g → Marked (cellOf n t g) g
+  sheet-cell g h = cell-own T g (sheet-live D g h)
 
   cells-of : (x : ℕ) → Marked cells x → InCells n t S x
-  cells-of = cells-least .within (InCells n t S) (λ g i _. let h = ones-of S g i in (g, h, cell-own g h)) step
+  cells-of = cells-least .within (InCells n t S) (λ g i _. let h = ones-of S g i in (g, h, sheet-cell g h)) step
     where
       step : (x y : ℕ) → x < slots t → InCells n t S x → In y (steps t (cellWords n) x) → y < slots t → InCells n t S y
-      step x y _ (g, h, c) i low = (g, h, cell-least T g (sheet-live D g h) .closed x y c i low)
+      step x y _ (g, h, c) i low = (g, h, cell-least g .closed x y c i low)
 
   of-cells : (x : ℕ) → InCells n t S x → Marked cells x
-  of-cells x (g, h, c) = cell-least T g (sheet-live D g h) .within (Marked cells)
+  of-cells x (g, h, c) = cell-least g .within (Marked cells)
       (λ y i low. cells-least .holds y (ones-in S y (subst (Marked S) (sym (sole i)) h)) low)
       (λ y z _ p i low. cells-least .closed y z p i low) x c
 
@@ -144,12 +147,12 @@ module _ {n : ℕ} {t : List ℕ} {d : ℕ} (D : BlockDart n t d) where
   marks-cells x = go (mark-of x)
     where
       go : Mark x → (marked (marksOf n t d) x ≡ true) ↔ InCells n t S x
-      go (within h e) = (λ _. (x, h, cell-own x h), λ _. marked-of (marksOf n t d) x (omega arith))
+      go (within h e) = (λ _. (x, h, sheet-cell x h), λ _. marked-of (marksOf n t d) x (omega arith))
       go (beside h c e) = (λ _. c, λ _. marked-of (marksOf n t d) x (omega arith))
       go (elsewhere h c e) = (λ k. absurd (of-marked (marksOf n t d) x k e), λ i. absurd (c i))
 
   pub marks-own : marked (marksOf n t d) d ≡ true
-  marks-own = marks-cells d .1 (d, sheet-own D, cell-own d (sheet-own D))
+  marks-own = marks-cells d .1 (d, sheet-own D, sheet-cell d (sheet-own D))
 
   marks-long : length (marksOf n t d) ≡ slots t
   unfolding sheetMarks

@@ -12,7 +12,7 @@ use borrow.Author.Tests.{eqb-false, eq-eqb, ne-eqb, ltb-true, not-true}
 use Rattle.model.specs.Table.{link, walk}
 use Rattle.model.specs.Split.{newDart, newDartLink, halved}
 use Rattle.model.specs.Meaning.Maps.{BlockTable, Rule}
-use Rattle.model.proofs.Lists.Scan.{and-l, and-r, if-eq, or-cases}
+use Rattle.model.proofs.Lists.Scan.{and-l, and-r, or-cases, if-eq, below-three}
 use Rattle.model.proofs.Maps.Tables.{mapTable, rule-at}
 use Rattle.model.proofs.Cells.Places.{same, same-eq}
 use Rattle.model.proofs.Layers.Sheet.{Sheet}
@@ -61,12 +61,9 @@ keepsSheet (i ∷ []) = onward i
 keepsSheet (i ∷ j ∷ []) = onward i && onward j
 keepsSheet (i ∷ j ∷ k ∷ w) = (same (i ∷ j ∷ k ∷ []) opposed && keepsSheet w) || (onward i && keepsSheet (j ∷ k ∷ w))
 
-four-cases : (P : ℕ → Type 0) → P 0 → P 1 → P 2 → P 3 → (j : ℕ) → j < 4 → P j
-four-cases P p q r s zero h = p
-four-cases P p q r s (suc zero) h = q
-four-cases P p q r s (suc (suc zero)) h = r
-four-cases P p q r s (suc (suc (suc zero))) h = s
-four-cases P p q r s (suc (suc (suc (suc j)))) h = absurd (omega arith)
+below-four : (P : ℕ → Type 0) → P 0 → P 1 → P 2 → P 3 → (j : ℕ) → j < 4 → P j
+below-four P p q r s zero h = p
+below-four P p q r s (suc j) h = below-three (λ k. P (suc k)) q r s j (omega arith)
 
 module _ {n : ℕ} {t gs : List ℕ} (B : BlockTable n t) (S : Sheet n t gs) where
   pub sheet-rule : (x : ℕ) → In x gs → Rule n t x
@@ -75,7 +72,7 @@ module _ {n : ℕ} {t gs : List ℕ} (B : BlockTable n t) (S : Sheet n t gs) whe
   sheet-link : (x j : ℕ) → j < 4 → j ≢ 1 → In x gs → In (link t j x) gs
   sheet-link x j b e i =
       let two = B .dim .0 in
-      four-cases (λ j. j ≢ 1 → In (link t j x) gs)
+      below-four (λ j. j ≢ 1 → In (link t j x) gs)
       (λ _. S .along x i) (λ q. absurd (q refl)) (λ _. S .far x 2 (omega arith) two i)
       (λ _. if-eq n 2 (λ p. in-cast (sheet-rule x i .plane p) i) (λ p. S .far x 3 (omega arith) (omega arith) i)) j b e
 
@@ -107,7 +104,9 @@ module _ (n : ℕ) (t gs fs : List ℕ) (g : ℕ) where
 
   new-leads : n ≤ 3 → (n ≢ 3 → link t 3 g ≡ g) → (r j : ℕ) → r < n → j < 4 → Leads r j
   unfolding newDartLink roleTo roleWord roleDart walk
-  new-leads top flat r j b h = go r b j h
+  new-leads top flat r j b h = below-three (λ r. (j : ℕ) → j < 4 → Leads r j)
+      (below-four (Leads 0) refl refl refl (self 0)) (below-four (Leads 1) refl refl across (self 1))
+      (below-four (Leads 2) refl refl refl refl) r (omega arith) j h
     where
       -- for n = 2 the dart itself, which is the new dart of g.3
       self : (r : ℕ) → (elim (eqb n 3) [ true ↦ newDart n gs fs r (link t 3 g) | false ↦ newDart n gs fs r g ])
@@ -116,12 +115,6 @@ module _ (n : ℕ) (t gs fs : List ℕ) (g : ℕ) where
 
       across : Leads 1 2
       across = if-eq n 3 (λ e. rw (eq-eqb n 3 e)) (λ e. rw (ne-eqb n 3 e))
-
-      go : (r : ℕ) → r < n → (j : ℕ) → j < 4 → Leads r j
-      go zero b = four-cases (Leads 0) refl refl refl (self 0)
-      go (suc zero) b = four-cases (Leads 1) refl refl across (self 1)
-      go (suc (suc zero)) b = four-cases (Leads 2) refl refl refl refl
-      go (suc (suc (suc r))) b = absurd (omega arith)
 
 module _ {n : ℕ} {t gs fs : List ℕ} (C : Cut n t gs fs) where
   abbrev after : List ℕ
@@ -133,7 +126,7 @@ module _ {n : ℕ} {t gs fs : List ℕ} (C : Cut n t gs fs) where
   pub role-link : (r g j : ℕ) → r ≤ n → In g gs → j < 4
       → link after j (role r g) ≡ role (roleTo n r j) (walk t (roleWord n r j) g)
   unfolding roleDart roleTo roleWord walk
-  role-link zero g j b i h = four-cases (λ j. link after j g ≡ role (roleTo n 0 j) (walk t (roleWord n 0 j) g))
+  role-link zero g j b i h = below-four (λ j. link after j g ≡ role (roleTo n 0 j) (walk t (roleWord n 0 j) g))
       (split-cut C g i) (kept 1 (omega arith) (omega arith)) (kept 2 (omega arith) (omega arith))
       (kept 3 (omega arith) (omega arith)) j h
     where
@@ -147,13 +140,10 @@ module _ {n : ℕ} {t gs fs : List ℕ} (C : Cut n t gs fs) where
   -- for n = 2 link 3 is the dart itself
   pub role-plane : (r g : ℕ) → n ≡ 2 → r ≤ n → In g gs → link after 3 (role r g) ≡ role r g
   unfolding roleDart roleTo roleWord walk
-  role-plane r g p b i = role-link r g 3 b i (omega arith) ∙ go r (omega arith)
+  role-plane r g p b i = role-link r g 3 b i (omega arith) ∙ below-three Self flat (ap (role 1) flat) (ap (role 2) flat) r (omega arith)
     where
+      Self : ℕ → Type 0
+      Self r = role (roleTo n r 3) (walk t (roleWord n r 3) g) ≡ role r g
+
       flat : link t 3 g ≡ g
       flat = sheet-rule (C .table) (C .sheet) g i .plane p
-
-      go : (r : ℕ) → r ≤ 2 → role (roleTo n r 3) (walk t (roleWord n r 3) g) ≡ role r g
-      go zero h = flat
-      go (suc zero) h = ap (role 1) flat
-      go (suc (suc zero)) h = ap (role 2) flat
-      go (suc (suc (suc r))) h = absurd (omega arith)

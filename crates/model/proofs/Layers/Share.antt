@@ -17,16 +17,17 @@ use Rattle.model.specs.Sheet.{sheet}
 use Rattle.model.specs.Split.{crosses}
 use Rattle.model.specs.Everything.{everything}
 use Rattle.model.specs.Meaning.Maps.{Dim, MapTable, BlockTable}
-use Rattle.model.specs.Meaning.Places.{place}
+use Rattle.model.specs.Meaning.Places.{place, Chart}
 use Rattle.model.specs.Meaning.Sets.{Marked}
 use Rattle.model.specs.Meaning.Sheets.{BlockDart, shared, half}
-use Rattle.model.proofs.Lists.Scan.{test, if-lt, and-l, and-r, and-i, length-tabFrom}
+use Rattle.model.proofs.Lists.Scan.{test, if-lt, and-l, and-r, and-i, length-tabFrom, tab-in, in-tab}
 use Rattle.model.proofs.Lists.Ones.{ones-of, ones-in}
-use Rattle.model.proofs.Sets.Pigeon.{Distinct, more}
+use Rattle.model.proofs.Sets.Pigeon.{Distinct, more, distinct-tab}
 use Rattle.model.proofs.Maps.Tables.{mapTable, live-below}
 use Rattle.model.proofs.Maps.Dim.{two-cases, size-some}
-use Rattle.model.proofs.Cells.Cell.{rows-in, all-places, place-in, tab-in, in-tab, distinct-tab}
-use Rattle.model.proofs.Cells.Chart.{Chart, place-chart, place-zero, place-one, cell-same}
+use Rattle.model.proofs.Cells.Rows.{rows-in}
+use Rattle.model.proofs.Cells.Cell.{all-places, place-in, cell-same}
+use Rattle.model.proofs.Cells.Chart.{place-chart, place-zero, place-one}
 use Rattle.model.proofs.Layers.Counts.{howMany-least, howMany-most, howMany-none}
 use Rattle.model.proofs.Layers.Sheet.{sheet-live, sheet-of, crosses-some, crosses-none}
 use Rattle.model.proofs.Layers.Half.{half-size, in-half, out-crosses}
@@ -64,7 +65,7 @@ module _ {n : ℕ} {t : List ℕ} {d : ℕ} (D : BlockDart n t d) where
     in-both y s c = (live-below T y (sheet-live D y s), and-i (eq-eqb _ _ s) (eq-eqb _ _ c))
 
     place-cell : (k : ℕ) → k < cellSize n → Marked (cellOf n t g) (place n t g k)
-    place-cell k low = let chart = place-chart B g lives in place-in T g lives (chart .follow) (chart .apart) k low
+    place-cell k low = place-in T g lives k low
 
     first-both : (y : ℕ) → In y first → (y < slots t) × ((inSet S y && inSet (cellOf n t g) y) ≡ true)
     first-both y i =
@@ -89,7 +90,7 @@ module _ {n : ℕ} {t : List ℕ} {d : ℕ} (D : BlockDart n t d) where
     -- where no dart of S has its link 1 in S, the other places have no dart of S
     only-first : crosses t S (ones S) ≡ false → (y : ℕ) → Marked S y → Marked (cellOf n t g) y → In y first
     only-first uncrossed y s c =
-        let (k, low, at) = all-places T g lives (B .good g lives) y c in
+        let (k, low, at) = all-places T g lives (place-chart B g lives .follow) y c in
         if-lt k (half n) (λ b. in-cast at (tab-in (place n t g) (half n) 0 k (omega arith) (omega arith))) (λ b.
         let (x, i, j) = out-crosses B (sheet-of D) g k (ones-in S g in-s) b low (ones-in S _ (rw at at s)) in
         absurd (crosses-none t S uncrossed x i j))

@@ -19,9 +19,10 @@ use Rattle.model.proofs.Lists.Ones.{in-or}
 use Rattle.model.proofs.Maps.Dim.{two-cases}
 use Rattle.model.proofs.Maps.Tables.{mapTable, live-below, rule-at}
 use Rattle.model.proofs.Sewing.Side.{past}
-use Rattle.model.proofs.Cells.Cell.{rowWalk, small, cell-words}
+use Rattle.model.proofs.Cells.Rows.{rowWalk, small}
+use Rattle.model.proofs.Cells.Cell.{cell-words}
 use Rattle.model.proofs.Cells.Places.{same, same-eq}
-use Rattle.model.proofs.Cells.Chart.{Ruled, ruled-table, live-of, of-live, live-same, keep}
+use Rattle.model.proofs.Cells.Chart.{Ruled, ruled-table, live-of, of-live, live-same, word-keeps}
 use Rattle.model.proofs.Operations.Frame.{split-frame}
 use Rattle.model.proofs.Layers.Walk.{walk-append}
 use Rattle.model.proofs.Layers.Cut.{Cut, IsNew, slot-new, new-in, split-slots, split-whole, split-kept}
@@ -66,8 +67,8 @@ module _ {n : ℕ} {t : List ℕ} (B : BlockTable n t) where
   unfolding walk small rowWalk
   around-back e g l =
       let y = walk t opposed g in
-      let ly = keep B (λ _. Unit {0}) (λ _ _ _ _ _. tt) opposed (rw e) g l tt .0 in
-      let lz = keep B (λ _. Unit {0}) (λ _ _ _ _ _. tt) opposed (rw e) y ly tt .0 in
+      let ly = word-keeps B (λ _. Unit {0}) (λ _ _ _ _ _. tt) opposed (rw e) g l tt .0 in
+      let lz = word-keeps B (λ _. Unit {0}) (λ _ _ _ _ _. tt) opposed (rw e) y ly tt .0 in
       let rows = opposed-rows n (B .dim) in
       ap (link t 3) (walk-past e opposed y refl ly) ∙ rule (walk t opposed y) lz .comes 3 (omega arith)
       ∙ cell-words (mapTable B) g l (B .good g l) (opposed ++ opposed) [] (rows .0) refl (rows .1)

@@ -19,7 +19,7 @@ use Rattle.model.specs.Meaning.Places.{path}
 use Rattle.model.specs.Meaning.Sheets.{half}
 use Rattle.model.proofs.Lists.Scan.{clash, and-l, and-r, and-i, below-at, below-not, or-cases}
 use Rattle.model.proofs.Maps.Dim.{two-cases}
-use Rattle.model.proofs.Cells.Cell.{rowWalk, small}
+use Rattle.model.proofs.Cells.Rows.{rowWalk, small}
 use Rattle.model.proofs.Layers.Role.{roleTo, roleWord}
 
 -- a role of a place

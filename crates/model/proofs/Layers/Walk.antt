@@ -18,8 +18,9 @@ use Rattle.model.proofs.Sets.Escape.{leave, OneWay, escapes}
 use Rattle.model.proofs.Maps.Dim.{two-cases}
 use Rattle.model.proofs.Maps.Tables.{mapTable, live-below, rule-at}
 use Rattle.model.proofs.Sewing.Side.{past}
-use Rattle.model.proofs.Cells.Cell.{cell-words, rowWalk, small}
-use Rattle.model.proofs.Cells.Chart.{keep}
+use Rattle.model.proofs.Cells.Rows.{rowWalk, small}
+use Rattle.model.proofs.Cells.Cell.{cell-words}
+use Rattle.model.proofs.Cells.Chart.{word-keeps}
 
 pub walk-append : (t v w : List ℕ) (x : ℕ) → walk t (v ++ w) x ≡ walk t w (walk t v x)
 unfolding walk
@@ -79,7 +80,7 @@ module _ {n : ℕ} {t : List ℕ} (B : BlockTable n t) where
 
   facing-keeps : (P : ℕ → Type 0) → ((x j : ℕ) → j < n → live t x ≡ true → P x → P (link t j x)) → (x : ℕ) → live t x ≡ true → P x
       → (live t (facing n t x) ≡ true) × P (facing n t x)
-  facing-keeps P kept x l = keep B P kept (opposite n) (opposite-small n (B .dim)) x l
+  facing-keeps P kept x l = word-keeps B P kept (opposite n) (opposite-small n (B .dim)) x l
 
   facing-live : (x : ℕ) → live t x ≡ true → live t (facing n t x) ≡ true
   facing-live x l = facing-keeps (λ _. Unit {0}) (λ _ _ _ _ _. tt) x l tt .0

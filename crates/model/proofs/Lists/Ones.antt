@@ -105,11 +105,11 @@ unfolding onesFrom
 ones-from [] a x i = absurd (not-nil i)
 ones-from (y ∷ l) a x i =
     let rec = ones-from l (suc a) x in
-    let later : In x (onesFrom (suc a) l) → (k : ℕ) × (x ≡ a + k) × Marked (y ∷ l) k = λ j.
-    let (k, e, h) = rec j in
-    (suc k, omega arith, h) in
-    if-eq y 1 (λ e. ⊎-elim (λ h. (0, omega arith, e)) later (in-cons (rw (ones-one a y l e) at i)))
-    (λ e. later (rw (ones-other a y l e) at i))
+    if-eq y 1 (λ e. ⊎-elim (λ h. (0, omega arith, e)) (λ j. later (rec j)) (in-cons (rw (ones-one a y l e) at i)))
+    (λ e. later (rec (rw (ones-other a y l e) at i)))
+  where
+    later : (k : ℕ) × (x ≡ suc a + k) × Marked l k → (k : ℕ) × (x ≡ a + k) × Marked (y ∷ l) k
+    later (k, e, h) = (suc k, omega arith, h)
 
 pub ones-of : (l : List ℕ) (x : ℕ) → In x (onesFrom 0 l) → Marked l x
 ones-of l x i =

@@ -39,6 +39,10 @@ pub or-i : (a b : Bool) → (a ≡ true) ⊎ (b ≡ true) → (a || b) ≡ true
 or-i true b h = refl
 or-i false b h = ⊎-elim (λ e. absurd (clash e refl)) (λ e. e) h
 
+pub or-false : (a b : Bool) → (a || b) ≡ false → (a ≡ false) × (b ≡ false)
+or-false true b h = absurd (clash refl h)
+or-false false b h = (refl, h)
+
 pub bool-cases : (b : Bool) → (b ≡ true) ⊎ (b ≡ false)
 bool-cases true = inl refl
 bool-cases false = inr refl
@@ -57,6 +61,12 @@ if-eq {P} a b f g = go (ℕ-discrete a b)
 
 pub if-lt : {P : Type 0} (a b : ℕ) → (a < b → P) → (b ≤ a → P) → P
 if-lt a b f g = test (ltb a b) (λ e. f (ltb-true a b e)) (λ e. g (ltb-false a b e))
+
+pub below-three : (P : ℕ → Type 0) → P 0 → P 1 → P 2 → (i : ℕ) → i < 3 → P i
+below-three P a b c zero l = a
+below-three P a b c (suc zero) l = b
+below-three P a b c (suc (suc zero)) l = c
+below-three P a b c (suc (suc (suc i))) l = absurd (omega arith)
 
 module _ (p : ℕ → Bool) where
   -- ---- every number
@@ -150,14 +160,16 @@ module _ (p : ℕ → Bool) where
   from-by zero a d r = omega arith
   from-by (suc k) a d r =
       let rec = from-by k (suc a) d in
-      let stop : d ≡ a → leastFrom (suc k) a p ≡ d = λ e. least-stop k a (ap p (sym e) ∙ r .passes (omega arith)) ∙ sym e in
-      let later : d ≢ a → First (suc a) (suc a + k) d = λ e. record {
+      if-eq d a (λ e. least-stop k a (ap p (sym e) ∙ r .passes (omega arith)) ∙ sym e)
+      (λ e. least-step k a (r .before a (omega arith) (omega arith)) ∙ rec (later e))
+    where
+      later : d ≢ a → First (suc a) (suc a + k) d
+      later e = record {
         low = omega arith;
         high = omega arith;
         passes = λ l. r .passes (omega arith);
         before = λ i l u. r .before i (omega arith) u;
-      } in
-      if-eq d a stop (λ e. least-step k a (r .before a (omega arith) (omega arith)) ∙ rec (later e))
+      }
 
   -- `least` gives the first that passes, and nothing else is that
   pub least-is : (k : ℕ) → First 0 k (least k p)
@@ -167,6 +179,11 @@ module _ (p : ℕ → Bool) where
   pub least-by : (k d : ℕ) → First 0 k d → least k p ≡ d
   unfolding least
   least-by k d r = from-by k 0 d (subst (λ (b : ℕ). First 0 b d) (omega arith) r)
+
+-- every pair of numbers
+pub below-both : (p : ℕ → ℕ → Bool) (k l : ℕ) → allBelow k (λ a. allBelow l (p a)) ≡ true
+    → (a b : ℕ) → a < k → b < l → p a b ≡ true
+below-both p k l h a b ha hb = below-at (p a) l (below-at (λ a. allBelow l (p a)) k h a ha) b hb
 
 -- ---- how often a number stands in a list
 
@@ -180,13 +197,16 @@ module _ (v a : ℕ) where
       let rec = count-change m x d (le-of-suc-le-suc l) h e in
       test (eqb y v) (λ q. rw (q, count) (ap suc rec)) (λ q. rw (q, count) rec)
 
+  count-more : (y : ℕ) (m : List ℕ) → count v m ≤ count v (y ∷ m)
+  unfolding count
+  count-more y m = test (eqb y v) (λ q. rw (q, count) (omega arith)) (λ q. rw (q, count) (omega arith))
+
   -- one entry that is replaced
   pub count-le : (m : List ℕ) (x : ℕ) → count v m ≤ suc (count v (set m x a))
   unfolding count
   count-le [] x = omega arith
   count-le (y ∷ m) zero =
-      let more : count v m ≤ count v (a ∷ m) =
-      test (eqb a v) (λ q. rw (q, count) (omega arith)) (λ q. rw (q, count) (omega arith)) in
+      let more = count-more a m in
       test (eqb y v) (λ q. rw (q, count) (omega arith)) (λ q. rw (q, count) (omega arith))
   count-le (y ∷ m) (suc x) =
       let rec = count-le m x in

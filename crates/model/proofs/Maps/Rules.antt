@@ -14,7 +14,7 @@ use Rattle.model.specs.Table.{unused, slots, link, walk, live, retable, 
 use Rattle.model.specs.Map.{returns, linked, crossed, keepsRules, breaksRule, leastBreaking, isMap}
 use Rattle.model.specs.Meaning.Maps.{Map, MapTable, Rule}
 use Rattle.model.specs.Meaning.Pairings.{Far}
-use Rattle.model.proofs.Lists.Scan.{and-l, and-r, and-i, test, if-eq, if-lt, clash, below-at, below-of}
+use Rattle.model.proofs.Lists.Scan.{and-l, and-r, and-i, test, if-eq, if-lt, clash, below-at, below-of, below-both}
 use Rattle.model.proofs.Lists.Scan.{length-tab, getD-tab}
 use Rattle.model.proofs.Maps.Failing.{failing, none-failing}
 
@@ -52,9 +52,7 @@ module _ (n : ℕ) (t : List ℕ) (d : ℕ) where
       links = and-l linksKeep pairsKeep (and-l (linksKeep && pairsKeep) planeKeeps h)
 
       pair : (i j : ℕ) → i < 4 → j < suc n → crossed t d i j ≡ true
-      pair i j hi hj =
-          let pairs = and-r linksKeep pairsKeep (and-l (linksKeep && pairsKeep) planeKeeps h) in
-          below-at (crossed t d i) (suc n) (below-at (λ k. allBelow (suc n) (crossed t d k)) 4 pairs i hi) j hj
+      pair = below-both (crossed t d) 4 (suc n) (and-r linksKeep pairsKeep (and-l (linksKeep && pairsKeep) planeKeeps h))
 
   pub of-rule : Rule n t d → keepsRules n t d ≡ true
   unfolding keepsRules linked returns walk

@@ -16,15 +16,16 @@ use Rattle.model.specs.Table.{unused, slots, link, live, unusedSlots, li
 use Rattle.model.specs.Cell.{cellSize, cellOf, goodCell}
 use Rattle.model.specs.Journal.{changesFrom}
 use Rattle.model.specs.Numbering.{cellLink}
-use Rattle.model.specs.Add.{addSlots, addTable}
+use Rattle.model.specs.Add.{addSlots, addedLink, added, addTable}
 use Rattle.model.specs.Meaning.Maps.{Dim, MapTable}
 use Rattle.model.proofs.Lists.Scan.{if-eq, if-lt, clash}
 use Rattle.model.proofs.Lists.Ones.{getD-in, getD-index, index-in, in-or}
 use Rattle.model.proofs.Maps.Dim.{size-some}
-use Rattle.model.proofs.Maps.Rules.{link-out, live-by}
-use Rattle.model.proofs.Cells.Cell.{rows-in, cell-live}
-use Rattle.model.proofs.Cells.Chart.{live-same, chart-good}
-use Rattle.model.proofs.Cells.Add.{add-new, add-slots, add-table}
+use Rattle.model.proofs.Maps.Rules.{link-out, live-by, slots-retable, length-retable}
+use Rattle.model.proofs.Cells.Rows.{rows-in}
+use Rattle.model.proofs.Cells.Cell.{cell-live}
+use Rattle.model.proofs.Cells.Chart.{live-same, chart-cell}
+use Rattle.model.proofs.Cells.Add.{add-new, add-table}
 use Rattle.model.proofs.Operations.Frame.{add-frame, cell-kept}
 use Rattle.model.proofs.Operations.Slots.{Lowest, LowestUnused, Filled, lowest-slots, lowest-first, rising-at}
 use Rattle.model.proofs.Operations.Slots.{filled-count, filled-only}
@@ -72,10 +73,12 @@ module _ {n : ℕ} {t : List ℕ} (T : MapTable n t) (room : length (addSlots n 
   add-made = add-table T (add-lowest .vacant) room
 
   pub add-length : length (addTable n t) ≡ length t
-  unfolding addTable
-  add-length =
-      let same = add-slots T (add-lowest .vacant) room in
-      add-made .whole ∙ ap (λ (k : ℕ). 4 * k) same ∙ sym (T .whole)
+  unfolding addTable added
+  add-length = length-retable t (addedLink n t (addSlots n t)) (T .whole)
+
+  add-slots : slots (addTable n t) ≡ slots t
+  unfolding addTable added
+  add-slots = slots-retable t (addedLink n t (addSlots n t)) (T .whole)
 
   -- "Place: first slot"
   pub add-place : LowestUnused t (getD (addSlots n t) 0 0)
@@ -85,13 +88,13 @@ module _ {n : ℕ} {t : List ℕ} (T : MapTable n t) (room : length (addSlots n 
   unfolding addTable
   add-stays x j b out = if-lt x (slots t) (λ low. add-frame t (T .whole) x low n (addSlots n t) out j b)
       (λ high.
-      let same = add-slots T (add-lowest .vacant) room in
+      let same = add-slots in
       link-out (addTable n t) x (add-made .whole) (omega arith) j ∙ sym (link-out t x (T .whole) high j))
 
   -- the live slots after are those before and the new cell's
   pub add-filled : Filled t (addTable n t) (addSlots n t)
   unfolding addTable
-  add-filled = record { same = add-slots T (add-lowest .vacant) room; kept = kept; made = made; only = only }
+  add-filled = record { same = add-slots; kept = kept; made = made; only = only }
     where
       same : (x : ℕ) → (In x (addSlots n t) → ⊥) → live (addTable n t) x ≡ live t x
       same x out = live-same t (addTable n t) x (λ j b. add-stays x j b out)
@@ -118,7 +121,7 @@ module _ {n : ℕ} {t : List ℕ} (T : MapTable n t) (room : length (addSlots n 
   pub add-cell : (k : ℕ) → k < cellSize n → goodCell n (addTable n t) (cellOf n (addTable n t) (newAt n t k)) ≡ true
   add-cell =
       let base = add-filled .made _ (new-in 0 (size-some n (T .dim))) in
-      chart-good add-made (newAt n t) (record { follow = follow; apart = apart }) base
+      chart-cell add-made (newAt n t) (record { follow = follow; apart = apart }) base
     where
       follow : (j k : ℕ) → j < n → k < cellSize n → link (addTable n t) j (newAt n t k) ≡ newAt n t (cellLink n j k)
       follow j k b h = let top = T .dim .1 in add-links j k (omega arith) h

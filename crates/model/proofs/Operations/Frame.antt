@@ -17,8 +17,7 @@ use Rattle.model.specs.Meaning.Sets.{Marked, LeastSet, ByLink}
 use Rattle.model.proofs.Lists.Scan.{if-eq}
 use Rattle.model.proofs.Maps.Rules.{link-retable}
 use Rattle.model.proofs.Lists.Ones.{index-out}
-use Rattle.model.proofs.Sets.Closure.{least-set-unique}
-use Rattle.model.proofs.Sets.Least.{cell-is}
+use Rattle.model.proofs.Sets.Least.{least-set-unique, cell-is}
 
 -- the walk across removed cells stops at once outside of them
 pub outside-stops : (n : ℕ) (t m : List ℕ) (fuel y : ℕ) → marked m y ≡ false → outside n t m fuel y ≡ y

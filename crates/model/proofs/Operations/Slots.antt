@@ -1,7 +1,7 @@
 -- The lowest unused slots, which add and split fill (`Lowest`, `lowest-slots`), and once they are filled (`Filled`) the
 -- number of live slots (`filled-count`) and of entries changed (`filled-changes`, `filled-only`).
 use Prim.Native.Nat.{ℕ, zero, suc, _+_, _*_, _≤_, _<_}
-use mathlib.Core.Path.{_≡_, refl, sym, ap, _∙_, subst}
+use mathlib.Core.Path.{_≡_, sym, ap, _∙_, subst}
 use mathlib.Core.Logic.{_⊎_, inl, inr, _≢_, ⊎-elim}
 use mathlib.Core.Bool.{true, false}
 use mathlib.Core.List.{List, [], _∷_, _++_, List·Memᴰ as In, List·Memᴰ·not-nil as not-nil, List·Memᴰ·cases-cons as in-cons}
@@ -54,13 +54,6 @@ module _ (a y : ℕ) (l : List ℕ) where
   ones-step : (P : List ℕ → Type 0) → P (a ∷ onesFrom (suc a) l) → P (onesFrom (suc a) l) → P (onesFrom a (y ∷ l))
   unfolding onesFrom
   ones-step P p q = if-eq y 1 (λ e. rw (eq-eqb y 1 e, onesFrom) p) (λ e. rw (ne-eqb y 1 e, onesFrom) q)
-
-pub ones-count : (l : List ℕ) (a : ℕ) → length (onesFrom a l) ≡ count 1 l
-unfolding onesFrom count
-ones-count [] a = refl
-ones-count (y ∷ l) a =
-    let rest = ones-count l (suc a) in
-    if-eq y 1 (λ e. rw (eq-eqb y 1 e, onesFrom, count) (ap suc rest)) (λ e. rw (ne-eqb y 1 e, onesFrom, count) rest)
 
 ones-from : (l : List ℕ) (a x : ℕ) → In x (onesFrom a l) → a ≤ x
 unfolding onesFrom

@@ -1,5 +1,5 @@
--- The computed closure is the least set that holds the seeds and is closed under the steps, and there is one such set only.
--- Main theorems: `closure-least`, `least-set-unique`; `marked-in` (what is marked is a slot).
+-- The computed closure is the least set that holds the seeds and is closed under the steps.
+-- Main theorems: `closure-least`; `marked-in` (what is marked is a slot).
 use Prim.Native.Nat.{ℕ, zero, suc, _+_, _*_, _≤_, _<_}
 use mathlib.Core.Path.{_≡_, refl, sym, ap, _∙_}
 use mathlib.Core.Logic.{_⊎_, inl, inr, ⊎-elim}
@@ -10,13 +10,13 @@ use mathlib.Core.List.{Memᴰ·append-left as in-left, Memᴰ·append-right as i
 use native.Mathlib.Nat.{le-refl, le-of-eq, mul-suc, not-suc-le-zero, le-of-suc-le-suc}
 use native.Mathlib.Omega.{arith}
 use lib.ListN.{length, getD, set, replicate, length-set, length-append, length-replicate}
-use lib.Seq.{getD-set-same, getD-set-other, ext-getD}
+use lib.Seq.{getD-set-same, getD-set-other}
 use lib.Dec.{eqb}
 use borrow.Author.Tests.{eq-eqb, eqb-true, eqb-false}
 use Rattle.model.specs.Lists.{count}
 use Rattle.model.specs.Table.{slots}
 use Rattle.model.specs.Reach.{flood, steps, closure}
-use Rattle.model.specs.Meaning.Sets.{Bits, Least, LeastSet, Marked}
+use Rattle.model.specs.Meaning.Sets.{Bits, Least, Marked}
 use Rattle.model.proofs.Lists.Scan.{test, if-eq, count-change}
 
 -- ---- lists of marks
@@ -174,28 +174,25 @@ module _ (f : ℕ → List ℕ) where
     flood-done zero (z ∷ todo) m fuel bs up = absurd (omega arith)
     flood-done (suc k) (z ∷ todo) m fuel bs up =
         let rec = flood-done k in
-        let new : getD m z 1 ≡ 0 → Done (z ∷ todo) m (flood f (suc k) (z ∷ todo) m) = λ e.
-        rw (flood-new k z todo m e) (new-done z todo m e _
-        (rec (f z ++ todo) (set m z 1) (less k z todo m e fuel) (set-bits m z e bs) (new-up z todo m e up))) in
-        let old : eqb (getD m z 1) 0 ≡ false → Done (z ∷ todo) m (flood f (suc k) (z ∷ todo) m) = λ e.
-        let hz = bits-marked m z bs (eqb-false (getD m z 1) 0 e) in
-        rw (flood-old k z todo m e) (old-done z todo m hz _ (rec todo m (omega arith) bs (old-up z todo m hz up))) in
-        test (eqb (getD m z 1) 0) (λ e. new (eqb-true _ _ e)) old
+        test (eqb (getD m z 1) 0) (λ e. new rec (eqb-true _ _ e)) (old rec)
+      where
+        After : Type 0
+        After = Done (z ∷ todo) m (flood f (suc k) (z ∷ todo) m)
 
--- ---- the least closed set
+        Rest : Type 0
+        Rest = (todo m : List ℕ) → Enough k todo m → Bits m → Upto todo m → Done todo m (flood f k todo m)
 
-module _ {n : ℕ} {Seed : ℕ → Type 0} {Step : ℕ → ℕ → Type 0} where
-  least-set-within : {r s : List ℕ} → LeastSet n Seed Step r → LeastSet n Seed Step s → (x : ℕ) → Marked r x → Marked s x
-  least-set-within {r} {s} p q = p .within (Marked s) (q .holds) (λ x y _. q .closed x y)
+        new : Rest → getD m z 1 ≡ 0 → After
+        new rec e =
+            let r = rec (f z ++ todo) (set m z 1) (less k z todo m e fuel) (set-bits m z e bs) (new-up z todo m e up) in
+            rw (flood-new k z todo m e) (new-done z todo m e _ r)
 
-  -- it is one list of marks, whatever has found it
-  pub least-set-unique : {r s : List ℕ} → LeastSet n Seed Step r → LeastSet n Seed Step s → r ≡ s
-  least-set-unique {r} {s} p q = ext-getD 0 r s (p .long ∙ sym (q .long)) (λ i _. same i (p .bits i) (q .bits i))
-    where
-      same : (i : ℕ) → (getD r i 0 ≡ 0) ⊎ (getD r i 0 ≡ 1) → (getD s i 0 ≡ 0) ⊎ (getD s i 0 ≡ 1) → getD r i 0 ≡ getD s i 0
-      same i (inr a) b = a ∙ sym (least-set-within p q i a)
-      same i (inl a) (inl b) = a ∙ sym b
-      same i (inl a) (inr b) = least-set-within q p i b ∙ sym b
+        old : Rest → eqb (getD m z 1) 0 ≡ false → After
+        old rec e =
+            let hz = bits-marked m z bs (eqb-false (getD m z 1) 0 e) in
+            rw (flood-old k z todo m e) (old-done z todo m hz _ (rec todo m (omega arith) bs (old-up z todo m hz up)))
+
+-- ---- the closure
 
 zeros-bits : (n : ℕ) → Bits (replicate n 0)
 zeros-bits zero i = inl refl

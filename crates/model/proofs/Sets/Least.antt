@@ -1,12 +1,14 @@
 -- Cell, orbit, side and sheet are each the least set that holds its dart and is closed under the links that document 01 names.
--- Main theorems: `cell-is`, `orbit-is`, `side-is`, `sheet-is`; that there is one such set only is `least-set-unique` (Closure).
+-- Main theorems: `least-set-unique` (there is one such set only); `cell-is`, `orbit-is`, `side-is`, `sheet-is`.
 use Prim.Native.Nat.{ℕ, suc, _+_, _≤_, _<_}
-use mathlib.Core.Path.{_≡_}
-use mathlib.Core.Logic.{_↔_, Iff·rfl, Iff·and, inl, inr, ⊎-elim}
+use mathlib.Core.Path.{_≡_, sym, _∙_}
+use mathlib.Core.Logic.{_⊎_, inl, inr, ⊎-elim, _↔_, Iff·rfl, Iff·and}
 use mathlib.Core.Bool.{Bool, true, _||_}
 use mathlib.Core.List.{List, [], _∷_, List·Memᴰ as In, List·Memᴰ·cases-cons as in-cons, List·Memᴰ·eq-of-singleton as sole}
 use mathlib.Core.List.{List·Memᴰ·head as here, List·Memᴰ·tail as there, Memᴰ·cast as in-cast}
 use native.Mathlib.Omega.{arith}
+use lib.ListN.{getD}
+use lib.Seq.{ext-getD}
 use lib.Dec.{ltb, leb}
 use borrow.Author.Tests.{ltb-true, lt-ltb, leb-true, le-leb}
 use Rattle.model.specs.Table.{slots, walk}
@@ -15,11 +17,26 @@ use Rattle.model.specs.Cell.{cellWords, cellOf}
 use Rattle.model.specs.Orbit.{bit, orbitWords, orbit}
 use Rattle.model.specs.Sew.{sideWords, side}
 use Rattle.model.specs.Sheet.{sheetWords, sheet}
-use Rattle.model.specs.Meaning.Sets.{LeastSet, ByLink, SheetStep, along, across, beside}
+use Rattle.model.specs.Meaning.Sets.{Marked, LeastSet, ByLink, SheetStep, along, across, beside}
 use Rattle.model.specs.Meaning.Pairings.{Far}
 use Rattle.model.proofs.Lists.Scan.{or-cases, or-i}
 use Rattle.model.proofs.Sets.Closure.{closure-least}
 use Rattle.model.proofs.Sets.Links.{step-in, step-of}
+
+-- ---- there is one least set only
+
+module _ {n : ℕ} {Seed : ℕ → Type 0} {Step : ℕ → ℕ → Type 0} where
+  least-set-within : {r s : List ℕ} → LeastSet n Seed Step r → LeastSet n Seed Step s → (x : ℕ) → Marked r x → Marked s x
+  least-set-within {r} {s} p q = p .within (Marked s) (q .holds) (λ x y _. q .closed x y)
+
+  -- it is one list of marks, whatever has found it
+  pub least-set-unique : {r s : List ℕ} → LeastSet n Seed Step r → LeastSet n Seed Step s → r ≡ s
+  least-set-unique {r} {s} p q = ext-getD 0 r s (p .long ∙ sym (q .long)) (λ i _. same i (p .bits i) (q .bits i))
+    where
+      same : (i : ℕ) → (getD r i 0 ≡ 0) ⊎ (getD r i 0 ≡ 1) → (getD s i 0 ≡ 0) ⊎ (getD s i 0 ≡ 1) → getD r i 0 ≡ getD s i 0
+      same i (inr a) b = a ∙ sym (least-set-within p q i a)
+      same i (inl a) (inl b) = a ∙ sym b
+      same i (inl a) (inr b) = least-set-within q p i b ∙ sym b
 
 -- ---- the closure of one dart, with its steps as a property
 

@@ -44,12 +44,14 @@ module _ (m : List ℕ) (y : ℕ) where
 pub cover : (l m : List ℕ) → ((x : ℕ) → Marked m x → In x l) → count 1 m ≤ length l
 cover [] m h = let e = count-none m (λ x p. not-nil (h x p)) in omega arith
 cover (y ∷ l) m h =
-    let rest : (x : ℕ) → Marked (set m y 0) x → In x l = λ x p.
-    let (other, q) = drop-other m y x p in
-    ⊎-elim (λ (e : x ≡ y). absurd (other e)) (λ i. i) (in-cons (h x q)) in
     let r = cover l (set m y 0) rest in
     let c = count-le 1 0 m y in
     omega arith
+  where
+    rest : (x : ℕ) → Marked (set m y 0) x → In x l
+    rest x p =
+        let (other, q) = drop-other m y x p in
+        ⊎-elim (λ (e : x ≡ y). absurd (other e)) (λ i. i) (in-cons (h x q))
 
 pub data Distinct : List ℕ → Type 0 where
   none : Distinct []
@@ -69,21 +71,30 @@ pub distinct-tab : (f : ℕ → ℕ) (n a : ℕ) → ((k l : ℕ) → k < l → 
 unfolding tabulateFrom
 distinct-tab f zero a h = none
 distinct-tab f (suc n) a h =
-    let once : In (f a) (tabulateFrom n (suc a) f) → ⊥ = λ i.
-    let (k, l, u, e) = in-tab f n (suc a) (f a) i in
-    h a k (omega arith) (omega arith) e in
     more once (distinct-tab f n (suc a) (λ k l kl b. h k l kl (omega arith)))
+  where
+    once : In (f a) (tabulateFrom n (suc a) f) → ⊥
+    once i =
+        let (k, l, u, e) = in-tab f n (suc a) (f a) i in
+        h a k (omega arith) (omega arith) e
 
 module _ (m : List ℕ) (f : ℕ → ℕ) (k : ℕ) (all : (x : ℕ) → Marked m x → (j : ℕ) × (j < k) × (x ≡ f j)) where
   -- each of them marked, no two the same: they are k
   pub count-by : ((j : ℕ) → j < k → Marked m (f j)) → ((a b : ℕ) → a < b → b < k → f a ≡ f b → ⊥) → count 1 m ≡ k
   count-by marks apart =
-      let l = tabulateFrom k 0 f in
-      let a = cover l m (λ x h. let (j, b, e) = all x h in in-cast e (tab-in f k 0 j (omega arith) (omega arith))) in
-      let b = distinct-le l m (distinct-tab f k 0 (λ a b ab h. apart a b ab (omega arith)))
-      (λ x i. let (j, _, h, e) = in-tab f k 0 x i in rw e (marks j (omega arith))) in
+      let a = cover l m listed in
+      let b = distinct-le l m (distinct-tab f k 0 (λ a b ab h. apart a b ab (omega arith))) marked in
       let c = length-tabFrom f k 0 in
       omega arith
+    where
+      l : List ℕ
+      l = tabulateFrom k 0 f
+
+      listed : (x : ℕ) → Marked m x → In x l
+      listed x h = let (j, b, e) = all x h in in-cast e (tab-in f k 0 j (omega arith) (omega arith))
+
+      marked : (x : ℕ) → In x l → Marked m x
+      marked x i = let (j, a, b, e) = in-tab f k 0 x i in rw e (marks j (omega arith))
 
   -- they are k: no two the same
   pub apart-by : count 1 m ≡ k → (a b : ℕ) → a < b → b < k → f a ≡ f b → ⊥
