@@ -140,7 +140,8 @@ module _ {n : ℕ} {t gs fs : List ℕ} (C : Cut n t gs fs) where
   -- for n = 2 link 3 is the dart itself
   pub role-plane : (r g : ℕ) → n ≡ 2 → r ≤ n → In g gs → link after 3 (role r g) ≡ role r g
   unfolding roleDart roleTo roleWord walk
-  role-plane r g p b i = role-link r g 3 b i (omega arith) ∙ below-three Self flat (ap (role 1) flat) (ap (role 2) flat) r (omega arith)
+  role-plane r g p b i =
+      role-link r g 3 b i (omega arith) ∙ below-three Self flat (ap (role 1) flat) (ap (role 2) flat) r (omega arith)
     where
       Self : ℕ → Type 0
       Self r = role (roleTo n r 3) (walk t (roleWord n r 3) g) ≡ role r g
