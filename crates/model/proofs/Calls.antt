@@ -1,3 +1,5 @@
+pub mod Checks
 pub mod Pass
 pub mod Ends
+pub mod Untouched
 pub mod Kept

@@ -1,4 +1,5 @@
 pub mod Record
 pub mod Log
 pub mod Ops
+pub mod Invariant
 pub mod Demand

@@ -1,0 +1,244 @@
+-- Checks in order: where all pass each does; a refusal is that of a check, so it has a number of the list.
+-- `call-numbers`: the checks of each call have the numbers of 01's table.
+-- `refusal-says`: what a refusal says by its number. `number-exactly`: when a call refuses by a number.
+use Prim.Native.Nat.{ℕ, zero, suc}
+use mathlib.Core.Path.{_≡_, refl, sym, ap, _∙_}
+use mathlib.Core.Logic.{_⊎_, inl, inr, _≢_, _↔_, ⊎-elim}
+use mathlib.Core.Bool.{Bool, true, false}
+use mathlib.Core.List.{List, [], _∷_, _++_, List·Memᴰ as In, List·Memᴰ·head as here, List·Memᴰ·tail as there, Memᴰ·cast as in-cast}
+use mathlib.Core.List.{List·Memᴰ·not-nil as not-nil, List·Memᴰ·cases-cons as in-cons}
+use native.Mathlib.Omega.{arith}
+use lib.ListN.{length, getD, take, drop, replicate}
+use borrow.Author.Tests.{ne-eqb}
+use Rattle.model.specs.Lists.{indexOf, member}
+use Rattle.model.specs.Map.{leastBreaking}
+use Rattle.model.specs.Cell.{leastWrong}
+use Rattle.model.specs.Checks.{Check, pass, refuse, andThen, must, mustAt, inOrder}
+use Rattle.model.specs.Checks.{dimOk, tableOk, marksOk, journalOk, mapOk, indexOk, maskOk, dartOk, blockOk, apartOk, freeOk}
+use Rattle.model.specs.Checks.{sewnOk, pairingOk, crossingOk, addRoomOk, splitRoomOk, undoOk, redoOk}
+use Rattle.model.specs.Checks.{checkChecks, orbitChecks, sheetChecks, addChecks, sidesChecks, unsewChecks}
+use Rattle.model.specs.Checks.{layerChecks, splitChecks, stepChecks}
+use Rattle.model.specs.Calls.{Outcome}
+use Rattle.model.specs.Runs.{Call}
+use Rattle.model.specs.Meaning.Ends.{recordOk, stepOk, checks, numbers, refusalPlace}
+use Rattle.model.proofs.Lists.Ones.{in-member}
+use Rattle.model.proofs.Lists.Scan.{clash}
+
+-- ---- checks in order
+
+pub not-pass : {A : Type 0} {k p : ℕ} → refuse k p ≡ pass → A
+not-pass e = absurd (let z : _≡_ {A = ℕ} 0 1 = cc in omega arith)
+
+-- where all pass, each does
+pub passed-at : (cs : List Check) → inOrder cs ≡ pass → (i : ℕ) → getD cs i pass ≡ pass
+unfolding inOrder andThen
+passed-at [] h i = refl
+passed-at (pass ∷ cs) h zero = refl
+passed-at (pass ∷ cs) h (suc i) = passed-at cs h i
+passed-at (refuse k p ∷ cs) h i = not-pass h
+
+-- .. so does the one with the number z, where zs are the numbers
+pub passed-number : (zs : List ℕ) (cs : List Check) → inOrder cs ≡ pass → (z : ℕ) → getD cs (indexOf z zs) pass ≡ pass
+passed-number zs cs h z = passed-at cs h (indexOf z zs)
+
+pub passed-append : (cs ds : List Check) → inOrder (cs ++ ds) ≡ pass → (inOrder cs ≡ pass) × (inOrder ds ≡ pass)
+unfolding inOrder andThen
+passed-append [] ds h = (refl, h)
+passed-append (pass ∷ cs) ds h = passed-append cs ds h
+passed-append (refuse k p ∷ cs) ds h = not-pass h
+
+-- behind checks that pass, the others decide
+pub append-passed : (cs ds : List Check) → inOrder cs ≡ pass → inOrder (cs ++ ds) ≡ inOrder ds
+unfolding inOrder andThen
+append-passed [] ds h = refl
+append-passed (pass ∷ cs) ds h = append-passed cs ds h
+append-passed (refuse k p ∷ cs) ds h = not-pass h
+
+pub append-refused : (cs ds : List Check) {k p : ℕ} → inOrder cs ≡ refuse k p → inOrder (cs ++ ds) ≡ refuse k p
+unfolding inOrder andThen
+append-refused [] ds h = not-pass (sym h)
+append-refused (pass ∷ cs) ds h = append-refused cs ds h
+append-refused (refuse x y ∷ cs) ds h = h
+
+-- checks that do not pass refuse
+pub passed-or-refused : (c : Check) → (c ≡ pass) ⊎ ((k : ℕ) × (p : ℕ) × (c ≡ refuse k p))
+passed-or-refused pass = inl refl
+passed-or-refused (refuse k p) = inr (k, p, refl)
+
+-- ---- the number of a check
+
+-- what a refusal by the number k at the place p says of a call on the table t and the journal j
+pub record Says (n : ℕ) (t j : List ℕ) (k p : ℕ) : Type 0 where
+  pub not-0 : k ≢ 0
+  pub place : p ≡ refusalPlace n t k
+  pub journal : k ≡ 4 → journalOk j ≢ pass
+  pub map : k ≡ 5 → mapOk n t ≢ pass
+
+-- the check has the number z
+abbrev pub Numbered : ℕ → List ℕ → List ℕ → ℕ → Check → Type 0
+Numbered n t j z c = (k p : ℕ) → c ≡ refuse k p → (k ≡ z) × Says n t j k p
+
+-- the checks have these numbers
+infixr 5 _then_
+pub data Numbers (n : ℕ) (t j : List ℕ) : List ℕ → List Check → Type 0 where
+  last : Numbers n t j [] []
+  _then_ : {z : ℕ} {c : Check} {zs : List ℕ} {cs : List Check} → Numbered n t j z c → Numbers n t j zs cs
+      → Numbers n t j (z ∷ zs) (c ∷ cs)
+
+-- a number that is not in a list differs from those that are
+pub not-in : (zs : List ℕ) (z : ℕ) → member zs z ≡ false → (k : ℕ) → In k zs → k ≢ z
+not-in zs z h k i e = clash (in-member zs z (in-cast (sym e) i)) h
+
+in-replicate : (k : ℕ) {y z : ℕ} → In y (replicate k z) → y ≡ z
+in-replicate zero i = absurd (not-nil i)
+in-replicate (suc k) i = ⊎-elim (λ e. e) (in-replicate k) (in-cons i)
+
+pub same-refusal : {A : Type 0} (f : ℕ → ℕ → A) {k p z q : ℕ} → refuse k p ≡ refuse z q → f k p ≡ f z q
+same-refusal f e = cc
+
+must-refused : (b : Bool) {z k p : ℕ} → must b z ≡ refuse k p → (k ≡ z) × (p ≡ 0)
+unfolding must
+must-refused true e = not-pass (sym e)
+must-refused false e = (cc, cc)
+
+mustAt-refused : (b : Bool) {z q k p : ℕ} → mustAt b z q ≡ refuse k p → (k ≡ z) × (p ≡ q)
+unfolding mustAt
+mustAt-refused true e = not-pass (sym e)
+mustAt-refused false e = (cc, cc)
+
+pub place-other : (n : ℕ) (t : List ℕ) (k : ℕ) → k ≢ 5 → k ≢ 8 → refusalPlace n t k ≡ 0
+unfolding refusalPlace
+place-other n t k a b = rw (ne-eqb k 5 a, refusalPlace, ne-eqb k 8 b)
+
+module _ {n : ℕ} {t j : List ℕ} where
+  -- a check but 4, 5 and 8
+  plain : (b : Bool) (z : ℕ) → member (0 ∷ 4 ∷ 5 ∷ 8 ∷ []) z ≡ false → Numbered n t j z (must b z)
+  plain b z h k p e =
+      let r = must-refused b e in
+      let other : (y : ℕ) → In y (0 ∷ 4 ∷ 5 ∷ 8 ∷ []) → k ≢ y = λ y i q. not-in (0 ∷ 4 ∷ 5 ∷ 8 ∷ []) z h y i (sym q ∙ r .0) in
+      let other-5 = other 5 (there (there (here refl))) in (
+        r .0,
+        record {
+          not-0 = other 0 (here refl);
+          place = r .1 ∙ sym (place-other n t k other-5 (other 8 (there (there (there (here refl))))));
+          journal = λ q. absurd (other 4 (there (here refl)) q);
+          map = λ q. absurd (other-5 q);
+        },
+      )
+
+  journal : Numbered n t j 4 (journalOk j)
+  unfolding journalOk refusalPlace
+  journal k p e =
+      let r = must-refused _ e in (
+        r .0,
+        record {
+          not-0 = λ q. let a = r .0 in omega arith;
+          place = rw (r .0) (r .1);
+          journal = λ q h. not-pass (sym e ∙ h);
+          map = λ q. absurd (let a = r .0 in omega arith);
+        },
+      )
+
+  map : Numbered n t j 5 (mapOk n t)
+  unfolding mapOk refusalPlace
+  map k p e =
+      let r = mustAt-refused _ e in (
+        r .0,
+        record {
+          not-0 = λ q. let a = r .0 in omega arith;
+          place = rw (r .0) (r .1);
+          journal = λ q. absurd (let a = r .0 in omega arith);
+          map = λ q h. not-pass (sym e ∙ h);
+        },
+      )
+
+  block : Numbered n t j 8 (blockOk n t)
+  unfolding blockOk refusalPlace
+  block k p e =
+      let r = mustAt-refused _ e in (
+        r .0,
+        record {
+          not-0 = λ q. let a = r .0 in omega arith;
+          place = rw (r .0) (r .1);
+          journal = λ q. absurd (let a = r .0 in omega arith);
+          map = λ q. absurd (let a = r .0 in omega arith);
+        },
+      )
+
+  -- a refusal has one of the numbers, and says what that number says
+  pub refusal-says : {zs : List ℕ} (cs : List Check) → Numbers n t j zs cs → (k p : ℕ) → inOrder cs ≡ refuse k p
+      → In k zs × Says n t j k p
+  unfolding inOrder andThen
+  refusal-says [] w k p e = not-pass (sym e)
+  refusal-says (pass ∷ cs) (a then w) k p e = let r = refusal-says cs w k p e in (there (r .0), r .1)
+  refusal-says (refuse x y ∷ cs) (a then w) k p e = let r = a k p e in (here (r .0), r .1)
+
+  -- ---- when a number is given
+
+  pub numbers-before : (cs ds : List Check) {zs : List ℕ} → Numbers n t j zs (cs ++ ds) → Numbers n t j (take (length cs) zs) cs
+  numbers-before [] ds w = last
+  numbers-before (c ∷ cs) ds (a then w) = a then numbers-before cs ds w
+
+  pub numbers-behind : (cs ds : List Check) {zs : List ℕ} → Numbers n t j zs (cs ++ ds) → Numbers n t j (drop (length cs) zs) ds
+  numbers-behind [] ds w = w
+  numbers-behind (c ∷ cs) ds (a then w) = numbers-behind cs ds w
+
+  -- the checks `own`, and no others, have the number z: it is given exactly if those before pass and these do not
+  pub number-exactly : {zs : List ℕ} (before own behind : List Check) (z : ℕ) → Numbers n t j zs (before ++ (own ++ behind))
+      → member (take (length before) zs) z ≡ false
+      → take (length own) (drop (length before) zs) ≡ replicate (length own) z
+      → member (drop (length own) (drop (length before) zs)) z ≡ false
+      → ((p : ℕ) × (inOrder (before ++ (own ++ behind)) ≡ refuse z p)) ↔ ((inOrder before ≡ pass) × (inOrder own ≢ pass))
+  number-exactly {zs} before own behind z w a b c = (λ r. (passed r, failed r), given)
+    where
+      rest : Numbers n t j (drop (length before) zs) (own ++ behind)
+      rest = numbers-behind before (own ++ behind) w
+
+      Refused : Type 0
+      Refused = (p : ℕ) × (inOrder (before ++ (own ++ behind)) ≡ refuse z p)
+
+      passed : Refused → inOrder before ≡ pass
+      passed r = ⊎-elim (λ e. e) (λ q.
+          let i = refusal-says before (numbers-before before (own ++ behind) w) (q .0) (q .1) (q .2) .0 in
+          absurd (not-in _ z a (q .0) i (same-refusal (λ k p. k) (sym (append-refused before (own ++ behind) (q .2)) ∙ r .1))))
+          (passed-or-refused (inOrder before))
+
+      failed : Refused → inOrder own ≢ pass
+      failed r h =
+          let e = sym (append-passed before (own ++ behind) (passed r) ∙ append-passed own behind h) ∙ r .1 in
+          not-in _ z c z (refusal-says behind (numbers-behind own behind rest) z (r .0) e .0) refl
+
+      given : (inOrder before ≡ pass) × (inOrder own ≢ pass) → Refused
+      given r = ⊎-elim (λ e. absurd (r .1 e)) (λ q.
+          let i = refusal-says own (numbers-before own behind rest) (q .0) (q .1) (q .2) .0 in
+          let e = append-passed before (own ++ behind) (r .0) ∙ append-refused own behind (q .2) in
+          (q .1, e ∙ ap (λ (k : ℕ). refuse k (q .1)) (in-replicate (length own) (rw b at i))))
+          (passed-or-refused (inOrder own))
+
+-- ---- the numbers of the checks of each call
+
+pub call-numbers : (n : ℕ) (o : Outcome) (c : Call) → Numbers n (o .table) (o .journal) (numbers c) (checks n o c)
+unfolding checks checkChecks orbitChecks sheetChecks addChecks sidesChecks unsewChecks layerChecks splitChecks stepChecks dimOk tableOk marksOk indexOk maskOk dartOk apartOk freeOk sewnOk pairingOk crossingOk addRoomOk splitRoomOk undoOk redoOk recordOk stepOk member indexOf
+call-numbers n o Call.check = plain _ 1 refl then plain _ 2 refl then map then last
+call-numbers n o (Call.orbit mask d) =
+    plain _ 1 refl then plain _ 2 refl then plain _ 3 refl then map then plain _ 6 refl then plain _ 7 refl then last
+call-numbers n o (Call.sheet d) =
+    plain _ 1 refl then plain _ 2 refl then plain _ 3 refl then map then plain _ 7 refl then block then last
+call-numbers n o Call.add =
+    plain _ 1 refl then plain _ 2 refl then journal then map then plain _ 14 refl then plain _ 15 refl then last
+call-numbers n o (Call.sew i d e) =
+    plain _ 1 refl then plain _ 2 refl then journal then map then plain _ 6 refl then plain _ 7 refl then plain _ 7 refl
+    then plain _ 9 refl then plain _ 10 refl then plain _ 12 refl then plain _ 15 refl then last
+call-numbers n o (Call.unsew i d) =
+    plain _ 1 refl then plain _ 2 refl then journal then map then plain _ 6 refl then plain _ 7 refl then plain _ 11 refl
+    then plain _ 15 refl then last
+call-numbers n o (Call.remove d) =
+    plain _ 1 refl then plain _ 2 refl then plain _ 3 refl then journal then map then plain _ 7 refl then block
+    then plain _ 15 refl then last
+call-numbers n o (Call.split d) =
+    plain _ 1 refl then plain _ 2 refl then plain _ 3 refl then journal then map then plain _ 7 refl then block
+    then plain _ 13 refl then plain _ 14 refl then plain _ 15 refl then last
+call-numbers n o Call.undo =
+    plain _ 1 refl then plain _ 2 refl then journal then map then plain _ 16 refl then plain _ 17 refl then last
+call-numbers n o Call.redo =
+    plain _ 1 refl then plain _ 2 refl then journal then map then plain _ 16 refl then plain _ 17 refl then last
