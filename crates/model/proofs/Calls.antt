@@ -1,5 +1,6 @@
 pub mod Checks
 pub mod Pass
 pub mod Ends
+pub mod Refusals
 pub mod Untouched
 pub mod Kept
