@@ -1,7 +1,8 @@
 -- How a call ends: all its checks in order, the numbers by which it refuses, what a refusal leaves (`refusedBy`), and
 -- what an accepted call gives (`done`). The laws of calls say that each call ends so.
-use Prim.Native.Nat.{ℕ, _+_, _*_, _-_}
+use Prim.Native.Nat.{ℕ, _+_, _*_, _-_, _≤_, _<_}
 use mathlib.Core.Path.{_≡_}
+use mathlib.Core.Logic.{_≢_}
 use mathlib.Core.Bool.{Bool, true, false, _&&_}
 use mathlib.Core.List.{List, [], _∷_, _++_}
 use lib.ListN.{length, getD, set}
@@ -16,7 +17,7 @@ use Rattle.model.specs.Add.{addSlots, addTable}
 use Rattle.model.specs.Sew.{sewTable, unsewTable}
 use Rattle.model.specs.Remove.{removeTable}
 use Rattle.model.specs.Split.{splitSlots, splitTable}
-use Rattle.model.specs.Journal.{cursor, changesFrom, recordOf, written, changesAt, put, unbroken}
+use Rattle.model.specs.Journal.{cursor, end, changesFrom, recordOf, written, changesAt, put, unbroken}
 use Rattle.model.specs.Checks.{Check, pass, must, inOrder, pairingOk, undoOk, redoOk, checkChecks, orbitChecks, sheetChecks}
 use Rattle.model.specs.Checks.{addChecks, sidesChecks, sewChecks, unsewChecks, layerChecks, splitChecks, stepChecks}
 use Rattle.model.specs.Calls.{Outcome, refused}
@@ -188,3 +189,18 @@ done n o Call.undo =
     stepping false o (undoStart (o .journal)) (undoCount (o .journal)) (undoStart (o .journal))
 done n o Call.redo =
     stepping true o (cursor (o .journal)) (redoCount (o .journal)) (cursor (o .journal) + (3 * redoCount (o .journal) + 2))
+
+-- "writes its record .. at the cursor; cursor and end go behind it .. Other journal words stay": of the journal j and the
+-- journal k after it, where r is the record
+pub record Recorded (r j k : List ℕ) : Type 0 where
+  pub long : length k ≡ length j
+  pub at-cursor : cursor k ≡ cursor j + length r
+  pub at-end : end k ≡ cursor j + length r
+  pub words : (x : ℕ) → x < length r → getD k (cursor j + x) 0 ≡ getD r x 0
+  pub before : (x : ℕ) → 2 ≤ x → x < cursor j → getD k x 0 ≡ getD j x 0
+  pub behind : (x : ℕ) → cursor j + length r ≤ x → getD k x 0 ≡ getD j x 0
+
+-- "Undo and redo change only the cursor word": of the journal j and the journal k after them
+pub record CursorMoved (j k : List ℕ) : Type 0 where
+  pub long : length k ≡ length j
+  pub words : (x : ℕ) → x ≢ 0 → getD k x 0 ≡ getD j x 0
