@@ -85,8 +85,7 @@ module _ (n : ℕ) (t : List ℕ) (i d e : ℕ) where
       let T = passed .table in
       let there′ = pairing-there n t i (T .dim .1) (passed .index) (T .whole) (T .few) (T .map) d e (passed .lives-d) (passed .lives-e) in
       let back = pairing-back n t i (T .dim .1) (passed .index) (T .whole) (T .few) (T .map) d e (passed .lives-d) (passed .lives-e) in
-      let pairing = mates-pairing n t i (T .dim .1) (passed .index) (T .whole) (T .few) (T .map) d e (passed .lives-d) (passed .lives-e) in
-      (
+      let pairing = mates-pairing n t i (T .dim .1) (passed .index) (T .whole) (T .few) (T .map) d e (passed .lives-d) (passed .lives-e) in (
         λ h. let found = paired-found n t i d e h in pairing (found .p) (found .q) (found .there) (found .back),
         λ f. both (partners n t i d e) (partners n t i e d) refl refl (there′ f) (back f),
       )
@@ -121,18 +120,16 @@ module _ (t s : List ℕ) where
   crosses-exactly [] = (λ h. absurd (clash h refl), λ r. absurd (not-nil (r .1)))
   crosses-exactly (g ∷ gs) =
       let rest = crosses-exactly gs in
-      let now = inSet s (link t 1 g) in
-      (
+      let now = inSet s (link t 1 g) in (
         λ h. ⊎-elim (λ q. (g, here refl, eqb-true _ _ q)) (λ q. let r = rest .0 q in (r .0, there (r .1), r .2))
-        (or-cases now (crosses t s gs) h),
+            (or-cases now (crosses t s gs) h),
         λ r. either now (crosses t s gs) (⊎-elim (λ q. inl (rw q at (eq-eqb _ _ (r .2)))) (λ i. inr (rest .1 (r .0, i, r .2))) (in-cons (r .1))),
       )
 
   -- some g in s has g.1 in s
   sheet-crosses : (crosses t s (ones s) ≡ true) ↔ ((g : ℕ) × Marked s g × Marked s (link t 1 g))
   sheet-crosses =
-      let r = crosses-exactly (ones s) in
-      (
+      let r = crosses-exactly (ones s) in (
         λ h. let x = r .0 h in (x .0, ones-of s (x .0) (x .1), x .2),
         λ x. r .1 (x .0, ones-in s (x .0) (x .1), x .2),
       )

@@ -16,7 +16,8 @@ use Rattle.model.specs.Meaning.Ends.{Reading, reads-check, reads-orbit, 
 use Rattle.model.proofs.Lists.Scan.{if-eq}
 use Rattle.model.proofs.Calls.Ends.{op-accepted}
 use Rattle.model.proofs.Calls.Untouched.{call-untouched, reading-untouched}
-use Rattle.model.proofs.History.Record.{put-new-changes, put-old-changes, sound-undo, sound-redo, changes-some}
+use Rattle.model.proofs.History.Record.{put-new-changes, put-old-changes, changes-some}
+use Rattle.model.proofs.History.Sound.{sound-undo, sound-redo}
 use Rattle.model.proofs.History.Log.{journalOf, journal-ok, journal-written, written-length, journal-same, InRule}
 use Rattle.model.proofs.History.Log.{Leads, stepsTo, undo-steps, redo-steps, undo-none, redo-none}
 use Rattle.model.proofs.History.Ops.{effect-length, op-changes, op-map}

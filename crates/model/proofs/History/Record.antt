@@ -1,18 +1,18 @@
--- The record of the changes from a table to another of the same length: put forward it makes the second of the first,
--- put back the first of the second, it is sound both ways, and its words give it back.
-use Prim.Native.Nat.{ℕ, suc, _+_, _*_, _≤_, _<_}
+-- The changes from a table to another of the same length: put forward they make the second of the first, put back the
+-- first of the second; and the words of their record give them back.
+use Prim.Native.Nat.{ℕ, suc, _+_, _*_, _<_}
 use mathlib.Core.Path.{_≡_, refl, sym, ap, _∙_}
 use mathlib.Core.Logic.{_⊎_, inl, inr, _≢_}
-use mathlib.Core.Bool.{Bool, true, false}
+use mathlib.Core.Bool.{true, false}
 use mathlib.Core.List.{List, [], _∷_, _++_, append-assoc}
 use native.Mathlib.Nat.{suc-inj}
 use native.Mathlib.Omega.{arith}
 use lib.ListN.{length, set, length-append}
-use lib.Seq.{set-at, getD-at}
+use lib.Seq.{set-at}
 use lib.Dec.{eqb}
-use borrow.Author.Tests.{eqb-true, eqb-false, eq-eqb, ne-eqb, le-leb, lt-ltb}
-use Rattle.model.specs.Journal.{Change, changesFrom, putNew, putOld, triples, readChanges, recordOf, sound}
-use Rattle.model.proofs.Lists.Scan.{bool-cases, test, and-i}
+use borrow.Author.Tests.{eqb-true, eqb-false, eq-eqb, ne-eqb}
+use Rattle.model.specs.Journal.{Change, changesFrom, putNew, putOld, triples, readChanges, recordOf}
+use Rattle.model.proofs.Lists.Scan.{bool-cases, test}
 
 module _ (e x y : ℕ) (xs ys : List ℕ) where
   pub changes-same : eqb x y ≡ true → changesFrom e (x ∷ xs) (y ∷ ys) ≡ changesFrom (suc e) xs ys
@@ -24,12 +24,12 @@ module _ (e x y : ℕ) (xs ys : List ℕ) where
   unfolding changesFrom
   changes-other h = rw (h, changesFrom)
 
-eqb-comm : (x y : ℕ) → eqb y x ≡ eqb x y
+pub eqb-comm : (x y : ℕ) → eqb y x ≡ eqb x y
 eqb-comm x y =
     test (eqb x y) (λ h. eq-eqb y x (sym (eqb-true x y h)) ∙ sym h) (λ h. ne-eqb y x (λ q. eqb-false x y h (sym q)) ∙ sym h)
 
 -- one more entry before the entry e
-longer : (before : List ℕ) (x e : ℕ) → length before ≡ e → length (before ++ x ∷ []) ≡ suc e
+pub longer : (before : List ℕ) (x e : ℕ) → length before ≡ e → length (before ++ x ∷ []) ≡ suc e
 longer before x e l = rw length-append (omega arith)
 
 -- ---- put forward, and put back
@@ -98,45 +98,3 @@ length-record cs =
     let h = length-triples cs in
     let a = length-append (triples cs) (length cs ∷ []) in
     omega arith
-
--- ---- the changes are sound: back from the new table, and forward from the old one
-
-sound-from : (xs ys before : List ℕ) (e a : ℕ) → length before ≡ e → a ≤ e → length xs ≡ length ys
-    → sound false (before ++ ys) a (changesFrom e xs ys) ≡ true
-unfolding changesFrom sound
-sound-from [] [] before e a l h q = refl
-sound-from [] (y ∷ ys) before e a l h q = absurd (omega arith)
-sound-from (x ∷ xs) [] before e a l h q = absurd (omega arith)
-sound-from (x ∷ xs) (y ∷ ys) before e a l h q =
-    go (λ c k. sound-from xs ys (before ++ y ∷ []) (suc e) c (longer before y e l) k (suc-inj q)) (bool-cases (eqb x y))
-  where
-    go : ((c : ℕ) → c ≤ suc e → sound false ((before ++ y ∷ []) ++ ys) c (changesFrom (suc e) xs ys) ≡ true)
-        → (eqb x y ≡ true) ⊎ (eqb x y ≡ false) → sound false (before ++ y ∷ ys) a (changesFrom e (x ∷ xs) (y ∷ ys)) ≡ true
-    go rest (inl p) = rw (changes-same e x y xs ys p) (simp append-assoc at (rest a (omega arith)))
-    go rest (inr p) =
-        let within = lt-ltb e (length (before ++ y ∷ ys)) (rw length-append (omega arith)) in
-        let held = eq-eqb _ _ (getD-at before y ys 0 e l) in
-        rw (changes-other e x y xs ys p)
-        (and-i (and-i (and-i (and-i (le-leb a e h) within) (rw p)) held) (simp append-assoc at (rest (suc e) (omega arith))))
-
-pub sound-undo : (t u : List ℕ) → length t ≡ length u → sound false u 0 (changesFrom 0 t u) ≡ true
-sound-undo t u h = sound-from t u [] 0 0 refl (omega arith) h
-
--- forward they are the changes back, old and new exchanged
-sound-turned : (xs ys t : List ℕ) (e a : ℕ) → sound true t a (changesFrom e xs ys) ≡ sound false t a (changesFrom e ys xs)
-unfolding changesFrom sound
-sound-turned [] [] t e a = refl
-sound-turned [] (y ∷ ys) t e a = refl
-sound-turned (x ∷ xs) [] t e a = refl
-sound-turned (x ∷ xs) (y ∷ ys) t e a = go (sound-turned xs ys t (suc e)) (bool-cases (eqb x y))
-  where
-    go : ((c : ℕ) → sound true t c (changesFrom (suc e) xs ys) ≡ sound false t c (changesFrom (suc e) ys xs))
-        → (eqb x y ≡ true) ⊎ (eqb x y ≡ false)
-        → sound true t a (changesFrom e (x ∷ xs) (y ∷ ys)) ≡ sound false t a (changesFrom e (y ∷ ys) (x ∷ xs))
-    go rest (inl p) = rw (changes-same e x y xs ys p, changes-same e y x ys xs (eqb-comm x y ∙ p)) (rest a)
-    go rest (inr p) =
-        let q = eqb-comm x y ∙ p in
-        rw (changes-other e x y xs ys p, changes-other e y x ys xs q) (rw (p, q, rest (suc e)))
-
-pub sound-redo : (t u : List ℕ) → length t ≡ length u → sound true t 0 (changesFrom 0 t u) ≡ true
-sound-redo t u h = sound-turned t u t 0 0 ∙ sound-undo u t (sym h)

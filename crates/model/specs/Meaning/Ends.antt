@@ -204,3 +204,8 @@ pub record Recorded (r j k : List ℕ) : Type 0 where
 pub record CursorMoved (j k : List ℕ) : Type 0 where
   pub long : length k ≡ length j
   pub words : (x : ℕ) → x ≢ 0 → getD k x 0 ≡ getD j x 0
+
+-- "Count: entries changed": of the table t and the table u after it; there is one at least
+pub record CountsChanges (t u : List ℕ) (k : ℕ) : Type 0 where
+  pub size : k ≡ length (changesFrom 0 t u)
+  pub some : 0 < k
