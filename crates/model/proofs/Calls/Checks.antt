@@ -20,7 +20,7 @@ use Rattle.model.specs.Checks.{checkChecks, orbitChecks, sheetChecks, ad
 use Rattle.model.specs.Checks.{layerChecks, splitChecks, stepChecks}
 use Rattle.model.specs.Calls.{Outcome}
 use Rattle.model.specs.Runs.{Call}
-use Rattle.model.specs.Meaning.Ends.{recordOk, stepOk, checks, numbers, refusalPlace}
+use Rattle.model.specs.Meaning.Ends.{recordOk, stepOk, checks, numbers, refusalPlace, checksOf}
 use Rattle.model.proofs.Lists.Ones.{in-member}
 use Rattle.model.proofs.Lists.Scan.{clash}
 
@@ -218,7 +218,7 @@ module _ {n : ℕ} {t j : List ℕ} where
 -- ---- the numbers of the checks of each call
 
 pub call-numbers : (n : ℕ) (o : Outcome) (c : Call) → Numbers n (o .table) (o .journal) (numbers c) (checks n o c)
-unfolding checks checkChecks orbitChecks sheetChecks addChecks sidesChecks unsewChecks layerChecks splitChecks stepChecks dimOk tableOk marksOk indexOk maskOk dartOk apartOk freeOk sewnOk pairingOk crossingOk addRoomOk splitRoomOk undoOk redoOk recordOk stepOk member indexOf
+unfolding checksOf checkChecks orbitChecks sheetChecks addChecks sidesChecks unsewChecks layerChecks splitChecks stepChecks dimOk tableOk marksOk indexOk maskOk dartOk apartOk freeOk sewnOk pairingOk crossingOk addRoomOk splitRoomOk undoOk redoOk recordOk stepOk member indexOf
 call-numbers n o Call.check = plain _ 1 refl then plain _ 2 refl then map then last
 call-numbers n o (Call.orbit mask d) =
     plain _ 1 refl then plain _ 2 refl then plain _ 3 refl then map then plain _ 6 refl then plain _ 7 refl then last

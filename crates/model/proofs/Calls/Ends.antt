@@ -17,7 +17,8 @@ use Rattle.model.specs.Checks.{pairingOk}
 use Rattle.model.specs.Calls.{Outcome, refused, commit, checkCall, orbitCall, sheetCall, addCall, sewCall, unsewCall}
 use Rattle.model.specs.Calls.{removeCall, splitCall, stepOutcome, undoCall, redoCall}
 use Rattle.model.specs.Runs.{Call, doCall, keeping, Op, callOf, effect}
-use Rattle.model.specs.Meaning.Ends.{recordOk, stepOk, checks, numbers, layerMarks, refusalMarks, refusedBy, done, Passed}
+use Rattle.model.specs.Meaning.Ends.{recordOk, stepOk, checksOf, checks, numbers, layerMarks, refusalMarks, refusedBy}
+use Rattle.model.specs.Meaning.Ends.{doneOf, done, Behind, Ends, Passed}
 use Rattle.model.proofs.Calls.Checks.{not-pass, passed-at, passed-append, append-passed, append-refused, passed-or-refused}
 use Rattle.model.proofs.Lists.Scan.{test, clash}
 use Rattle.model.proofs.Lists.Ones.{in-member, member-in}
@@ -25,11 +26,6 @@ use Rattle.model.proofs.Calls.Checks.{Numbers, numbers-before, numbers-
 use Rattle.model.proofs.Calls.Pass.{record-pass}
 
 -- ---- an outcome behind checks
-
--- y where the checks cs pass, and f where one refuses
-pub record Behind (cs : List Check) (y : Outcome) (f : ℕ → ℕ → Outcome) (r : Outcome) : Type 0 where
-  pub passes : inOrder cs ≡ pass → r ≡ y
-  pub refuses : (k p : ℕ) → inOrder cs ≡ refuse k p → r ≡ f k p
 
 module _ (y : Outcome) (f : ℕ → ℕ → Outcome) where
   behind-more : (cs ds : List Check) (r : Outcome) (g : ℕ → ℕ → Outcome) → Behind ds y f r
@@ -85,42 +81,39 @@ not-late k i = test (member (13 ∷ 14 ∷ 15 ∷ []) k) (λ h. absurd (clash (i
     late k (there (there (there i))) = absurd (not-nil i)
 
 module _ (n : ℕ) (o : Outcome) where
-  abbrev Ends : Call → Type 0
-  Ends c = Behind (checks n o c) (done n o c) (refusedBy n o c) (doCall n o c)
-
   -- those that take no marks, or no journal, keep what they do not take
-  check-ends : Ends Call.check
-  unfolding doCall checkCall checks done refusalMarks keeping refused
+  check-ends : Ends n o Call.check
+  unfolding doCall checkCall checksOf doneOf refusalMarks keeping refused
   check-ends = behind-map (λ r. keeping r (o .marks) (o .journal)) (behind-checks _ _ _)
 
-  orbit-ends : (mask d : ℕ) → Ends (Call.orbit mask d)
-  unfolding doCall orbitCall checks done refusalMarks keeping refused
+  orbit-ends : (mask d : ℕ) → Ends n o (Call.orbit mask d)
+  unfolding doCall orbitCall checksOf doneOf refusalMarks keeping refused
   orbit-ends mask d = behind-map (λ r. keeping r (r .marks) (o .journal)) (behind-checks _ _ _)
 
-  sheet-ends : (d : ℕ) → Ends (Call.sheet d)
-  unfolding doCall sheetCall checks done refusalMarks keeping refused
+  sheet-ends : (d : ℕ) → Ends n o (Call.sheet d)
+  unfolding doCall sheetCall checksOf doneOf refusalMarks keeping refused
   sheet-ends d = behind-map (λ r. keeping r (r .marks) (o .journal)) (behind-checks _ _ _)
 
-  add-ends : Ends Call.add
-  unfolding doCall addCall commit checks recordOk done refusalMarks keeping
+  add-ends : Ends n o Call.add
+  unfolding doCall addCall commit checksOf recordOk doneOf refusalMarks keeping
   add-ends = behind-unmarked _ _ 15 _ _ _ _
 
-  unsew-ends : (i d : ℕ) → Ends (Call.unsew i d)
-  unfolding doCall unsewCall commit checks recordOk done refusalMarks keeping
+  unsew-ends : (i d : ℕ) → Ends n o (Call.unsew i d)
+  unfolding doCall unsewCall commit checksOf recordOk doneOf refusalMarks keeping
   unsew-ends i d = behind-unmarked _ _ 15 _ _ _ _
 
-  sew-ends : (i d e : ℕ) → Ends (Call.sew i d e)
-  unfolding doCall sewCall commit sewChecks checks recordOk done refusalMarks keeping
+  sew-ends : (i d e : ℕ) → Ends n o (Call.sew i d e)
+  unfolding doCall sewCall commit sewChecks checksOf recordOk doneOf refusalMarks keeping
   sew-ends i d e =
       rw (← append-assoc (sidesChecks n (o .table) (o .journal) i d e) (pairingOk n (o .table) i d e ∷ []) _)
       (behind-unmarked _ _ 15 _ _ _ _)
 
-  undo-ends : Ends Call.undo
-  unfolding doCall undoCall stepOutcome checks stepOk done refusalMarks keeping
+  undo-ends : Ends n o Call.undo
+  unfolding doCall undoCall stepOutcome checksOf stepOk doneOf refusalMarks keeping
   undo-ends = behind-unmarked _ _ 17 _ _ _ _
 
-  redo-ends : Ends Call.redo
-  unfolding doCall redoCall stepOutcome checks stepOk done refusalMarks keeping
+  redo-ends : Ends n o Call.redo
+  unfolding doCall redoCall stepOutcome checksOf stepOk doneOf refusalMarks keeping
   redo-ends = behind-unmarked _ _ 17 _ _ _ _
 
   -- remove and split: a refusal by 13, 14 or 15 leaves the sheet's marks ..
@@ -134,19 +127,19 @@ module _ (n : ℕ) (o : Outcome) where
   -- .. an earlier one the marks lent
   early-leaves : (d k p : ℕ) → inOrder (layerChecks n (o .table) (o .marks) (o .journal) d) ≡ refuse k p
       → leaving k p (o .marks) ≡ leaving k p (layerMarks n o d k)
-  unfolding layerMarks layerChecks checks
+  unfolding layerMarks layerChecks checksOf
   early-leaves d k p e = ap (leaving k p) (rw (not-late k (refusal-says _ early k p e .0), layerMarks))
     where
       early : Numbers n (o .table) (o .journal) (1 ∷ 2 ∷ 3 ∷ 4 ∷ 5 ∷ 7 ∷ 8 ∷ []) (layerChecks n (o .table) (o .marks) (o .journal) d)
       early = numbers-before _ _ (call-numbers n o (Call.remove d))
 
-  remove-ends : (d : ℕ) → Ends (Call.remove d)
-  unfolding doCall removeCall commit checks recordOk done refusalMarks
+  remove-ends : (d : ℕ) → Ends n o (Call.remove d)
+  unfolding doCall removeCall commit checksOf recordOk doneOf refusalMarks
   remove-ends d =
       behind-more _ _ _ _ _ _ (behind-last _ _ _ 15 _ _ refl (late-leaves d 15 0 (there (there (here refl))))) (early-leaves d)
 
-  split-ends : (d : ℕ) → Ends (Call.split d)
-  unfolding doCall splitCall commit checks recordOk done refusalMarks layerChecks splitChecks
+  split-ends : (d : ℕ) → Ends n o (Call.split d)
+  unfolding doCall splitCall commit checksOf recordOk doneOf refusalMarks layerChecks splitChecks
   split-ends d =
       let late = numbers-behind (layerChecks n (o .table) (o .marks) (o .journal) d) _ (call-numbers n o (Call.split d)) in
       let crossing = numbers-before (splitChecks n (o .table) (sheet n (o .table) d) (ones (sheet n (o .table) d))) _ late in
@@ -155,7 +148,7 @@ module _ (n : ℕ) (o : Outcome) where
       (λ k p e. late-leaves d k p (in-left (15 ∷ []) (refusal-says _ crossing k p e .0))))
       (early-leaves d)
 
-  pub call-ends : (c : Call) → Ends c
+  pub call-ends : (c : Call) → Ends n o c
   call-ends Call.check = check-ends
   call-ends (Call.orbit mask d) = orbit-ends mask d
   call-ends (Call.sheet d) = sheet-ends d
@@ -183,7 +176,7 @@ module _ (n : ℕ) (o : Outcome) where
   call-done c h = call-ends c .passes (call-passed c h)
 
   done-number : (c : Call) → done n o c .number ≡ 0
-  unfolding done
+  unfolding doneOf
   done-number Call.check = refl
   done-number (Call.orbit mask d) = refl
   done-number (Call.sheet d) = refl
@@ -209,7 +202,7 @@ module _ (n : ℕ) (o : Outcome) where
 
   pub op-passed : (p : Op) → inOrder (checks n o (callOf p)) ≡ pass
       → Passed n (o .table) (o .marks) (o .journal) p × (recordOk (o .table) (effect n (o .table) p) (o .journal) ≡ pass)
-  unfolding checks callOf effect sewChecks
+  unfolding checksOf callOf effect sewChecks
   op-passed Op.add h = let r = passed-append (addChecks n (o .table) (o .journal)) _ h in (r .0, passed-at _ (r .1) 0)
   op-passed (Op.sew i d e) h =
       let both = append-assoc (sidesChecks n (o .table) (o .journal) i d e) (pairingOk n (o .table) i d e ∷ []) _ in
@@ -231,7 +224,7 @@ module _ (n : ℕ) (o : Outcome) where
 
   done-op : (p : Op) → (done n o (callOf p) .table ≡ effect n (o .table) p)
       × (done n o (callOf p) .journal ≡ written (o .journal) (recordOf (changesFrom 0 (o .table) (effect n (o .table) p))))
-  unfolding done callOf effect
+  unfolding doneOf callOf effect
   done-op Op.add = (refl, refl)
   done-op (Op.sew i d e) = (refl, refl)
   done-op (Op.unsew i d) = (refl, refl)

@@ -16,7 +16,7 @@ use Rattle.model.specs.Split.{splitSlots, splitTable}
 use Rattle.model.specs.Checks.{stepChecks, undoOk, redoOk}
 use Rattle.model.specs.Calls.{Outcome, addCall, sewCall, unsewCall, removeCall, splitCall, undoCall, redoCall}
 use Rattle.model.specs.Runs.{Call, doCall, keeping, Op, callOf, effect}
-use Rattle.model.specs.Meaning.Ends.{lent, checks, done}
+use Rattle.model.specs.Meaning.Ends.{lent, checksOf, doneOf}
 use Rattle.model.specs.Meaning.Maps.{MapTable, BlockTable, Keeps, KeepsAt, BlockMap}
 use Rattle.model.proofs.Lists.Ones.{vacant-frees}
 use Rattle.model.proofs.Maps.Rules.{Relinking, relink-table, of-map}
@@ -108,14 +108,14 @@ module _ (n : ℕ) (t m j : List ℕ) (d : ℕ) where
 -- ---- undo, redo: what is put back is a map, or it is refused
 
 pub undo-call : (n : ℕ) (t j : List ℕ) → undoCall n t j .number ≡ 0 → isMap n (undoCall n t j .table) ≡ true
-unfolding doCall keeping checks done
+unfolding doCall keeping checksOf doneOf
 undo-call n t j h =
     let o = lent t [] j in
     let q = passed-append (stepChecks n t j (undoOk j)) _ (call-passed n o Call.undo h) in
     ap (λ (r : Outcome). isMap n (r .table)) (call-done n o Call.undo h) ∙ step-pass false n t j _ _ (passed-at _ (q .1) 0) .1
 
 pub redo-call : (n : ℕ) (t j : List ℕ) → redoCall n t j .number ≡ 0 → isMap n (redoCall n t j .table) ≡ true
-unfolding doCall keeping checks done
+unfolding doCall keeping checksOf doneOf
 redo-call n t j h =
     let o = lent t [] j in
     let q = passed-append (stepChecks n t j (redoOk j)) _ (call-passed n o Call.redo h) in

@@ -22,7 +22,7 @@ use Rattle.model.specs.Checks.{Check, pass, refuse, must, andThen, inOrd
 use Rattle.model.specs.Checks.{sidesChecks, layerChecks, splitChecks, stepChecks}
 use Rattle.model.specs.Calls.{Outcome, refused, sewCall, splitCall, undoCall, redoCall}
 use Rattle.model.specs.Runs.{Call, doCall, keeping}
-use Rattle.model.specs.Meaning.Ends.{lent, recordOk, stepOk, checks, numbers, undoCount, undoStart, redoCount}
+use Rattle.model.specs.Meaning.Ends.{lent, recordOk, stepOk, checks, numbers, undoCount, undoStart, redoCount, checksOf}
 use Rattle.model.specs.Meaning.Pairings.{Pairing}
 use Rattle.model.specs.Meaning.Sets.{Marked}
 use Rattle.model.proofs.Lists.Scan.{clash, test}
@@ -102,7 +102,7 @@ module _ (n : ℕ) (t : List ℕ) (i d e : ℕ) where
       (λ h f. clash (r .1 f) h, λ h. test (isPaired n t i d e) (λ p. absurd (h (r .0 p))) (λ p. p))
 
   pub sew-12 : (j : List ℕ) → (sewCall n t j i d e .number ≡ 12) ↔ ((inOrder (sidesChecks n t j i d e) ≡ pass) × (Pairing n t i d e → ⊥))
-  unfolding doCall keeping checks sidesChecks pairingOk member indexOf
+  unfolding doCall keeping checksOf sidesChecks pairingOk member indexOf
   sew-12 j = given-test n (lent t [] j) (Call.sew i d e) 12 (λ q. omega arith) (sidesChecks n t j i d e) _ _ refl refl refl refl
       (λ h. unpaired (sides-passed n t j i d e h))
 
@@ -140,7 +140,7 @@ not-false-exactly false = (λ h. absurd (clash refl h), λ h. absurd (clash h re
 
 pub split-13 : (n : ℕ) (t m j : List ℕ) (d : ℕ) → (splitCall n t m j d .number ≡ 13)
     ↔ ((inOrder (layerChecks n t m j d) ≡ pass) × ((g : ℕ) × Marked (sheet n t d) g × Marked (sheet n t d) (link t 1 g)))
-unfolding doCall checks layerChecks splitChecks crossingOk member indexOf
+unfolding doCall checksOf layerChecks splitChecks crossingOk member indexOf
 split-13 n t m j d = given-test n (lent t m j) (Call.split d) 13 (λ q. omega arith) (layerChecks n t m j d) _ _ refl refl refl refl
     (λ h. let s = sheet n t d in let not-crossed = not-false-exactly (crosses t s (ones s)) in let some = sheet-crosses t s in
     (λ q. some .0 (not-crossed .0 q), λ r. not-crossed .1 (some .1 r)))
@@ -157,12 +157,12 @@ StepFails redo n t j a k = (unbroken redo t j a k ≡ false) ⊎ (isMap n (put r
 
 pub undo-17 : (n : ℕ) (t j : List ℕ) → (undoCall n t j .number ≡ 17)
     ↔ ((inOrder (stepChecks n t j (undoOk j)) ≡ pass) × StepFails false n t j (undoStart j) (undoCount j))
-unfolding doCall keeping checks stepChecks stepOk member indexOf
+unfolding doCall keeping checksOf stepChecks stepOk member indexOf
 undo-17 n t j = given-test n (lent t [] j) Call.undo 17 (λ q. omega arith) (stepChecks n t j (undoOk j)) _ [] refl refl refl refl
     (λ h. both-false (unbroken false t j (undoStart j) (undoCount j)) _)
 
 pub redo-17 : (n : ℕ) (t j : List ℕ) → (redoCall n t j .number ≡ 17)
     ↔ ((inOrder (stepChecks n t j (redoOk j)) ≡ pass) × StepFails true n t j (cursor j) (redoCount j))
-unfolding doCall keeping checks stepChecks stepOk member indexOf
+unfolding doCall keeping checksOf stepChecks stepOk member indexOf
 redo-17 n t j = given-test n (lent t [] j) Call.redo 17 (λ q. omega arith) (stepChecks n t j (redoOk j)) _ [] refl refl refl refl
     (λ h. both-false (unbroken true t j (cursor j) (redoCount j)) _)

@@ -9,7 +9,7 @@ use Rattle.model.specs.Map.{leastBreaking}
 use Rattle.model.specs.Cell.{leastWrong}
 use Rattle.model.specs.Calls.{Outcome, refused}
 use Rattle.model.specs.Runs.{Call, doCall}
-use Rattle.model.specs.Meaning.Ends.{Untouched, done, refusalPlace, Reading, reads-check, reads-orbit, reads-sheet}
+use Rattle.model.specs.Meaning.Ends.{Untouched, done, refusalPlace, Reading, reads-check, reads-orbit, reads-sheet, doneOf}
 use Rattle.model.proofs.Lists.Scan.{if-eq}
 use Rattle.model.proofs.Calls.Checks.{place-other}
 use Rattle.model.proofs.Calls.Ends.{call-says, call-done, call-refused}
@@ -51,7 +51,7 @@ module _ (n : ℕ) (o : Outcome) (c : Call) where
 
 pub reading-untouched : (n : ℕ) (o : Outcome) {c : Call} → Reading c
     → (doCall n o c .table ≡ o .table) × (doCall n o c .journal ≡ o .journal)
-unfolding done
+unfolding doneOf
 reading-untouched n o reads-check = untouched-always n o _ refl refl
 reading-untouched n o reads-orbit = untouched-always n o _ refl refl
 reading-untouched n o reads-sheet = untouched-always n o _ refl refl

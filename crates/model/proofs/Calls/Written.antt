@@ -12,7 +12,7 @@ use Rattle.model.specs.Journal.{cursor, end, changesFrom, recordOf, writ
 use Rattle.model.specs.Checks.{pass, journalOk, inOrder, addChecks, sidesChecks, unsewChecks, layerChecks, stepChecks}
 use Rattle.model.specs.Calls.{Outcome}
 use Rattle.model.specs.Runs.{Call, doCall, Op, callOf, effect}
-use Rattle.model.specs.Meaning.Ends.{checks, numbers, done, Recorded, CursorMoved}
+use Rattle.model.specs.Meaning.Ends.{checks, numbers, done, Recorded, CursorMoved, checksOf, doneOf}
 use Rattle.model.proofs.Lists.Scan.{if-eq}
 use Rattle.model.proofs.Calls.Checks.{passed-number}
 use Rattle.model.proofs.Calls.Pass.{JournalPassed, journal-pass}
@@ -93,7 +93,7 @@ module _ (j r : List ℕ) (rule : JournalPassed j) (room : length r ≤ length j
 
 -- the check 4 has passed
 op-journal : (n : ℕ) (o : Outcome) (p : Op) → inOrder (checks n o (callOf p)) ≡ pass → journalOk (o .journal) ≡ pass
-unfolding checks callOf indexOf addChecks sidesChecks unsewChecks layerChecks
+unfolding checksOf callOf indexOf addChecks sidesChecks unsewChecks layerChecks
 op-journal n o p h = journal p (passed-number (numbers (callOf p)) (checks n o (callOf p)) h 4)
   where
     journal : (p : Op) → getD (checks n o (callOf p)) (indexOf 4 (numbers (callOf p))) pass ≡ pass → journalOk (o .journal) ≡ pass
@@ -133,17 +133,17 @@ module _ (n : ℕ) (o : Outcome) where
       (λ h. rw (call-untouched n o c h .journal) (record { long = refl; words = λ y q. refl }))
 
   pub undo-words : CursorMoved (o .journal) (doCall n o Call.undo .journal)
-  unfolding done
+  unfolding doneOf
   undo-words = cursor-set Call.undo _ refl
 
   pub redo-words : CursorMoved (o .journal) (doCall n o Call.redo .journal)
-  unfolding done
+  unfolding doneOf
   redo-words = cursor-set Call.redo _ refl
 
   -- the cursor goes to the beginning of the record that was undone ..
   pub undo-cursor : doCall n o Call.undo .number ≡ 0
       → cursor (doCall n o Call.undo .journal) ≡ cursor (o .journal) - (3 * doCall n o Call.undo .count + 2)
-  unfolding done checks stepChecks indexOf
+  unfolding doneOf checksOf stepChecks indexOf
   undo-cursor h =
       let ok = passed-number (numbers Call.undo) (checks n o Call.undo) (call-passed n o Call.undo h) 4 in
       rw (call-done n o Call.undo h) (cursor-to (o .journal) _ ok)
@@ -151,7 +151,7 @@ module _ (n : ℕ) (o : Outcome) where
   -- .. and behind the one that was redone
   pub redo-cursor : doCall n o Call.redo .number ≡ 0
       → cursor (doCall n o Call.redo .journal) ≡ cursor (o .journal) + (3 * doCall n o Call.redo .count + 2)
-  unfolding done checks stepChecks indexOf
+  unfolding doneOf checksOf stepChecks indexOf
   redo-cursor h =
       let ok = passed-number (numbers Call.redo) (checks n o Call.redo) (call-passed n o Call.redo h) 4 in
       rw (call-done n o Call.redo h) (cursor-to (o .journal) _ ok)

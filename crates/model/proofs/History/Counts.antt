@@ -20,7 +20,7 @@ use Rattle.model.specs.Journal.{cursor, end, changesFrom, changesAt, rea
 use Rattle.model.specs.Checks.{pass, stepChecks, undoOk, redoOk, inOrder}
 use Rattle.model.specs.Calls.{Outcome}
 use Rattle.model.specs.Runs.{Call, doCall, Op, callOf, effect}
-use Rattle.model.specs.Meaning.Ends.{Passed, stepOk, checks, done, undoStart, undoCount, redoCount, CountsChanges}
+use Rattle.model.specs.Meaning.Ends.{Passed, stepOk, done, undoStart, undoCount, redoCount, CountsChanges, checksOf, doneOf}
 use Rattle.model.proofs.Lists.Scan.{and-l, and-r}
 use Rattle.model.proofs.Sets.Closure.{closure-least}
 use Rattle.model.proofs.Calls.Checks.{passed-at, passed-append}
@@ -51,11 +51,11 @@ module _ (n : ℕ) (o : Outcome) where
       record { size = size; some = rw size (op-changes-some p h) }
 
   pub sew-count : (i d e : ℕ) → Counted (Call.sew i d e)
-  unfolding done callOf
+  unfolding doneOf callOf
   sew-count i d e = op-counted (Op.sew i d e) refl
 
   pub unsew-count : (i d : ℕ) → Counted (Call.unsew i d)
-  unfolding done callOf
+  unfolding doneOf callOf
   unsew-count i d = op-counted (Op.unsew i d) refl
 
 -- ---- undo and redo
@@ -101,14 +101,14 @@ module _ (redo : Bool) (t j : List ℕ) (a k : ℕ) (whole : unbroken redo t j a
 
 module _ (n : ℕ) (o : Outcome) where
   pub undo-count : Counted n o Call.undo
-  unfolding checks done
+  unfolding checksOf doneOf
   undo-count h =
       let q = passed-append (stepChecks n (o .table) (o .journal) (undoOk (o .journal))) _ (call-passed n o Call.undo h) in
       let whole = step-pass false n (o .table) (o .journal) _ _ (passed-at _ (q .1) 0) .0 in
       rw (call-done n o Call.undo h) (unbroken-counts false (o .table) (o .journal) _ _ whole)
 
   pub redo-count : Counted n o Call.redo
-  unfolding checks done
+  unfolding checksOf doneOf
   redo-count h =
       let q = passed-append (stepChecks n (o .table) (o .journal) (redoOk (o .journal))) _ (call-passed n o Call.redo h) in
       let whole = step-pass true n (o .table) (o .journal) _ _ (passed-at _ (q .1) 0) .0 in
@@ -157,26 +157,26 @@ module _ (n : ℕ) (o : Outcome) where
   -- "Count: darts reached"
   pub orbit-count : (mask d : ℕ) → doCall n o (Call.orbit mask d) .number ≡ 0
       → doCall n o (Call.orbit mask d) .count ≡ count 1 (orbit n (o .table) mask d)
-  unfolding done
+  unfolding doneOf
   orbit-count mask d h = ap (λ (r : Outcome). r .count) (call-done n o (Call.orbit mask d) h)
 
   -- "Count: size of S"
   pub sheet-count : (d : ℕ) → doCall n o (Call.sheet d) .number ≡ 0 → doCall n o (Call.sheet d) .count ≡ count 1 (sheet n (o .table) d)
-  unfolding done
+  unfolding doneOf
   sheet-count d h = ap (λ (r : Outcome). r .count) (call-done n o (Call.sheet d) h)
 
   -- "Count: 8 or 48"
   pub add-count : doCall n o Call.add .number ≡ 0 → doCall n o Call.add .count ≡ cellSize n
-  unfolding done
+  unfolding doneOf
   add-count h = ap (λ (r : Outcome). r .count) (call-done n o Call.add h)
 
   -- "Count: darts removed": those with marks 1 or 2
   pub remove-count : (d : ℕ) → doCall n o (Call.remove d) .number ≡ 0
       → doCall n o (Call.remove d) .count ≡ count 1 (doCall n o (Call.remove d) .marks) + count 2 (doCall n o (Call.remove d) .marks)
-  unfolding done
+  unfolding doneOf
   remove-count d h = rw (call-done n o (Call.remove d) h) (removed-count n (o .table) d)
 
   -- "Count: darts added": n for each dart of S
   pub split-count : (d : ℕ) → doCall n o (Call.split d) .number ≡ 0 → doCall n o (Call.split d) .count ≡ n * count 1 (sheet n (o .table) d)
-  unfolding done
+  unfolding doneOf
   split-count d h = rw (call-done n o (Call.split d) h) (ap (λ (k : ℕ). n * k) (length-ones (sheet n (o .table) d) 0))

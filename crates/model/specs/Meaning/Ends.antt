@@ -1,5 +1,5 @@
--- How a call ends: all its checks in order, the numbers by which it refuses, what a refusal leaves (`refusedBy`), and
--- what an accepted call gives (`done`). The laws of calls say that each call ends so.
+-- How a call ends (`Ends`): its checks in order, with their numbers; what a refusal leaves (`refusedBy`); what an accepted
+-- call gives (`done`). And what theorems say of that: `Untouched`, `Recorded`, `CursorMoved`, `CountsChanges`.
 use Prim.Native.Nat.{ℕ, _+_, _*_, _-_, _≤_, _<_}
 use mathlib.Core.Path.{_≡_}
 use mathlib.Core.Logic.{_≢_}
@@ -18,10 +18,10 @@ use Rattle.model.specs.Sew.{sewTable, unsewTable}
 use Rattle.model.specs.Remove.{removeTable}
 use Rattle.model.specs.Split.{splitSlots, splitTable}
 use Rattle.model.specs.Journal.{cursor, end, changesFrom, recordOf, written, changesAt, put, unbroken}
-use Rattle.model.specs.Checks.{Check, pass, must, inOrder, pairingOk, undoOk, redoOk, checkChecks, orbitChecks, sheetChecks}
+use Rattle.model.specs.Checks.{Check, pass, refuse, must, inOrder, pairingOk, undoOk, redoOk, checkChecks, orbitChecks, sheetChecks}
 use Rattle.model.specs.Checks.{addChecks, sidesChecks, sewChecks, unsewChecks, layerChecks, splitChecks, stepChecks}
 use Rattle.model.specs.Calls.{Outcome, refused}
-use Rattle.model.specs.Runs.{Call, Op}
+use Rattle.model.specs.Runs.{Call, doCall, Op}
 
 -- a table, marks and a journal that are lent to a call
 abbrev pub lent : List ℕ → List ℕ → List ℕ → Outcome
@@ -48,30 +48,24 @@ undoStart j = cursor j - (3 * undoCount j + 2)
 abbrev pub redoCount : List ℕ → ℕ
 redoCount j = getD j (cursor j) 0
 
--- of a call on the table, marks and journal of o
-unfoldable pub checks : ℕ → Outcome → Call → List Check
-checks n o Call.check = checkChecks n (o .table)
-checks n o (Call.orbit mask d) = orbitChecks n (o .table) (o .marks) mask d
-checks n o (Call.sheet d) = sheetChecks n (o .table) (o .marks) d
-checks n o Call.add = addChecks n (o .table) (o .journal) ++ (recordOk (o .table) (addTable n (o .table)) (o .journal) ∷ [])
-checks n o (Call.sew i d e) =
-    sidesChecks n (o .table) (o .journal) i d e
-    ++ (pairingOk n (o .table) i d e ∷ recordOk (o .table) (sewTable n (o .table) i d e) (o .journal) ∷ [])
-checks n o (Call.unsew i d) =
-    unsewChecks n (o .table) (o .journal) i d ++ (recordOk (o .table) (unsewTable n (o .table) i d) (o .journal) ∷ [])
-checks n o (Call.remove d) =
-    layerChecks n (o .table) (o .marks) (o .journal) d
-    ++ (recordOk (o .table) (removeTable n (o .table) d) (o .journal) ∷ [])
-checks n o (Call.split d) =
-    layerChecks n (o .table) (o .marks) (o .journal) d
-    ++ (splitChecks n (o .table) (sheet n (o .table) d) (ones (sheet n (o .table) d))
-    ++ (recordOk (o .table) (splitTable n (o .table) d) (o .journal) ∷ []))
-checks n o Call.undo =
-    stepChecks n (o .table) (o .journal) (undoOk (o .journal))
-    ++ (stepOk false n (o .table) (o .journal) (undoStart (o .journal)) (undoCount (o .journal)) ∷ [])
-checks n o Call.redo =
-    stepChecks n (o .table) (o .journal) (redoOk (o .journal))
-    ++ (stepOk true n (o .table) (o .journal) (cursor (o .journal)) (redoCount (o .journal)) ∷ [])
+-- of a call on the table t, the marks m and the journal j
+unfoldable pub checksOf : ℕ → List ℕ → List ℕ → List ℕ → Call → List Check
+checksOf n t m j Call.check = checkChecks n t
+checksOf n t m j (Call.orbit mask d) = orbitChecks n t m mask d
+checksOf n t m j (Call.sheet d) = sheetChecks n t m d
+checksOf n t m j Call.add = addChecks n t j ++ (recordOk t (addTable n t) j ∷ [])
+checksOf n t m j (Call.sew i d e) =
+    sidesChecks n t j i d e ++ (pairingOk n t i d e ∷ recordOk t (sewTable n t i d e) j ∷ [])
+checksOf n t m j (Call.unsew i d) = unsewChecks n t j i d ++ (recordOk t (unsewTable n t i d) j ∷ [])
+checksOf n t m j (Call.remove d) = layerChecks n t m j d ++ (recordOk t (removeTable n t d) j ∷ [])
+checksOf n t m j (Call.split d) =
+    let s = sheet n t d in
+    layerChecks n t m j d ++ (splitChecks n t s (ones s) ++ (recordOk t (splitTable n t d) j ∷ []))
+checksOf n t m j Call.undo = stepChecks n t j (undoOk j) ++ (stepOk false n t j (undoStart j) (undoCount j) ∷ [])
+checksOf n t m j Call.redo = stepChecks n t j (redoOk j) ++ (stepOk true n t j (cursor j) (redoCount j) ∷ [])
+
+abbrev pub checks : ℕ → Outcome → Call → List Check
+checks n o c = checksOf n (o .table) (o .marks) (o .journal) c
 
 -- their numbers: the column "Calls" of 01's table. sew has 7 twice, for d and for e
 abbrev pub numbers : Call → List ℕ
@@ -139,56 +133,60 @@ pub data Reading : Call → Type 0 where
   reads-orbit : {mask d : ℕ} → Reading (Call.orbit mask d)
   reads-sheet : {d : ℕ} → Reading (Call.sheet d)
 
--- a call that gives this place, this count and these marks, and leaves table and journal
-abbrev pub marking : Outcome → ℕ → ℕ → List ℕ → Outcome
-marking o p k m = record { number = 0; place = p; count = k; table = o .table; marks = m; journal = o .journal }
+-- one of these: the table and the journal stay; the place, the count and the marks
+abbrev pub marking : List ℕ → List ℕ → ℕ → ℕ → List ℕ → Outcome
+marking t j p k m = record { number = 0; place = p; count = k; table = t; marks = m; journal = j }
 
 -- an operation: the new table u, the place, the count and the marks
-abbrev pub changing : Outcome → List ℕ → ℕ → ℕ → List ℕ → Outcome
-changing o u p k m = record {
+abbrev pub changing : List ℕ → List ℕ → List ℕ → ℕ → ℕ → List ℕ → Outcome
+changing t j u p k m = record {
   number = 0;
   place = p;
   count = k;
   table = u;
   marks = m;
-  journal = written (o .journal) (recordOf (changesFrom 0 (o .table) u));
+  journal = written j (recordOf (changesFrom 0 t u));
 }
 
 -- undo or redo of the record of k changes at the word a; the cursor goes to c
-abbrev pub stepping : Bool → Outcome → ℕ → ℕ → ℕ → Outcome
-stepping redo o a k c = record {
+abbrev pub stepping : Bool → List ℕ → List ℕ → List ℕ → ℕ → ℕ → ℕ → Outcome
+stepping redo t m j a k c = record {
   number = 0;
   place = 0;
   count = k;
-  table = put redo (changesAt (o .journal) a k) (o .table);
-  marks = o .marks;
-  journal = set (o .journal) 0 c;
+  table = put redo (changesAt j a k) t;
+  marks = m;
+  journal = set j 0 c;
 }
 
-unfoldable pub done : ℕ → Outcome → Call → Outcome
-done n o Call.check = marking o 0 (elim (isBlock n (o .table)) [ true ↦ 2 | false ↦ 1 ]) (o .marks)
-done n o (Call.orbit mask d) =
-    marking o (orbitPlace n mask) (count 1 (orbit n (o .table) mask d)) (orbit n (o .table) mask d)
-done n o (Call.sheet d) =
-    marking o 0 (count 1 (sheet n (o .table) d)) (sheetMarks n (o .table) (sheet n (o .table) d))
-done n o Call.add = changing o (addTable n (o .table)) (getD (addSlots n (o .table)) 0 0) (cellSize n) (o .marks)
-done n o (Call.sew i d e) =
-    let u = sewTable n (o .table) i d e in
-    changing o u 0 (length (changesFrom 0 (o .table) u)) (o .marks)
-done n o (Call.unsew i d) =
-    let u = unsewTable n (o .table) i d in
-    changing o u 0 (length (changesFrom 0 (o .table) u)) (o .marks)
-done n o (Call.remove d) =
-    let marks = sheetMarks n (o .table) (sheet n (o .table) d) in
-    changing o (removeTable n (o .table) d) 0 (slots (o .table) - count 0 marks) marks
-done n o (Call.split d) =
-    let s = sheet n (o .table) d in
-    changing o (splitTable n (o .table) d) (getD (splitSlots n (o .table) (ones s)) 0 0) (n * length (ones s))
-    (sheetMarks n (o .table) s)
-done n o Call.undo =
-    stepping false o (undoStart (o .journal)) (undoCount (o .journal)) (undoStart (o .journal))
-done n o Call.redo =
-    stepping true o (cursor (o .journal)) (redoCount (o .journal)) (cursor (o .journal) + (3 * redoCount (o .journal) + 2))
+unfoldable pub doneOf : ℕ → List ℕ → List ℕ → List ℕ → Call → Outcome
+doneOf n t m j Call.check = marking t j 0 (elim (isBlock n t) [ true ↦ 2 | false ↦ 1 ]) m
+doneOf n t m j (Call.orbit mask d) = let s = orbit n t mask d in marking t j (orbitPlace n mask) (count 1 s) s
+doneOf n t m j (Call.sheet d) = let s = sheet n t d in marking t j 0 (count 1 s) (sheetMarks n t s)
+doneOf n t m j Call.add = changing t j (addTable n t) (getD (addSlots n t) 0 0) (cellSize n) m
+doneOf n t m j (Call.sew i d e) = let u = sewTable n t i d e in changing t j u 0 (length (changesFrom 0 t u)) m
+doneOf n t m j (Call.unsew i d) = let u = unsewTable n t i d in changing t j u 0 (length (changesFrom 0 t u)) m
+doneOf n t m j (Call.remove d) =
+    let marks = sheetMarks n t (sheet n t d) in
+    changing t j (removeTable n t d) 0 (slots t - count 0 marks) marks
+doneOf n t m j (Call.split d) =
+    let s = sheet n t d in
+    changing t j (splitTable n t d) (getD (splitSlots n t (ones s)) 0 0) (n * length (ones s)) (sheetMarks n t s)
+doneOf n t m j Call.undo = stepping false t m j (undoStart j) (undoCount j) (undoStart j)
+doneOf n t m j Call.redo = stepping true t m j (cursor j) (redoCount j) (cursor j + (3 * redoCount j + 2))
+
+abbrev pub done : ℕ → Outcome → Call → Outcome
+done n o c = doneOf n (o .table) (o .marks) (o .journal) c
+
+-- ---- how a call ends
+
+-- behind the checks cs an outcome is y, where they pass, and f of the number and place where one refuses
+pub record Behind (cs : List Check) (y : Outcome) (f : ℕ → ℕ → Outcome) (r : Outcome) : Type 0 where
+  pub passes : inOrder cs ≡ pass → r ≡ y
+  pub refuses : (k p : ℕ) → inOrder cs ≡ refuse k p → r ≡ f k p
+
+abbrev pub Ends : ℕ → Outcome → Call → Type 0
+Ends n o c = Behind (checks n o c) (done n o c) (refusedBy n o c) (doCall n o c)
 
 -- "writes its record .. at the cursor; cursor and end go behind it .. Other journal words stay": of the journal j and the
 -- journal k after it, where r is the record
