@@ -11,8 +11,6 @@ use native.Mathlib.Omega.{arith}
 use lib.ListN.{length, getD, take, drop, replicate}
 use borrow.Author.Tests.{ne-eqb}
 use Rattle.model.specs.Lists.{indexOf, member}
-use Rattle.model.specs.Map.{leastBreaking}
-use Rattle.model.specs.Cell.{leastWrong}
 use Rattle.model.specs.Checks.{Check, pass, refuse, andThen, must, mustAt, inOrder}
 use Rattle.model.specs.Checks.{dimOk, tableOk, marksOk, journalOk, mapOk, indexOk, maskOk, dartOk, blockOk, apartOk, freeOk}
 use Rattle.model.specs.Checks.{sewnOk, pairingOk, crossingOk, addRoomOk, splitRoomOk, undoOk, redoOk}
@@ -111,59 +109,42 @@ unfolding refusalPlace
 place-other n t k a b = rw (ne-eqb k 5 a, refusalPlace, ne-eqb k 8 b)
 
 module _ {n : ℕ} {t j : List ℕ} where
-  -- a check but 4, 5 and 8
-  plain : (b : Bool) (z : ℕ) → member (0 ∷ 4 ∷ 5 ∷ 8 ∷ []) z ≡ false → Numbered n t j z (must b z)
-  plain b z h k p e =
-      let r = must-refused b e in
-      let other : (y : ℕ) → In y (0 ∷ 4 ∷ 5 ∷ 8 ∷ []) → k ≢ y = λ y i q. not-in (0 ∷ 4 ∷ 5 ∷ 8 ∷ []) z h y i (sym q ∙ r .0) in
-      let other-5 = other 5 (there (there (here refl))) in (
+  -- a check that refuses by the number z at the place q; of those with the numbers 4 and 5 there is one each
+  numbered : (c : Check) (z q : ℕ) → ((k p : ℕ) → c ≡ refuse k p → (k ≡ z) × (p ≡ q)) → z ≢ 0 → q ≡ refusalPlace n t z
+      → (z ≡ 4 → c ≡ journalOk j) → (z ≡ 5 → c ≡ mapOk n t) → Numbered n t j z c
+  numbered c z q is not-0 place journal map k p e =
+      let r = is k p e in
+      let refused : c ≢ pass = λ h. not-pass (sym e ∙ h) in (
         r .0,
         record {
-          not-0 = other 0 (here refl);
-          place = r .1 ∙ sym (place-other n t k other-5 (other 8 (there (there (there (here refl))))));
-          journal = λ q. absurd (other 4 (there (here refl)) q);
-          map = λ q. absurd (other-5 q);
+          not-0 = λ h. not-0 (sym (r .0) ∙ h);
+          place = r .1 ∙ place ∙ ap (refusalPlace n t) (sym (r .0));
+          journal = λ h l. refused (journal (sym (r .0) ∙ h) ∙ l);
+          map = λ h l. refused (map (sym (r .0) ∙ h) ∙ l);
         },
       )
+
+  -- any but 4, 5 and 8
+  plain : (b : Bool) (z : ℕ) → member (0 ∷ 4 ∷ 5 ∷ 8 ∷ []) z ≡ false → Numbered n t j z (must b z)
+  plain b z h =
+      let other : (y : ℕ) → In y (0 ∷ 4 ∷ 5 ∷ 8 ∷ []) → z ≢ y = λ y i q. not-in (0 ∷ 4 ∷ 5 ∷ 8 ∷ []) z h y i (sym q) in
+      let not-4 = other 4 (there (here refl)) in
+      let not-5 = other 5 (there (there (here refl))) in
+      let not-8 = other 8 (there (there (there (here refl)))) in
+      numbered (must b z) z 0 (λ k p. must-refused b) (other 0 (here refl)) (sym (place-other n t z not-5 not-8))
+      (λ q. absurd (not-4 q)) (λ q. absurd (not-5 q))
 
   journal : Numbered n t j 4 (journalOk j)
   unfolding journalOk refusalPlace
-  journal k p e =
-      let r = must-refused _ e in (
-        r .0,
-        record {
-          not-0 = λ q. let a = r .0 in omega arith;
-          place = rw (r .0) (r .1);
-          journal = λ q h. not-pass (sym e ∙ h);
-          map = λ q. absurd (let a = r .0 in omega arith);
-        },
-      )
+  journal = numbered (journalOk j) 4 0 (λ k p. must-refused _) (λ q. omega arith) refl (λ q. refl) (λ q. absurd (omega arith))
 
   map : Numbered n t j 5 (mapOk n t)
   unfolding mapOk refusalPlace
-  map k p e =
-      let r = mustAt-refused _ e in (
-        r .0,
-        record {
-          not-0 = λ q. let a = r .0 in omega arith;
-          place = rw (r .0) (r .1);
-          journal = λ q. absurd (let a = r .0 in omega arith);
-          map = λ q h. not-pass (sym e ∙ h);
-        },
-      )
+  map = numbered (mapOk n t) 5 _ (λ k p. mustAt-refused _) (λ q. omega arith) refl (λ q. absurd (omega arith)) (λ q. refl)
 
   block : Numbered n t j 8 (blockOk n t)
   unfolding blockOk refusalPlace
-  block k p e =
-      let r = mustAt-refused _ e in (
-        r .0,
-        record {
-          not-0 = λ q. let a = r .0 in omega arith;
-          place = rw (r .0) (r .1);
-          journal = λ q. absurd (let a = r .0 in omega arith);
-          map = λ q. absurd (let a = r .0 in omega arith);
-        },
-      )
+  block = numbered (blockOk n t) 8 _ (λ k p. mustAt-refused _) (λ q. omega arith) refl (λ q. absurd (omega arith)) (λ q. absurd (omega arith))
 
   -- a refusal has one of the numbers, and says what that number says
   pub refusal-says : {zs : List ℕ} (cs : List Check) → Numbers n t j zs cs → (k p : ℕ) → inOrder cs ≡ refuse k p

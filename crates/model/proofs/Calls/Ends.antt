@@ -1,28 +1,26 @@
 -- `call-ends`: a call that passes its checks ends as `done` says, any other is refused by the first check that fails and
 -- leaves table and journal. From it: a call gives 0 exactly if it passes its checks, and only numbers of its own.
-use Prim.Native.Nat.{ℕ, _-_, _≤_}
+use Prim.Native.Nat.{ℕ}
 use mathlib.Core.Path.{_≡_, refl, sym, ap, _∙_}
 use mathlib.Core.Logic.{_≢_, ⊎-elim}
 use mathlib.Core.Bool.{Bool, true, false}
-use mathlib.Core.Option.{Option, none, some}
-use mathlib.Core.List.{List, [], _∷_, _++_, append-assoc, append-nil, List·Memᴰ as In, List·Memᴰ·head as here, List·Memᴰ·tail as there}
-use mathlib.Core.List.{Memᴰ·append-left as in-left, List·Memᴰ·not-nil as not-nil}
-use lib.ListN.{length}
-use lib.Dec.{leb}
+use mathlib.Core.List.{List, [], _∷_, _++_, append-assoc, List·Memᴰ as In, List·Memᴰ·not-nil as not-nil}
+use mathlib.Core.List.{List·Memᴰ·head as here, List·Memᴰ·tail as there, Memᴰ·append-left as in-left}
 use Rattle.model.specs.Lists.{ones, indexOf, member}
-use Rattle.model.specs.Journal.{Change, changesFrom, recordOf, written, cursor}
+use Rattle.model.specs.Journal.{changesFrom, recordOf, written}
 use Rattle.model.specs.Sheet.{sheet, sheetMarks}
-use Rattle.model.specs.Checks.{Check, pass, refuse, must, andThen, inOrder, addChecks, sidesChecks, sewChecks, unsewChecks, layerChecks, splitChecks}
-use Rattle.model.specs.Checks.{pairingOk}
+use Rattle.model.specs.Checks.{Check, pass, refuse, must, andThen, inOrder, pairingOk}
+use Rattle.model.specs.Checks.{addChecks, sidesChecks, sewChecks, unsewChecks, layerChecks, splitChecks}
 use Rattle.model.specs.Calls.{Outcome, refused, commit, checkCall, orbitCall, sheetCall, addCall, sewCall, unsewCall}
 use Rattle.model.specs.Calls.{removeCall, splitCall, stepOutcome, undoCall, redoCall}
 use Rattle.model.specs.Runs.{Call, doCall, keeping, Op, callOf, effect}
 use Rattle.model.specs.Meaning.Ends.{recordOk, stepOk, checksOf, checks, numbers, layerMarks, refusalMarks, refusedBy}
-use Rattle.model.specs.Meaning.Ends.{doneOf, done, Behind, Ends, Passed}
-use Rattle.model.proofs.Calls.Checks.{not-pass, passed-at, passed-append, append-passed, append-refused, passed-or-refused}
+use Rattle.model.specs.Meaning.Ends.{doneOf, done, Behind, Ends, Passed, OpAccepted}
 use Rattle.model.proofs.Lists.Scan.{test, clash}
 use Rattle.model.proofs.Lists.Ones.{in-member, member-in}
-use Rattle.model.proofs.Calls.Checks.{Numbers, numbers-before, numbers-behind, not-in, same-refusal, Says, refusal-says, call-numbers}
+use Rattle.model.proofs.Calls.Checks.{not-pass, passed-at, passed-append, append-passed, append-refused, passed-or-refused}
+use Rattle.model.proofs.Calls.Checks.{same-refusal, Numbers, numbers-before, numbers-behind, Says, refusal-says}
+use Rattle.model.proofs.Calls.Checks.{call-numbers}
 use Rattle.model.proofs.Calls.Pass.{record-pass}
 
 -- ---- an outcome behind checks
@@ -81,18 +79,28 @@ not-late k i = test (member (13 ∷ 14 ∷ 15 ∷ []) k) (λ h. absurd (clash (i
     late k (there (there (there i))) = absurd (not-nil i)
 
 module _ (n : ℕ) (o : Outcome) where
+  -- the table, the marks and the journal that are lent
+  abbrev t : List ℕ
+  t = o .table
+
+  abbrev m : List ℕ
+  m = o .marks
+
+  abbrev j : List ℕ
+  j = o .journal
+
   -- those that take no marks, or no journal, keep what they do not take
   check-ends : Ends n o Call.check
   unfolding doCall checkCall checksOf doneOf refusalMarks keeping refused
-  check-ends = behind-map (λ r. keeping r (o .marks) (o .journal)) (behind-checks _ _ _)
+  check-ends = behind-map (λ r. keeping r m j) (behind-checks _ _ _)
 
   orbit-ends : (mask d : ℕ) → Ends n o (Call.orbit mask d)
   unfolding doCall orbitCall checksOf doneOf refusalMarks keeping refused
-  orbit-ends mask d = behind-map (λ r. keeping r (r .marks) (o .journal)) (behind-checks _ _ _)
+  orbit-ends mask d = behind-map (λ r. keeping r (r .marks) j) (behind-checks _ _ _)
 
   sheet-ends : (d : ℕ) → Ends n o (Call.sheet d)
   unfolding doCall sheetCall checksOf doneOf refusalMarks keeping refused
-  sheet-ends d = behind-map (λ r. keeping r (r .marks) (o .journal)) (behind-checks _ _ _)
+  sheet-ends d = behind-map (λ r. keeping r (r .marks) j) (behind-checks _ _ _)
 
   add-ends : Ends n o Call.add
   unfolding doCall addCall commit checksOf recordOk doneOf refusalMarks keeping
@@ -105,7 +113,7 @@ module _ (n : ℕ) (o : Outcome) where
   sew-ends : (i d e : ℕ) → Ends n o (Call.sew i d e)
   unfolding doCall sewCall commit sewChecks checksOf recordOk doneOf refusalMarks keeping
   sew-ends i d e =
-      rw (← append-assoc (sidesChecks n (o .table) (o .journal) i d e) (pairingOk n (o .table) i d e ∷ []) _)
+      rw (← append-assoc (sidesChecks n t j i d e) (pairingOk n t i d e ∷ []) _)
       (behind-unmarked _ _ 15 _ _ _ _)
 
   undo-ends : Ends n o Call.undo
@@ -118,19 +126,20 @@ module _ (n : ℕ) (o : Outcome) where
 
   -- remove and split: a refusal by 13, 14 or 15 leaves the sheet's marks ..
   abbrev leaving : ℕ → ℕ → List ℕ → Outcome
-  leaving k p m = refused k p (o .table) m (o .journal)
+  leaving k p marks = refused k p t marks j
 
-  late-leaves : (d k p : ℕ) → In k (13 ∷ 14 ∷ 15 ∷ []) → leaving k p (sheetMarks n (o .table) (sheet n (o .table) d)) ≡ leaving k p (layerMarks n o d k)
+  late-leaves : (d k p : ℕ) → In k (13 ∷ 14 ∷ 15 ∷ [])
+      → leaving k p (sheetMarks n t (sheet n t d)) ≡ leaving k p (layerMarks n o d k)
   unfolding layerMarks
   late-leaves d k p i = ap (leaving k p) (rw (in-member _ k i, layerMarks))
 
   -- .. an earlier one the marks lent
-  early-leaves : (d k p : ℕ) → inOrder (layerChecks n (o .table) (o .marks) (o .journal) d) ≡ refuse k p
-      → leaving k p (o .marks) ≡ leaving k p (layerMarks n o d k)
+  early-leaves : (d k p : ℕ) → inOrder (layerChecks n t m j d) ≡ refuse k p
+      → leaving k p m ≡ leaving k p (layerMarks n o d k)
   unfolding layerMarks layerChecks checksOf
   early-leaves d k p e = ap (leaving k p) (rw (not-late k (refusal-says _ early k p e .0), layerMarks))
     where
-      early : Numbers n (o .table) (o .journal) (1 ∷ 2 ∷ 3 ∷ 4 ∷ 5 ∷ 7 ∷ 8 ∷ []) (layerChecks n (o .table) (o .marks) (o .journal) d)
+      early : Numbers n t j (1 ∷ 2 ∷ 3 ∷ 4 ∷ 5 ∷ 7 ∷ 8 ∷ []) (layerChecks n t m j d)
       early = numbers-before _ _ (call-numbers n o (Call.remove d))
 
   remove-ends : (d : ℕ) → Ends n o (Call.remove d)
@@ -141,8 +150,8 @@ module _ (n : ℕ) (o : Outcome) where
   split-ends : (d : ℕ) → Ends n o (Call.split d)
   unfolding doCall splitCall commit checksOf recordOk doneOf refusalMarks layerChecks splitChecks
   split-ends d =
-      let late = numbers-behind (layerChecks n (o .table) (o .marks) (o .journal) d) _ (call-numbers n o (Call.split d)) in
-      let crossing = numbers-before (splitChecks n (o .table) (sheet n (o .table) d) (ones (sheet n (o .table) d))) _ late in
+      let late = numbers-behind (layerChecks n t m j d) _ (call-numbers n o (Call.split d)) in
+      let crossing = numbers-before (splitChecks n t (sheet n t d) (ones (sheet n t d))) _ late in
       behind-more _ _ _ _ _ _
       (behind-more _ _ _ _ _ _ (behind-last _ _ _ 15 _ _ refl (late-leaves d 15 0 (there (there (here refl)))))
       (λ k p e. late-leaves d k p (in-left (15 ∷ []) (refusal-says _ crossing k p e .0))))
@@ -163,13 +172,14 @@ module _ (n : ℕ) (o : Outcome) where
   -- ---- the number of a call
 
   -- what the first check that fails says
-  pub call-says : (c : Call) (k p : ℕ) → inOrder (checks n o c) ≡ refuse k p → In k (numbers c) × Says n (o .table) (o .journal) k p
+  pub call-says : (c : Call) (k p : ℕ) → inOrder (checks n o c) ≡ refuse k p → In k (numbers c) × Says n t j k p
   call-says c = refusal-says (checks n o c) (call-numbers n o c)
 
   pub call-passed : (c : Call) → doCall n o c .number ≡ 0 → inOrder (checks n o c) ≡ pass
   unfolding refused
   call-passed c h = ⊎-elim (λ e. e) (λ q.
-      absurd (call-says c (q .0) (q .1) (q .2) .1 .not-0 (sym (ap (λ (r : Outcome). r .number) (call-ends c .refuses (q .0) (q .1) (q .2))) ∙ h)))
+      let number = ap (λ (r : Outcome). r .number) (call-ends c .refuses (q .0) (q .1) (q .2)) in
+      absurd (call-says c (q .0) (q .1) (q .2) .1 .not-0 (sym number ∙ h)))
       (passed-or-refused (inOrder (checks n o c)))
 
   pub call-done : (c : Call) → doCall n o c .number ≡ 0 → doCall n o c ≡ done n o c
@@ -190,7 +200,8 @@ module _ (n : ℕ) (o : Outcome) where
 
   -- a call that gives another number than 0: the first check that fails has that number
   pub call-refused : (c : Call) → doCall n o c .number ≢ 0
-      → (p : ℕ) × (inOrder (checks n o c) ≡ refuse (doCall n o c .number) p) × (doCall n o c ≡ refusedBy n o c (doCall n o c .number) p)
+      → (p : ℕ) × (inOrder (checks n o c) ≡ refuse (doCall n o c .number) p)
+      × (doCall n o c ≡ refusedBy n o c (doCall n o c .number) p)
   unfolding refused
   call-refused c h = ⊎-elim (λ e. absurd (h (ap (λ (r : Outcome). r .number) (call-ends c .passes e) ∙ done-number c))) (λ q.
       let e = call-ends c .refuses (q .0) (q .1) (q .2) in
@@ -200,30 +211,23 @@ module _ (n : ℕ) (o : Outcome) where
 
   -- ---- operations
 
-  pub op-passed : (p : Op) → inOrder (checks n o (callOf p)) ≡ pass
-      → Passed n (o .table) (o .marks) (o .journal) p × (recordOk (o .table) (effect n (o .table) p) (o .journal) ≡ pass)
+  op-passed : (p : Op) → inOrder (checks n o (callOf p)) ≡ pass
+      → Passed n t m j p × (recordOk t (effect n t p) j ≡ pass)
   unfolding checksOf callOf effect sewChecks
-  op-passed Op.add h = let r = passed-append (addChecks n (o .table) (o .journal)) _ h in (r .0, passed-at _ (r .1) 0)
+  op-passed Op.add h = let r = passed-append (addChecks n t j) _ h in (r .0, passed-at _ (r .1) 0)
   op-passed (Op.sew i d e) h =
-      let both = append-assoc (sidesChecks n (o .table) (o .journal) i d e) (pairingOk n (o .table) i d e ∷ []) _ in
-      let r = passed-append (sewChecks n (o .table) (o .journal) i d e) _ (ap inOrder both ∙ h) in
+      let both = append-assoc (sidesChecks n t j i d e) (pairingOk n t i d e ∷ []) _ in
+      let r = passed-append (sewChecks n t j i d e) _ (ap inOrder both ∙ h) in
       (r .0, passed-at _ (r .1) 0)
-  op-passed (Op.unsew i d) h = let r = passed-append (unsewChecks n (o .table) (o .journal) i d) _ h in (r .0, passed-at _ (r .1) 0)
-  op-passed (Op.remove d) h = let r = passed-append (layerChecks n (o .table) (o .marks) (o .journal) d) _ h in (r .0, passed-at _ (r .1) 0)
+  op-passed (Op.unsew i d) h = let r = passed-append (unsewChecks n t j i d) _ h in (r .0, passed-at _ (r .1) 0)
+  op-passed (Op.remove d) h = let r = passed-append (layerChecks n t m j d) _ h in (r .0, passed-at _ (r .1) 0)
   op-passed (Op.split d) h =
-      let r = passed-append (layerChecks n (o .table) (o .marks) (o .journal) d) _ h in
-      let s = passed-append (splitChecks n (o .table) (sheet n (o .table) d) (ones (sheet n (o .table) d))) _ (r .1) in
+      let r = passed-append (layerChecks n t m j d) _ h in
+      let s = passed-append (splitChecks n t (sheet n t d) (ones (sheet n t d))) _ (r .1) in
       ((r .0, s .0), passed-at _ (s .1) 0)
 
-  -- an accepted operation has passed its checks, and leaves its effect and the record of the changes
-  pub record OpAccepted (p : Op) (r : Outcome) : Type 0 where
-    pub passed : Passed n (o .table) (o .marks) (o .journal) p
-    pub table : r .table ≡ effect n (o .table) p
-    pub journal : r .journal ≡ written (o .journal) (recordOf (changesFrom 0 (o .table) (effect n (o .table) p)))
-    pub room : length (recordOf (changesFrom 0 (o .table) (effect n (o .table) p))) ≤ length (o .journal) - cursor (o .journal)
-
-  done-op : (p : Op) → (done n o (callOf p) .table ≡ effect n (o .table) p)
-      × (done n o (callOf p) .journal ≡ written (o .journal) (recordOf (changesFrom 0 (o .table) (effect n (o .table) p))))
+  done-op : (p : Op) → (done n o (callOf p) .table ≡ effect n t p)
+      × (done n o (callOf p) .journal ≡ written j (recordOf (changesFrom 0 t (effect n t p))))
   unfolding doneOf callOf effect
   done-op Op.add = (refl, refl)
   done-op (Op.sew i d e) = (refl, refl)
@@ -231,7 +235,8 @@ module _ (n : ℕ) (o : Outcome) where
   done-op (Op.remove d) = (refl, refl)
   done-op (Op.split d) = (refl, refl)
 
-  pub op-accepted : (p : Op) → doCall n o (callOf p) .number ≡ 0 → OpAccepted p (doCall n o (callOf p))
+  -- an accepted operation has passed its checks, and leaves its effect and the record of the changes
+  pub op-accepted : (p : Op) → doCall n o (callOf p) .number ≡ 0 → OpAccepted n o p (doCall n o (callOf p))
   op-accepted p h =
       let passed = op-passed p (call-passed (callOf p) h) in
       let is = call-done (callOf p) h in

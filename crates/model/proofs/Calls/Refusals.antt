@@ -1,6 +1,6 @@
 -- When a number is given. `given-exactly`: for each call and number. In 01's words: `sew-12`: no pairing exists;
 -- `split-13`: some g in S has g.1 in S; `undo-17`, `redo-17`: record broken, or result no map.
-use Prim.Native.Nat.{ℕ, suc}
+use Prim.Native.Nat.{ℕ}
 use mathlib.Core.Path.{_≡_, refl, sym, ap, _∙_}
 use mathlib.Core.Logic.{_⊎_, inl, inr, _≢_, _↔_, ⊎-elim}
 use mathlib.Core.Bool.{Bool, true, false, not, _&&_, _||_}
@@ -18,11 +18,11 @@ use Rattle.model.specs.Sheet.{sheet}
 use Rattle.model.specs.Sew.{partners, isPaired}
 use Rattle.model.specs.Split.{crosses}
 use Rattle.model.specs.Journal.{cursor, changesAt, put, unbroken}
-use Rattle.model.specs.Checks.{Check, pass, refuse, must, andThen, inOrder, pairingOk, crossingOk, splitRoomOk, undoOk, redoOk}
+use Rattle.model.specs.Checks.{Check, pass, refuse, must, andThen, inOrder, pairingOk, crossingOk, undoOk, redoOk}
 use Rattle.model.specs.Checks.{sidesChecks, layerChecks, splitChecks, stepChecks}
 use Rattle.model.specs.Calls.{Outcome, refused, sewCall, splitCall, undoCall, redoCall}
 use Rattle.model.specs.Runs.{Call, doCall, keeping}
-use Rattle.model.specs.Meaning.Ends.{lent, recordOk, stepOk, checks, numbers, undoCount, undoStart, redoCount, checksOf}
+use Rattle.model.specs.Meaning.Ends.{lent, stepOk, checks, numbers, undoCount, undoStart, redoCount, checksOf}
 use Rattle.model.specs.Meaning.Pairings.{Pairing}
 use Rattle.model.specs.Meaning.Sets.{Marked}
 use Rattle.model.proofs.Lists.Scan.{clash, test}
@@ -83,11 +83,13 @@ module _ (n : ℕ) (t : List ℕ) (i d e : ℕ) where
   paired-exactly : SidesPassed n t i d e → (isPaired n t i d e ≡ true) ↔ Pairing n t i d e
   paired-exactly passed =
       let T = passed .table in
-      let there′ = pairing-there n t i (T .dim .1) (passed .index) (T .whole) (T .few) (T .map) d e (passed .lives-d) (passed .lives-e) in
-      let back = pairing-back n t i (T .dim .1) (passed .index) (T .whole) (T .few) (T .map) d e (passed .lives-d) (passed .lives-e) in
-      let pairing = mates-pairing n t i (T .dim .1) (passed .index) (T .whole) (T .few) (T .map) d e (passed .lives-d) (passed .lives-e) in (
-        λ h. let found = paired-found n t i d e h in pairing (found .p) (found .q) (found .there) (found .back),
-        λ f. both (partners n t i d e) (partners n t i e d) refl refl (there′ f) (back f),
+      let there′ = pairing-there n t i (T .dim .1) (passed .index) (T .whole) (T .few) (T .map) d e in
+      let back = pairing-back n t i (T .dim .1) (passed .index) (T .whole) (T .few) (T .map) d e in
+      let pairing = mates-pairing n t i (T .dim .1) (passed .index) (T .whole) (T .few) (T .map) d e in
+      let l = passed .lives-d in
+      let k = passed .lives-e in (
+        λ h. let found = paired-found n t i d e h in pairing l k (found .p) (found .q) (found .there) (found .back),
+        λ f. both (partners n t i d e) (partners n t i e d) refl refl (there′ l k f) (back l k f),
       )
     where
       both : (x y : Option (List ℕ)) → partners n t i d e ≡ x → partners n t i e d ≡ y
@@ -101,7 +103,8 @@ module _ (n : ℕ) (t : List ℕ) (i d e : ℕ) where
       let r = paired-exactly passed in
       (λ h f. clash (r .1 f) h, λ h. test (isPaired n t i d e) (λ p. absurd (h (r .0 p))) (λ p. p))
 
-  pub sew-12 : (j : List ℕ) → (sewCall n t j i d e .number ≡ 12) ↔ ((inOrder (sidesChecks n t j i d e) ≡ pass) × (Pairing n t i d e → ⊥))
+  pub sew-12 : (j : List ℕ) → (sewCall n t j i d e .number ≡ 12)
+      ↔ ((inOrder (sidesChecks n t j i d e) ≡ pass) × (Pairing n t i d e → ⊥))
   unfolding doCall keeping checksOf sidesChecks pairingOk member indexOf
   sew-12 j = given-test n (lent t [] j) (Call.sew i d e) 12 (λ q. omega arith) (sidesChecks n t j i d e) _ _ refl refl refl refl
       (λ h. unpaired (sides-passed n t j i d e h))
@@ -123,7 +126,8 @@ module _ (t s : List ℕ) where
       let now = inSet s (link t 1 g) in (
         λ h. ⊎-elim (λ q. (g, here refl, eqb-true _ _ q)) (λ q. let r = rest .0 q in (r .0, there (r .1), r .2))
             (or-cases now (crosses t s gs) h),
-        λ r. either now (crosses t s gs) (⊎-elim (λ q. inl (rw q at (eq-eqb _ _ (r .2)))) (λ i. inr (rest .1 (r .0, i, r .2))) (in-cons (r .1))),
+        λ r. either now (crosses t s gs)
+            (⊎-elim (λ q. inl (rw q at (eq-eqb _ _ (r .2)))) (λ i. inr (rest .1 (r .0, i, r .2))) (in-cons (r .1))),
       )
 
   -- some g in s has g.1 in s

@@ -18,10 +18,11 @@ use Rattle.model.specs.Sew.{sewTable, unsewTable}
 use Rattle.model.specs.Remove.{removeTable}
 use Rattle.model.specs.Split.{splitSlots, splitTable}
 use Rattle.model.specs.Journal.{cursor, end, changesFrom, recordOf, written, changesAt, put, unbroken}
-use Rattle.model.specs.Checks.{Check, pass, refuse, must, inOrder, pairingOk, undoOk, redoOk, checkChecks, orbitChecks, sheetChecks}
+use Rattle.model.specs.Checks.{Check, pass, refuse, must, inOrder, pairingOk, undoOk, redoOk}
+use Rattle.model.specs.Checks.{checkChecks, orbitChecks, sheetChecks}
 use Rattle.model.specs.Checks.{addChecks, sidesChecks, sewChecks, unsewChecks, layerChecks, splitChecks, stepChecks}
 use Rattle.model.specs.Calls.{Outcome, refused}
-use Rattle.model.specs.Runs.{Call, doCall, Op}
+use Rattle.model.specs.Runs.{Call, doCall, Op, effect}
 
 -- a table, marks and a journal that are lent to a call
 abbrev pub lent : List ℕ → List ℕ → List ℕ → Outcome
@@ -187,6 +188,14 @@ pub record Behind (cs : List Check) (y : Outcome) (f : ℕ → ℕ → Outcome) 
 
 abbrev pub Ends : ℕ → Outcome → Call → Type 0
 Ends n o c = Behind (checks n o c) (done n o c) (refusedBy n o c) (doCall n o c)
+
+-- of the outcome r of an accepted operation p on o: it has passed its checks, and leaves its effect and the record of
+-- the changes, for which there was room
+pub record OpAccepted (n : ℕ) (o : Outcome) (p : Op) (r : Outcome) : Type 0 where
+  pub passed : Passed n (o .table) (o .marks) (o .journal) p
+  pub table : r .table ≡ effect n (o .table) p
+  pub journal : r .journal ≡ written (o .journal) (recordOf (changesFrom 0 (o .table) (effect n (o .table) p)))
+  pub room : length (recordOf (changesFrom 0 (o .table) (effect n (o .table) p))) ≤ length (o .journal) - cursor (o .journal)
 
 -- "writes its record .. at the cursor; cursor and end go behind it .. Other journal words stay": of the journal j and the
 -- journal k after it, where r is the record
