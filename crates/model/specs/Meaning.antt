@@ -7,4 +7,5 @@ pub mod Walks
 pub mod Places
 pub mod Sheets
 pub mod Ends
+pub mod Numbers
 pub mod Demand

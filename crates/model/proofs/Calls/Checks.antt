@@ -1,14 +1,13 @@
--- Checks in order: where all pass each does; a refusal is that of a check, so it has a number of the list.
--- `call-numbers`: the checks of each call have the numbers of 01's table.
--- `refusal-says`: what a refusal says by its number. `number-exactly`: when a call refuses by a number.
+-- Checks in order: where all pass, each does; else the first that fails refuses.
+-- `call-numbers`: the checks of each call have the numbers of 01's table. `refusal-says`: what a refusal says by its number.
 use Prim.Native.Nat.{ℕ, zero, suc}
 use mathlib.Core.Path.{_≡_, refl, sym, ap, _∙_}
-use mathlib.Core.Logic.{_⊎_, inl, inr, _≢_, _↔_, ⊎-elim}
+use mathlib.Core.Logic.{_⊎_, inl, inr, _≢_}
 use mathlib.Core.Bool.{Bool, true, false}
-use mathlib.Core.List.{List, [], _∷_, _++_, List·Memᴰ as In, List·Memᴰ·head as here, List·Memᴰ·tail as there, Memᴰ·cast as in-cast}
-use mathlib.Core.List.{List·Memᴰ·not-nil as not-nil, List·Memᴰ·cases-cons as in-cons}
+use mathlib.Core.List.{List, [], _∷_, _++_, List·Memᴰ as In, Memᴰ·cast as in-cast}
+use mathlib.Core.List.{List·Memᴰ·head as here, List·Memᴰ·tail as there}
 use native.Mathlib.Omega.{arith}
-use lib.ListN.{length, getD, take, drop, replicate}
+use lib.ListN.{length, getD, take, drop}
 use borrow.Author.Tests.{ne-eqb}
 use Rattle.model.specs.Lists.{indexOf, member}
 use Rattle.model.specs.Checks.{Check, pass, refuse, andThen, must, mustAt, inOrder}
@@ -87,10 +86,6 @@ pub data Numbers (n : ℕ) (t j : List ℕ) : List ℕ → List Check → Type 0
 pub not-in : (zs : List ℕ) (z : ℕ) → member zs z ≡ false → (k : ℕ) → In k zs → k ≢ z
 not-in zs z h k i e = clash (in-member zs z (in-cast (sym e) i)) h
 
-in-replicate : (k : ℕ) {y z : ℕ} → In y (replicate k z) → y ≡ z
-in-replicate zero i = absurd (not-nil i)
-in-replicate (suc k) i = ⊎-elim (λ e. e) (in-replicate k) (in-cons i)
-
 pub same-refusal : {A : Type 0} (f : ℕ → ℕ → A) {k p z q : ℕ} → refuse k p ≡ refuse z q → f k p ≡ f z q
 same-refusal f e = cc
 
@@ -154,8 +149,7 @@ module _ {n : ℕ} {t j : List ℕ} where
   refusal-says (pass ∷ cs) (a then w) k p e = let r = refusal-says cs w k p e in (there (r .0), r .1)
   refusal-says (refuse x y ∷ cs) (a then w) k p e = let r = a k p e in (here (r .0), r .1)
 
-  -- ---- when a number is given
-
+  -- the numbers of a part of the checks
   pub numbers-before : (cs ds : List Check) {zs : List ℕ} → Numbers n t j zs (cs ++ ds) → Numbers n t j (take (length cs) zs) cs
   numbers-before [] ds w = last
   numbers-before (c ∷ cs) ds (a then w) = a then numbers-before cs ds w
@@ -163,38 +157,6 @@ module _ {n : ℕ} {t j : List ℕ} where
   pub numbers-behind : (cs ds : List Check) {zs : List ℕ} → Numbers n t j zs (cs ++ ds) → Numbers n t j (drop (length cs) zs) ds
   numbers-behind [] ds w = w
   numbers-behind (c ∷ cs) ds (a then w) = numbers-behind cs ds w
-
-  -- the checks `own`, and no others, have the number z: it is given exactly if those before pass and these do not
-  pub number-exactly : {zs : List ℕ} (before own behind : List Check) (z : ℕ) → Numbers n t j zs (before ++ (own ++ behind))
-      → member (take (length before) zs) z ≡ false
-      → take (length own) (drop (length before) zs) ≡ replicate (length own) z
-      → member (drop (length own) (drop (length before) zs)) z ≡ false
-      → ((p : ℕ) × (inOrder (before ++ (own ++ behind)) ≡ refuse z p)) ↔ ((inOrder before ≡ pass) × (inOrder own ≢ pass))
-  number-exactly {zs} before own behind z w a b c = (λ r. (passed r, failed r), given)
-    where
-      rest : Numbers n t j (drop (length before) zs) (own ++ behind)
-      rest = numbers-behind before (own ++ behind) w
-
-      Refused : Type 0
-      Refused = (p : ℕ) × (inOrder (before ++ (own ++ behind)) ≡ refuse z p)
-
-      passed : Refused → inOrder before ≡ pass
-      passed r = ⊎-elim (λ e. e) (λ q.
-          let i = refusal-says before (numbers-before before (own ++ behind) w) (q .0) (q .1) (q .2) .0 in
-          absurd (not-in _ z a (q .0) i (same-refusal (λ k p. k) (sym (append-refused before (own ++ behind) (q .2)) ∙ r .1))))
-          (passed-or-refused (inOrder before))
-
-      failed : Refused → inOrder own ≢ pass
-      failed r h =
-          let e = sym (append-passed before (own ++ behind) (passed r) ∙ append-passed own behind h) ∙ r .1 in
-          not-in _ z c z (refusal-says behind (numbers-behind own behind rest) z (r .0) e .0) refl
-
-      given : (inOrder before ≡ pass) × (inOrder own ≢ pass) → Refused
-      given r = ⊎-elim (λ e. absurd (r .1 e)) (λ q.
-          let i = refusal-says own (numbers-before own behind rest) (q .0) (q .1) (q .2) .0 in
-          let e = append-passed before (own ++ behind) (r .0) ∙ append-refused own behind (q .2) in
-          (q .1, e ∙ ap (λ (k : ℕ). refuse k (q .1)) (in-replicate (length own) (rw b at i))))
-          (passed-or-refused (inOrder own))
 
 -- ---- the numbers of the checks of each call
 

@@ -185,7 +185,7 @@ module _ (n : ℕ) (o : Outcome) where
   pub call-done : (c : Call) → doCall n o c .number ≡ 0 → doCall n o c ≡ done n o c
   call-done c h = call-ends c .passes (call-passed c h)
 
-  done-number : (c : Call) → done n o c .number ≡ 0
+  pub done-number : (c : Call) → done n o c .number ≡ 0
   unfolding doneOf
   done-number Call.check = refl
   done-number (Call.orbit mask d) = refl

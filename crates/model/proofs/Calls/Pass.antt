@@ -23,6 +23,7 @@ use Rattle.model.specs.Checks.{sewnOk, pairingOk, crossingOk, addRoomOk,
 use Rattle.model.specs.Checks.{addChecks, sidesChecks, sewChecks, unsewChecks, layerChecks, splitChecks}
 use Rattle.model.specs.Runs.{Call}
 use Rattle.model.specs.Meaning.Ends.{recordOk, stepOk, numbers}
+use Rattle.model.specs.Meaning.Numbers.{JournalRule}
 use Rattle.model.specs.Meaning.Maps.{Dim, Map, MapTable, BlockTable}
 use Rattle.model.specs.Meaning.Sets.{Marked}
 use Rattle.model.proofs.Lists.Scan.{clash, and-l, and-r}
@@ -73,15 +74,7 @@ pub dart-pass : (t : List ℕ) (d : ℕ) → dartOk t d ≡ pass → live t d �
 unfolding dartOk
 dart-pass t d h = must-pass _ 7 h
 
--- "2 to 1,048,576. Word 0 is the cursor, word 1 the end; 2 <= cursor <= end <= length"
-pub record JournalPassed (j : List ℕ) : Type 0 where
-  pub long : 2 ≤ length j
-  pub few : length j ≤ 1048576
-  pub low : 2 ≤ cursor j
-  pub ends : cursor j ≤ end j
-  pub within : end j ≤ length j
-
-pub journal-pass : (j : List ℕ) → journalOk j ≡ pass → JournalPassed j
+pub journal-pass : (j : List ℕ) → journalOk j ≡ pass → JournalRule j
 unfolding journalOk
 journal-pass j h =
     let long = leb 2 (length j) in
@@ -113,7 +106,7 @@ step-pass redo n t j a k h =
 
 -- ---- what the passed checks of a call say; `q k` is the check with the number k
 
-table-of : (n : ℕ) (t : List ℕ) → dimOk n ≡ pass → tableOk t ≡ pass → mapOk n t ≡ pass → MapTable n t
+pub table-of : (n : ℕ) (t : List ℕ) → dimOk n ≡ pass → tableOk t ≡ pass → mapOk n t ≡ pass → MapTable n t
 table-of n t a b c =
     let dim = dim-pass n a in
     let long = table-pass t b in

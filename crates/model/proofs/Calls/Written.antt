@@ -13,9 +13,10 @@ use Rattle.model.specs.Checks.{pass, journalOk, inOrder, addChecks, side
 use Rattle.model.specs.Calls.{Outcome}
 use Rattle.model.specs.Runs.{Call, doCall, Op, callOf, effect}
 use Rattle.model.specs.Meaning.Ends.{checks, numbers, done, Recorded, CursorMoved, checksOf, doneOf}
+use Rattle.model.specs.Meaning.Numbers.{JournalRule}
 use Rattle.model.proofs.Lists.Scan.{if-eq}
 use Rattle.model.proofs.Calls.Checks.{passed-number}
-use Rattle.model.proofs.Calls.Pass.{JournalPassed, journal-pass}
+use Rattle.model.proofs.Calls.Pass.{journal-pass}
 use Rattle.model.proofs.Calls.Ends.{call-passed, call-done, op-accepted}
 use Rattle.model.proofs.Calls.Untouched.{call-untouched}
 
@@ -64,7 +65,7 @@ module _ (j r : List ℕ) (c : ℕ) (fits : c + length r ≤ length j) where
 -- ---- an operation
 
 -- a record that has room is written
-module _ (j r : List ℕ) (rule : JournalPassed j) (room : length r ≤ length j - cursor j) where
+module _ (j r : List ℕ) (rule : JournalRule j) (room : length r ≤ length j - cursor j) where
   fits : cursor j + length r ≤ length j
   fits = let a = rule .ends in let b = rule .within in omega arith
 
