@@ -139,7 +139,9 @@ module _ {n : ℕ} {t j : List ℕ} where
 
   block : Numbered n t j 8 (blockOk n t)
   unfolding blockOk refusalPlace
-  block = numbered (blockOk n t) 8 _ (λ k p. mustAt-refused _) (λ q. omega arith) refl (λ q. absurd (omega arith)) (λ q. absurd (omega arith))
+  block =
+      numbered (blockOk n t) 8 _ (λ k p. mustAt-refused _) (λ q. omega arith) refl
+      (λ q. absurd (omega arith)) (λ q. absurd (omega arith))
 
   -- a refusal has one of the numbers, and says what that number says
   pub refusal-says : {zs : List ℕ} (cs : List Check) → Numbers n t j zs cs → (k p : ℕ) → inOrder cs ≡ refuse k p

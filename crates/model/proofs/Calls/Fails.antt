@@ -1,6 +1,6 @@
--- When each check fails, in the words of 01's table.
-use Prim.Native.Nat.{ℕ, _+_, _*_, _-_, _%_, _^_, _≤_, _<_, min}
-use mathlib.Core.Path.{_≡_, refl, sym, ap, _∙_}
+-- When each check fails, in the words of 01's table: `dim-fails` (1) to `step-fails` (17).
+use Prim.Native.Nat.{ℕ, _+_, _*_, _-_, _%_, _^_, _≤_, _<_}
+use mathlib.Core.Path.{_≡_, refl}
 use mathlib.Core.Logic.{_⊎_, inl, inr, _≢_, _↔_, ⊎-elim, Iff·rfl, Iff·trans, Iff·and}
 use mathlib.Core.Bool.{Bool, true, false, not, _&&_, _||_}
 use mathlib.Core.Option.{Option, none, some}
@@ -9,18 +9,17 @@ use mathlib.Core.List.{List·Memᴰ·not-nil as not-nil, List·Memᴰ·cases-con
 use native.Mathlib.Omega.{arith}
 use lib.ListN.{length, take, length-take}
 use lib.Dec.{leb, ltb, eqb}
-use borrow.Author.Tests.{eqb-true, eqb-false, eq-eqb, ne-eqb, leb-true, leb-false, le-leb, lt-leb, ltb-false, le-ltb, not-false}
+use borrow.Author.Tests.{eqb-true, eqb-false, eq-eqb, ne-eqb, leb-false, le-leb, lt-leb, ltb-false, le-ltb}
 use Rattle.model.specs.Lists.{ones}
 use Rattle.model.specs.Table.{slots, link, live, unusedSlots}
-use Rattle.model.specs.Map.{isMap, leastBreaking}
+use Rattle.model.specs.Map.{isMap}
 use Rattle.model.specs.Reach.{inSet}
-use Rattle.model.specs.Cell.{cellSize, isBlock, leastWrong}
-use Rattle.model.specs.Sheet.{sheet}
+use Rattle.model.specs.Cell.{cellSize, isBlock}
 use Rattle.model.specs.Add.{addSlots}
 use Rattle.model.specs.Sew.{side, partners, isPaired}
 use Rattle.model.specs.Split.{crosses, splitSlots}
 use Rattle.model.specs.Journal.{cursor, end, changesFrom, recordOf, changesAt, put, unbroken}
-use Rattle.model.specs.Checks.{Check, pass, must, mustAt, dimOk, tableOk, marksOk, journalOk, mapOk, indexOk, maskOk}
+use Rattle.model.specs.Checks.{pass, must, mustAt, dimOk, tableOk, marksOk, journalOk, mapOk, indexOk, maskOk}
 use Rattle.model.specs.Checks.{dartOk, blockOk, apartOk, freeOk, sewnOk, pairingOk, crossingOk, addRoomOk, splitRoomOk}
 use Rattle.model.specs.Checks.{undoOk, redoOk}
 use Rattle.model.specs.Meaning.Ends.{recordOk, stepOk}
@@ -28,7 +27,7 @@ use Rattle.model.specs.Meaning.Maps.{Dim, Map, MapTable, BlockTable}
 use Rattle.model.specs.Meaning.Numbers.{JournalRule, StepFails}
 use Rattle.model.specs.Meaning.Pairings.{Pairing}
 use Rattle.model.specs.Meaning.Sets.{Marked}
-use Rattle.model.proofs.Lists.Scan.{clash, test, and-i}
+use Rattle.model.proofs.Lists.Scan.{clash, test}
 use Rattle.model.proofs.Lists.Ones.{ones-of, ones-in}
 use Rattle.model.proofs.Maps.Rules.{map-of, of-map}
 use Rattle.model.proofs.Cells.Chart.{block-of, of-block}
@@ -92,15 +91,21 @@ dim-fails n = must-fails _ 1 (Iff·trans (or-fails (eqb n 2) (eqb n 3)) (Iff·an
 
 pub table-fails : (t : List ℕ) → (tableOk t ≢ pass) ↔ ((length t % 4 ≢ 0) ⊎ (262144 < length t))
 unfolding tableOk
-table-fails t = must-fails _ 2 (Iff·trans (and-fails (eqb (length t % 4) 0) _) (one-of (eqb-fails (length t % 4) 0) (leb-fails (length t) 262144)))
+table-fails t =
+    let whole = eqb-fails (length t % 4) 0 in
+    let few = leb-fails (length t) 262144 in
+    must-fails _ 2 (Iff·trans (and-fails (eqb (length t % 4) 0) _) (one-of whole few))
 
 pub marks-fails : (t m : List ℕ) → (marksOk t m ≢ pass) ↔ (length m ≢ slots t)
 unfolding marksOk
 marks-fails t m = must-fails _ 3 (eqb-fails (length m) (slots t))
 
-journal-holds : (j : List ℕ) → JournalRule j → journalOk j ≡ pass
+pub journal-holds : (j : List ℕ) → JournalRule j → journalOk j ≡ pass
 unfolding journalOk must
-journal-holds j rule = rw (le-leb _ _ (rule .long), le-leb _ _ (rule .few), le-leb _ _ (rule .low), le-leb _ _ (rule .ends), le-leb _ _ (rule .within))
+journal-holds j rule =
+    let long = le-leb _ _ (rule .long) in
+    let few = le-leb _ _ (rule .few) in
+    rw (long, few, le-leb _ _ (rule .low), le-leb _ _ (rule .ends), le-leb _ _ (rule .within))
 
 pub journal-fails : (j : List ℕ) → (journalOk j ≢ pass) ↔ (JournalRule j → ⊥)
 journal-fails j = (λ h rule. h (journal-holds j rule), λ h e. h (journal-pass j e))

@@ -7,7 +7,7 @@ use mathlib.Core.Bool.{true, false}
 use mathlib.Core.List.{List, [], _∷_, _++_, List·Memᴰ·eq-of-singleton as sole}
 use native.Mathlib.Omega.{arith}
 use lib.ListN.{length, take, drop}
-use Rattle.model.specs.Lists.{ones, indexOf, member}
+use Rattle.model.specs.Lists.{indexOf, member}
 use Rattle.model.specs.Table.{link}
 use Rattle.model.specs.Sheet.{sheet}
 use Rattle.model.specs.Journal.{cursor}
@@ -19,7 +19,7 @@ use Rattle.model.specs.Meaning.Ends.{lent, checksOf, checks, numbers, un
 use Rattle.model.specs.Meaning.Numbers.{StepFails}
 use Rattle.model.specs.Meaning.Pairings.{Pairing}
 use Rattle.model.specs.Meaning.Sets.{Marked}
-use Rattle.model.proofs.Calls.Checks.{not-pass, passed-at, append-passed, append-refused, passed-or-refused, same-refusal}
+use Rattle.model.proofs.Calls.Checks.{passed-at, append-passed, append-refused, passed-or-refused, same-refusal}
 use Rattle.model.proofs.Calls.Checks.{Numbers, not-in, numbers-before, numbers-behind, refusal-says, call-numbers}
 use Rattle.model.proofs.Calls.Pass.{dim-pass, sides-passed}
 use Rattle.model.proofs.Calls.Fails.{pairing-fails, crossing-fails, step-fails}

@@ -1,7 +1,7 @@
 -- `number-table`: each call gives the number of the first row of 01's table that is given, or 0.
 use Prim.Native.Nat.{ℕ}
 use mathlib.Core.Path.{_≡_, refl, sym, ap, _∙_, subst}
-use mathlib.Core.Logic.{_⊎_, inl, inr, _≢_, _↔_, ⊎-elim}
+use mathlib.Core.Logic.{inl, inr, _≢_, _↔_}
 use mathlib.Core.Bool.{Bool, true, false}
 use mathlib.Core.List.{List, [], _∷_, _++_}
 use Rattle.model.specs.Lists.{ones, indexOf}
@@ -12,10 +12,9 @@ use Rattle.model.specs.Checks.{layerChecks, splitChecks, stepChecks}
 use Rattle.model.specs.Calls.{Outcome, refused}
 use Rattle.model.specs.Runs.{Call, doCall}
 use Rattle.model.specs.Meaning.Ends.{recordOk, stepOk, checksOf, checks, numbers}
-use Rattle.model.specs.Meaning.Maps.{MapTable}
 use Rattle.model.specs.Meaning.Numbers.{Row, First, dimRow, tableRow, marksRow, journalRow, mapRow, dartRow}
 use Rattle.model.specs.Meaning.Numbers.{recordRow, stepRow, rows}
-use Rattle.model.proofs.Calls.Checks.{not-pass, passed-at, passed-number, append-passed, Numbers, _then_, last, call-numbers}
+use Rattle.model.proofs.Calls.Checks.{not-pass, passed-at, passed-number, append-passed, Numbers, _then_, call-numbers}
 use Rattle.model.proofs.Calls.Pass.{dim-pass, table-of, sides-passed}
 use Rattle.model.proofs.Calls.Fails.{dim-fails, table-fails, marks-fails, journal-fails, map-fails, index-fails, mask-fails}
 use Rattle.model.proofs.Calls.Fails.{dart-fails, block-fails, apart-fails, free-fails, sewn-fails, pairing-fails}

@@ -1,9 +1,8 @@
 -- What calls write into the journal. `op-recorded`: an accepted operation writes its record at the cursor, cursor and end
 -- go behind it, and other words stay. `undo-words`, `redo-words`: undo and redo change only the cursor word.
 use Prim.Native.Nat.{ℕ, _+_, _*_, _-_, _≤_, _<_}
-use mathlib.Core.Path.{_≡_, refl, sym, ap, _∙_}
-use mathlib.Core.Logic.{_≢_}
-use mathlib.Core.List.{List, [], _∷_, _++_}
+use mathlib.Core.Path.{_≡_, refl, ap, _∙_}
+use mathlib.Core.List.{List, _++_}
 use native.Mathlib.Omega.{arith}
 use lib.ListN.{length, getD, set, take, drop, length-append, length-drop, length-set, List·getD-append}
 use lib.Seq.{length-take-le, getD-append-add, getD-take, getD-drop, getD-set-same, getD-set-other}
@@ -11,7 +10,7 @@ use Rattle.model.specs.Lists.{indexOf}
 use Rattle.model.specs.Journal.{cursor, end, changesFrom, recordOf, written}
 use Rattle.model.specs.Checks.{pass, journalOk, inOrder, addChecks, sidesChecks, unsewChecks, layerChecks, stepChecks}
 use Rattle.model.specs.Calls.{Outcome}
-use Rattle.model.specs.Runs.{Call, doCall, Op, callOf, effect}
+use Rattle.model.specs.Runs.{Call, doCall, Op, callOf}
 use Rattle.model.specs.Meaning.Ends.{checks, numbers, done, Recorded, CursorMoved, checksOf, doneOf}
 use Rattle.model.specs.Meaning.Numbers.{JournalRule}
 use Rattle.model.proofs.Lists.Scan.{if-eq}

@@ -16,11 +16,11 @@ use Rattle.model.specs.Cell.{cellSize, cellWords}
 use Rattle.model.specs.Reach.{closure}
 use Rattle.model.specs.Orbit.{orbit}
 use Rattle.model.specs.Sheet.{sheet, overlay, sheetMarks, sheetWords}
-use Rattle.model.specs.Journal.{cursor, end, changesFrom, changesAt, readChanges, put, sound, unbroken}
-use Rattle.model.specs.Checks.{pass, stepChecks, undoOk, redoOk, inOrder}
+use Rattle.model.specs.Journal.{end, changesFrom, changesAt, readChanges, put, sound, unbroken}
+use Rattle.model.specs.Checks.{stepChecks, undoOk, redoOk}
 use Rattle.model.specs.Calls.{Outcome}
 use Rattle.model.specs.Runs.{Call, doCall, Op, callOf, effect}
-use Rattle.model.specs.Meaning.Ends.{Passed, stepOk, done, undoStart, undoCount, redoCount, CountsChanges, checksOf, doneOf}
+use Rattle.model.specs.Meaning.Ends.{Passed, done, CountsChanges, checksOf, doneOf}
 use Rattle.model.proofs.Lists.Scan.{and-l, and-r}
 use Rattle.model.proofs.Sets.Closure.{closure-least}
 use Rattle.model.proofs.Calls.Checks.{passed-at, passed-append}

@@ -13,10 +13,11 @@ use lib.Dec.{eqb}
 use borrow.Author.Tests.{eq-eqb, ne-eqb, le-leb}
 use Rattle.model.specs.Map.{isMap}
 use Rattle.model.specs.Journal.{Change, triples, readChanges, changesAt, recordOf, written, cursor, end, put, sound, unbroken}
-use Rattle.model.specs.Checks.{Check, pass, refuse, andThen, must, mustAt, inOrder, dimOk, tableOk, journalOk, mapOk, stepChecks}
-use Rattle.model.specs.Checks.{undoOk, redoOk}
+use Rattle.model.specs.Checks.{Check, pass, refuse, andThen, must, mustAt, inOrder, dimOk, tableOk, journalOk, mapOk}
+use Rattle.model.specs.Checks.{undoOk, redoOk, stepChecks}
 use Rattle.model.specs.Calls.{Outcome, stepOutcome, undoCall, redoCall, refused}
 use Rattle.model.proofs.Lists.Scan.{and-i}
+use Rattle.model.proofs.Calls.Fails.{journal-holds}
 use Rattle.model.proofs.History.Record.{read-triples, length-triples, length-record}
 
 -- the words of what stands, of what was undone, and the rest: the cursor is behind the first, the end behind the second
@@ -30,17 +31,11 @@ module _ (standing undone rest : List ℕ) where
   journal-length = simp length-append
 
   pub journal-ok : length (journalOf standing undone rest) ≤ 1048576 → journalOk (journalOf standing undone rest) ≡ pass
-  unfolding journalOk must cursor end journalOf
+  unfolding cursor end journalOf
   journal-ok few =
       let l = journal-length in
-      let c = suc (suc (length standing)) in
-      let e = suc (suc (length standing + length undone)) in
-      let j = journalOf standing undone rest in
-      let long = le-leb 2 (length j) (omega arith) in
-      let low = le-leb 2 c (omega arith) in
-      let ends = le-leb c e (omega arith) in
-      let within = le-leb e (length j) (omega arith) in
-      ap (λ (b : Bool). must b 4) (and-i (and-i (and-i (and-i long (le-leb (length j) 1048576 few)) low) ends) within)
+      journal-holds (journalOf standing undone rest)
+      (record { long = omega arith; few = few; low = omega arith; ends = omega arith; within = omega arith })
 
   -- a record that is written goes behind what stands; what was undone is lost
   pub journal-written : (r : List ℕ)
@@ -65,40 +60,40 @@ module _ (standing undone rest : List ℕ) where
 -- ---- a record among other words, behind a cursor and an end
 
 module _ (first second : ℕ) (before : List ℕ) (cs : List Change) (behind : List ℕ) where
-  abbrev words : List ℕ
-  words = first ∷ second ∷ (before ++ (recordOf cs ++ behind))
+  abbrev journal-words : List ℕ
+  journal-words = first ∷ second ∷ (before ++ (recordOf cs ++ behind))
 
-  abbrev start : ℕ
-  start = suc (suc (length before))
+  abbrev record-start : ℕ
+  record-start = suc (suc (length before))
 
-  first-count : getD words start 0 ≡ length cs
+  first-count : getD journal-words record-start 0 ≡ length cs
   unfolding recordOf
   first-count = getD-append-seam before (length cs) _ 0
 
-  last-count : (x : ℕ) → x ≡ start + (3 * length cs + 1) → getD words x 0 ≡ length cs
+  last-count : (x : ℕ) → x ≡ record-start + (3 * length cs + 1) → getD journal-words x 0 ≡ length cs
   unfolding recordOf
   last-count x h =
       let l = length-triples cs in
       let q : x ≡ suc (suc (length before + suc (3 * length cs))) = omega arith in
-      ap (λ (k : ℕ). getD words k 0) q ∙ getD-append-add before (recordOf cs ++ behind) (suc (3 * length cs)) 0
+      ap (λ (k : ℕ). getD journal-words k 0) q ∙ getD-append-add before (recordOf cs ++ behind) (suc (3 * length cs)) 0
       ∙ ap (λ (l : List ℕ). getD l (3 * length cs) 0) (append-assoc (triples cs) (length cs ∷ []) behind)
       ∙ getD-at (triples cs) (length cs) behind 0 (3 * length cs) l
 
-  record-read : changesAt words start (length cs) ≡ cs
+  record-read : changesAt journal-words record-start (length cs) ≡ cs
   unfolding recordOf changesAt
   record-read =
       let q : suc (length before) ≡ length before + 1 = omega arith in
-      let triples-on = ap (λ (k : ℕ). drop k (before ++ (recordOf cs ++ behind))) q ∙ drop-append-add before (recordOf cs ++ behind) 1
-      ∙ append-assoc (triples cs) (length cs ∷ []) behind in
-      ap (readChanges (length cs)) triples-on ∙ read-triples cs _
+      let from-count = ap (λ (k : ℕ). drop k (before ++ (recordOf cs ++ behind))) q in
+      let from-triples = drop-append-add before (recordOf cs ++ behind) 1 ∙ append-assoc (triples cs) (length cs ∷ []) behind in
+      ap (readChanges (length cs)) (from-count ∙ from-triples) ∙ read-triples cs _
 
-  record-unbroken : (redo : Bool) (t : List ℕ) → 0 < length cs → start + (3 * length cs + 2) ≤ second → sound redo t 0 cs ≡ true
-      → unbroken redo t words start (length cs) ≡ true
+  record-unbroken : (redo : Bool) (t : List ℕ) → 0 < length cs → record-start + (3 * length cs + 2) ≤ second
+      → sound redo t 0 cs ≡ true → unbroken redo t journal-words record-start (length cs) ≡ true
   unfolding end unbroken
   record-unbroken redo t some fits s =
       let not-0 = ap not (ne-eqb (length cs) 0 (λ q. omega arith)) in
-      let behind-2 = le-leb 2 start (omega arith) in
-      let within = le-leb (start + (3 * length cs + 2)) second fits in
+      let behind-2 = le-leb 2 record-start (omega arith) in
+      let within = le-leb (record-start + (3 * length cs + 2)) second fits in
       let counts = eq-eqb _ _ (first-count ∙ sym (last-count _ refl)) in
       and-i (and-i (and-i (and-i not-0 behind-2) within) counts) (ap (sound redo t 0) record-read ∙ s)
 
@@ -120,7 +115,8 @@ then-pass pass = refl
 then-pass (refuse k p) = refl
 
 -- where they pass, and 4 too, the last check of undo and redo decides
-step-checks : {n : ℕ} {t : List ℕ} (j : List ℕ) (there : Check) → InRule n t → journalOk j ≡ pass → inOrder (stepChecks n t j there) ≡ there
+step-checks : {n : ℕ} {t : List ℕ} (j : List ℕ) (there : Check) → InRule n t → journalOk j ≡ pass
+    → inOrder (stepChecks n t j there) ≡ there
 unfolding inOrder andThen stepChecks
 step-checks {n} {t} j there rule ok = rw (rule .dim, rule .size, ok, map-ok n t (rule .map)) (then-pass there)
 
@@ -156,7 +152,7 @@ module _ (standing undone rest : List ℕ) (cs : List Change) where
   end-word = suc (suc (length standing + length (recordOf cs) + length undone))
 
   abbrev journal-at : ℕ → List ℕ
-  journal-at c = words c end-word standing cs (undone ++ rest)
+  journal-at c = journal-words c end-word standing cs (undone ++ rest)
 
   journal-behind : journalOf (standing ++ recordOf cs) undone rest ≡ journal-at cursor-behind
   unfolding journalOf
@@ -169,7 +165,8 @@ module _ (standing undone rest : List ℕ) (cs : List Change) where
       let q : length standing + (r + length undone) ≡ length standing + r + length undone = omega arith in
       rw (append-assoc (recordOf cs) undone rest, length-append (recordOf cs) undone, q)
 
-  pub journal-same : length (journalOf standing (recordOf cs ++ undone) rest) ≡ length (journalOf (standing ++ recordOf cs) undone rest)
+  pub journal-same : length (journalOf standing (recordOf cs ++ undone) rest)
+      ≡ length (journalOf (standing ++ recordOf cs) undone rest)
   journal-same = ap length journal-before ∙ sym (ap length journal-behind)
 
   step-from : {redo : Bool} {n : ℕ} {t u : List ℕ} → Leads redo n t u cs → (from to : ℕ)
@@ -177,7 +174,8 @@ module _ (standing undone rest : List ℕ) (cs : List Change) where
   unfolding stepOutcome stepsTo
   step-from {redo} {n} {t} leads from to =
       let l = length-record cs in
-      let result = ap (λ (ds : List Change). put redo ds t) (record-read from end-word standing cs (undone ++ rest)) ∙ leads .puts in
+      let changes = record-read from end-word standing cs (undone ++ rest) in
+      let result = ap (λ (ds : List Change). put redo ds t) changes ∙ leads .puts in
       let whole = record-unbroken from end-word standing cs (undone ++ rest) redo t (leads .some) (omega arith) (leads .sound) in
       rw (whole, ap (isMap n) result ∙ leads .map, stepOutcome) (rw result)
 
@@ -201,17 +199,21 @@ module _ (standing undone rest : List ℕ) (cs : List Change) where
       rw (passes, redoCall, first-count cursor-before end-word standing cs (undone ++ rest), on)
       (step-from leads cursor-before cursor-behind)
 
-  pub undo-steps : {n : ℕ} {t u : List ℕ} → Leads false n t u cs → length (journalOf (standing ++ recordOf cs) undone rest) ≤ 1048576
+  pub undo-steps : {n : ℕ} {t u : List ℕ} → Leads false n t u cs
+      → length (journalOf (standing ++ recordOf cs) undone rest) ≤ 1048576
       → undoCall n t (journalOf (standing ++ recordOf cs) undone rest)
       ≡ stepsTo (length cs) u (journalOf standing (recordOf cs ++ undone) rest)
   undo-steps leads few =
-      rw (journal-behind, journal-before) (undo-at leads (rw journal-behind at (journal-ok (standing ++ recordOf cs) undone rest few)))
+      let ok = rw journal-behind at (journal-ok (standing ++ recordOf cs) undone rest few) in
+      rw (journal-behind, journal-before) (undo-at leads ok)
 
-  pub redo-steps : {n : ℕ} {t u : List ℕ} → Leads true n t u cs → length (journalOf standing (recordOf cs ++ undone) rest) ≤ 1048576
+  pub redo-steps : {n : ℕ} {t u : List ℕ} → Leads true n t u cs
+      → length (journalOf standing (recordOf cs ++ undone) rest) ≤ 1048576
       → redoCall n t (journalOf standing (recordOf cs ++ undone) rest)
       ≡ stepsTo (length cs) u (journalOf (standing ++ recordOf cs) undone rest)
   redo-steps leads few =
-      rw (journal-behind, journal-before) (redo-at leads (rw journal-before at (journal-ok standing (recordOf cs ++ undone) rest few)))
+      let ok = rw journal-before at (journal-ok standing (recordOf cs ++ undone) rest few) in
+      rw (journal-behind, journal-before) (redo-at leads ok)
 
 module _ {n : ℕ} {t : List ℕ} (rule : InRule n t) where
   pub undo-none : (undone rest : List ℕ) → length (journalOf [] undone rest) ≤ 1048576
@@ -225,4 +227,5 @@ module _ {n : ℕ} {t : List ℕ} (rule : InRule n t) where
   unfolding redoCall redoOk cursor end journalOf
   redo-none standing rest few =
       let s = length standing in
-      rw (step-checks _ _ rule (journal-ok standing [] rest few) ∙ equal-refused (suc (suc s)) (suc (suc (s + 0))) (omega arith), redoCall)
+      let refuses = equal-refused (suc (suc s)) (suc (suc (s + 0))) (omega arith) in
+      rw (step-checks _ _ rule (journal-ok standing [] rest few) ∙ refuses, redoCall)

@@ -3,7 +3,7 @@
 use Prim.Native.Nat.{ℕ, _*_, _<_}
 use mathlib.Core.Path.{_≡_, refl, sym, ap, _∙_, subst}
 use mathlib.Core.Logic.{inl, _≢_}
-use mathlib.Core.Bool.{true, false}
+use mathlib.Core.Bool.{true}
 use mathlib.Core.Option.{Option, none, some}
 use mathlib.Core.List.{List, List·Memᴰ·head as here}
 use native.Mathlib.Omega.{arith}
@@ -45,7 +45,8 @@ unfolding effect addTable unsewTable removeTable splitTable sewTable added unsew
 effect-length n t Op.add = length-tab _ (length t)
 effect-length n t (Op.sew i d e) = go (partners n t i d e) (partners n t i e d)
   where
-    go : (x y : Option (List ℕ)) → length {A = ℕ} (elim x [ none ↦ t | some p ↦ (elim y [ none ↦ t | some q ↦ sewn t i p q ]) ]) ≡ length t
+    go : (x y : Option (List ℕ))
+        → length {A = ℕ} (elim x [ none ↦ t | some p ↦ (elim y [ none ↦ t | some q ↦ sewn t i p q ]) ]) ≡ length t
     go none y = refl
     go (some p) none = refl
     go (some p) (some q) = unfold sewn in length-tab _ (length t)
