@@ -1,3 +1,9 @@
+pub mod Checks
 pub mod Pass
+pub mod Fails
 pub mod Ends
+pub mod Table
+pub mod Refusals
+pub mod Untouched
+pub mod Written
 pub mod Kept

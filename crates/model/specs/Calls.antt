@@ -2,7 +2,7 @@
 -- A call that takes no marks or no journal has [] for it.
 use Prim.Native.Nat.{ℕ, _+_, _*_, _-_}
 use mathlib.Core.Bool.{Bool, true, false, _&&_}
-use mathlib.Core.List.{List, [], _∷_}
+use mathlib.Core.List.{List, []}
 use lib.ListN.{length, getD, set}
 use lib.Dec.{leb}
 use Rattle.model.specs.Lists.{count, ones}
@@ -15,7 +15,7 @@ use Rattle.model.specs.Add.{addSlots, addTable}
 use Rattle.model.specs.Sew.{sewTable, unsewTable}
 use Rattle.model.specs.Remove.{removeTable}
 use Rattle.model.specs.Split.{splitSlots, splitTable}
-use Rattle.model.specs.Journal.{Change, cursor, end, changesFrom, recordOf, written, changesAt, put, unbroken}
+use Rattle.model.specs.Journal.{Change, cursor, changesFrom, recordOf, written, changesAt, put, unbroken}
 use Rattle.model.specs.Checks.{pass, refuse, inOrder, checkChecks, orbitChecks, sheetChecks, addChecks, sewChecks, unsewChecks}
 use Rattle.model.specs.Checks.{layerChecks, splitChecks, stepChecks, undoOk, redoOk}
 

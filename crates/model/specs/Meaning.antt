@@ -7,5 +7,6 @@ pub mod Walks
 pub mod Places
 pub mod Sheets
 pub mod Ends
+pub mod Numbers
 pub mod Demand
 pub mod Worked

@@ -1,107 +1,249 @@
--- What an operation answers: a refusal that leaves table and journal, or its effect, with the record of the changes.
-use Prim.Native.Nat.{ℕ, _-_}
-use mathlib.Core.Path.{_≡_, refl}
-use mathlib.Core.Logic.{_≢_}
-use mathlib.Core.Option.{Option, none, some}
-use mathlib.Core.List.{List, [], _∷_, List·Memᴰ as In, List·Memᴰ·head as here, List·Memᴰ·tail as there, Memᴰ·append-left as in-left}
-use lib.ListN.{length}
-use lib.Dec.{leb}
-use borrow.Author.Tests.{leb-true}
-use Rattle.model.specs.Table.{retable, relink}
-use Rattle.model.specs.Journal.{Change, changesFrom, recordOf, cursor}
-use Rattle.model.specs.Add.{added, addTable}
-use Rattle.model.specs.Sew.{unsewn, unsewTable, partners, sewn, sewTable}
-use Rattle.model.specs.Remove.{removed, removeTable}
-use Rattle.model.specs.Split.{halved, splitTable}
-use Rattle.model.specs.Checks.{Check, pass, refuse, inOrder}
-use Rattle.model.specs.Calls.{Outcome, refused, commit, addCall, sewCall, unsewCall, removeCall, splitCall}
-use Rattle.model.specs.Runs.{doCall, keeping, Op, callOf, effect}
-use Rattle.model.specs.Meaning.Ends.{Ends, refuses, commits, numbers, Passed}
-use Rattle.model.proofs.Lists.Scan.{test, length-tab}
-use Rattle.model.proofs.Calls.Pass.{Numbers, number-in, Front, add-numbers, unsew-numbers, sew-numbers, layer-numbers, split-numbers}
+-- `call-ends`: a call that passes its checks ends as `done` says, any other is refused by the first check that fails and
+-- leaves table and journal. From it: a call gives 0 exactly if it passes its checks, and only numbers of its own.
+use Prim.Native.Nat.{ℕ}
+use mathlib.Core.Path.{_≡_, refl, sym, ap, _∙_}
+use mathlib.Core.Logic.{_≢_, ⊎-elim}
+use mathlib.Core.Bool.{Bool, true, false}
+use mathlib.Core.List.{List, [], _∷_, _++_, append-assoc, List·Memᴰ as In, List·Memᴰ·not-nil as not-nil}
+use mathlib.Core.List.{List·Memᴰ·head as here, List·Memᴰ·tail as there, Memᴰ·append-left as in-left}
+use Rattle.model.specs.Lists.{ones, indexOf, member}
+use Rattle.model.specs.Journal.{changesFrom, recordOf, written}
+use Rattle.model.specs.Sheet.{sheet, sheetMarks}
+use Rattle.model.specs.Checks.{Check, pass, refuse, must, andThen, inOrder, pairingOk}
+use Rattle.model.specs.Checks.{addChecks, sidesChecks, sewChecks, unsewChecks, layerChecks, splitChecks}
+use Rattle.model.specs.Calls.{Outcome, refused, commit, checkCall, orbitCall, sheetCall, addCall, sewCall, unsewCall}
+use Rattle.model.specs.Calls.{removeCall, splitCall, stepOutcome, undoCall, redoCall}
+use Rattle.model.specs.Runs.{Call, doCall, keeping, Op, callOf, effect}
+use Rattle.model.specs.Meaning.Ends.{recordOk, stepOk, checksOf, checks, numbers, layerMarks, refusalMarks, refusedBy}
+use Rattle.model.specs.Meaning.Ends.{doneOf, done, Behind, Ends, Passed, OpAccepted}
+use Rattle.model.proofs.Lists.Scan.{test, clash}
+use Rattle.model.proofs.Lists.Ones.{in-member, member-in}
+use Rattle.model.proofs.Calls.Checks.{not-pass, passed-at, passed-append, append-passed, append-refused, passed-or-refused}
+use Rattle.model.proofs.Calls.Checks.{same-refusal, Numbers, numbers-before, numbers-behind, Says, refusal-says}
+use Rattle.model.proofs.Calls.Checks.{call-numbers}
+use Rattle.model.proofs.Calls.Pass.{record-pass}
 
--- a property of an answer that stands behind checks
-pub guard : (P : Outcome → Type 0) {zs : List ℕ} {cs : List Check} → Numbers zs cs → (y : Outcome) (f : ℕ → ℕ → Outcome) → (inOrder cs ≡ pass → P y) → ((k p : ℕ) → In k zs → P (f k p))
-    → P (elim (inOrder cs) [ pass ↦ y | refuse k p ↦ f k p ])
-guard P {zs} {cs} w y f a b = go (inOrder cs) refl
+-- ---- an outcome behind checks
+
+module _ (y : Outcome) (f : ℕ → ℕ → Outcome) where
+  behind-more : (cs ds : List Check) (r : Outcome) (g : ℕ → ℕ → Outcome) → Behind ds y f r
+      → ((k p : ℕ) → inOrder cs ≡ refuse k p → g k p ≡ f k p)
+      → Behind (cs ++ ds) y f (elim (inOrder cs) as (λ _. Outcome) [ pass ↦ r | refuse k p ↦ g k p ])
+  behind-more cs ds r g b h = go (inOrder cs) refl
+    where
+      go : (c : Check) → inOrder cs ≡ c → Behind (cs ++ ds) y f (elim c as (λ _. Outcome) [ pass ↦ r | refuse k p ↦ g k p ])
+      go pass e = record {
+        passes = λ a. b .passes (sym (append-passed cs ds e) ∙ a);
+        refuses = λ k p a. b .refuses k p (sym (append-passed cs ds e) ∙ a);
+      }
+      go (refuse k p) e = record {
+        passes = λ a. not-pass (sym (append-refused cs ds e) ∙ a);
+        refuses = λ k′ p′ a. h k p e ∙ same-refusal f (sym (append-refused cs ds e) ∙ a);
+      }
+
+  behind-checks : (cs : List Check) → Behind cs y f (elim (inOrder cs) as (λ _. Outcome) [ pass ↦ y | refuse k p ↦ f k p ])
+  behind-checks cs = record { passes = λ e. rw e; refuses = λ k p e. rw e }
+
+  behind-last : (b : Bool) (z : ℕ) (r s : Outcome) → r ≡ y → s ≡ f z 0
+      → Behind (must b z ∷ []) y f (elim b as (λ _. Outcome) [ true ↦ r | false ↦ s ])
+  unfolding inOrder andThen must
+  behind-last true z r s a b = record { passes = λ e. a; refuses = λ k p e. not-pass (sym e) }
+  behind-last false z r s a b = record { passes = λ e. not-pass e; refuses = λ k p e. b ∙ same-refusal f e }
+
+-- the outcome changed by a function
+behind-map : {cs : List Check} {y r : Outcome} {f : ℕ → ℕ → Outcome} (g : Outcome → Outcome) → Behind cs y f r
+    → Behind cs (g y) (λ k p. g (f k p)) (g r)
+behind-map g b = record { passes = λ a. ap g (b .passes a); refuses = λ k p a. ap g (b .refuses k p a) }
+
+-- a call that takes a journal and no marks; its last check, 15 or 17, is b
+behind-unmarked : (cs : List Check) (b : Bool) (z : ℕ) (t m j : List ℕ) (y : Outcome)
+    → Behind (cs ++ (must b z ∷ [])) (keeping y m (y .journal)) (λ k p. refused k p t m j)
+    (let r = elim (inOrder cs) as (λ _. Outcome) [
+      | pass ↦ (elim b as (λ _. Outcome) [ true ↦ y | false ↦ refused z 0 t [] j ])
+      | refuse k p ↦ refused k p t [] j
+    ] in keeping r m (r .journal))
+unfolding keeping refused
+behind-unmarked cs b z t m j y =
+    behind-map (λ r. keeping r m (r .journal))
+    (behind-more y (λ k p. refused k p t [] j) cs _ _ _ (behind-last _ _ b z _ _ refl refl) (λ k p e. refl))
+
+-- ---- the calls
+
+not-late : (k : ℕ) → In k (1 ∷ 2 ∷ 3 ∷ 4 ∷ 5 ∷ 7 ∷ 8 ∷ []) → member (13 ∷ 14 ∷ 15 ∷ []) k ≡ false
+not-late k i = test (member (13 ∷ 14 ∷ 15 ∷ []) k) (λ h. absurd (clash (in-member _ k i) (late k (member-in _ k h)))) (λ h. h)
   where
-    go : (c : Check) → inOrder cs ≡ c → P (elim c [ pass ↦ y | refuse k p ↦ f k p ])
-    go pass e = a e
-    go (refuse k p) e = b k p (number-in zs cs w k p e)
+    late : (k : ℕ) → In k (13 ∷ 14 ∷ 15 ∷ []) → member (1 ∷ 2 ∷ 3 ∷ 4 ∷ 5 ∷ 7 ∷ 8 ∷ []) k ≡ false
+    late k (here e) = unfold member indexOf in rw e
+    late k (there (here e)) = unfold member indexOf in rw e
+    late k (there (there (here e))) = unfold member indexOf in rw e
+    late k (there (there (there i))) = absurd (not-nil i)
 
-pub weaken : {Q R : ℕ → Type 0} {A : Type 0} {t j u : List ℕ} {o : Outcome} → ((k : ℕ) → Q k → R k) → Ends Q A t j u o → Ends R A t j u o
-weaken {o = o} f (refuses a b c) = refuses (f (o .number) a) b c
-weaken f (commits a b c d e) = commits a b c d e
+module _ (n : ℕ) (o : Outcome) where
+  -- the table, the marks and the journal that are lent
+  abbrev t : List ℕ
+  t = o .table
 
-pub accepted : {Q : ℕ → Type 0} {A : Type 0} {t j u : List ℕ} {o : Outcome} → ((k : ℕ) → Q k → k ≢ 0) → Ends Q A t j u o → o .number ≡ 0 → A × (o .table ≡ u)
-accepted {o = o} f (refuses a b c) h = absurd (f (o .number) a h)
-accepted f (commits a b c d e) h = (a, c)
+  abbrev m : List ℕ
+  m = o .marks
 
-module _ (Q : ℕ → Type 0) (A : Type 0) (t j u : List ℕ) where
-  commit-outcome : (m : List ℕ) (p : ℕ) (cnt : List Change → ℕ) → Q 15 → A → Ends Q A t j u (commit t u m j p cnt)
-  unfolding commit refused
-  commit-outcome m p cnt q a = test (leb (length (recordOf (changesFrom 0 t u))) (length j - cursor j)) (λ h. rw (h, commit) (commits a refl refl refl (leb-true _ _ h))) (λ h. rw (h, commit) (refuses q refl refl))
+  abbrev j : List ℕ
+  j = o .journal
 
-  turned : (k p : ℕ) (m : List ℕ) → Q k → Ends Q A t j u (refused k p t m j)
+  -- those that take no marks, or no journal, keep what they do not take
+  check-ends : Ends n o Call.check
+  unfolding doCall checkCall checksOf doneOf refusalMarks keeping refused
+  check-ends = behind-map (λ r. keeping r m j) (behind-checks _ _ _)
+
+  orbit-ends : (mask d : ℕ) → Ends n o (Call.orbit mask d)
+  unfolding doCall orbitCall checksOf doneOf refusalMarks keeping refused
+  orbit-ends mask d = behind-map (λ r. keeping r (r .marks) j) (behind-checks _ _ _)
+
+  sheet-ends : (d : ℕ) → Ends n o (Call.sheet d)
+  unfolding doCall sheetCall checksOf doneOf refusalMarks keeping refused
+  sheet-ends d = behind-map (λ r. keeping r (r .marks) j) (behind-checks _ _ _)
+
+  add-ends : Ends n o Call.add
+  unfolding doCall addCall commit checksOf recordOk doneOf refusalMarks keeping
+  add-ends = behind-unmarked _ _ 15 _ _ _ _
+
+  unsew-ends : (i d : ℕ) → Ends n o (Call.unsew i d)
+  unfolding doCall unsewCall commit checksOf recordOk doneOf refusalMarks keeping
+  unsew-ends i d = behind-unmarked _ _ 15 _ _ _ _
+
+  sew-ends : (i d e : ℕ) → Ends n o (Call.sew i d e)
+  unfolding doCall sewCall commit sewChecks checksOf recordOk doneOf refusalMarks keeping
+  sew-ends i d e =
+      rw (← append-assoc (sidesChecks n t j i d e) (pairingOk n t i d e ∷ []) _)
+      (behind-unmarked _ _ 15 _ _ _ _)
+
+  undo-ends : Ends n o Call.undo
+  unfolding doCall undoCall stepOutcome checksOf stepOk doneOf refusalMarks keeping
+  undo-ends = behind-unmarked _ _ 17 _ _ _ _
+
+  redo-ends : Ends n o Call.redo
+  unfolding doCall redoCall stepOutcome checksOf stepOk doneOf refusalMarks keeping
+  redo-ends = behind-unmarked _ _ 17 _ _ _ _
+
+  -- remove and split: a refusal by 13, 14 or 15 leaves the sheet's marks ..
+  abbrev leaving : ℕ → ℕ → List ℕ → Outcome
+  leaving k p marks = refused k p t marks j
+
+  late-leaves : (d k p : ℕ) → In k (13 ∷ 14 ∷ 15 ∷ [])
+      → leaving k p (sheetMarks n t (sheet n t d)) ≡ leaving k p (layerMarks n o d k)
+  unfolding layerMarks
+  late-leaves d k p i = ap (leaving k p) (rw (in-member _ k i, layerMarks))
+
+  -- .. an earlier one the marks lent
+  early-leaves : (d k p : ℕ) → inOrder (layerChecks n t m j d) ≡ refuse k p
+      → leaving k p m ≡ leaving k p (layerMarks n o d k)
+  unfolding layerMarks layerChecks checksOf
+  early-leaves d k p e = ap (leaving k p) (rw (not-late k (refusal-says _ early k p e .0), layerMarks))
+    where
+      early : Numbers n t j (1 ∷ 2 ∷ 3 ∷ 4 ∷ 5 ∷ 7 ∷ 8 ∷ []) (layerChecks n t m j d)
+      early = numbers-before _ _ (call-numbers n o (Call.remove d))
+
+  remove-ends : (d : ℕ) → Ends n o (Call.remove d)
+  unfolding doCall removeCall commit checksOf recordOk doneOf refusalMarks
+  remove-ends d =
+      behind-more _ _ _ _ _ _ (behind-last _ _ _ 15 _ _ refl (late-leaves d 15 0 (there (there (here refl))))) (early-leaves d)
+
+  split-ends : (d : ℕ) → Ends n o (Call.split d)
+  unfolding doCall splitCall commit checksOf recordOk doneOf refusalMarks layerChecks splitChecks
+  split-ends d =
+      let late = numbers-behind (layerChecks n t m j d) _ (call-numbers n o (Call.split d)) in
+      let crossing = numbers-before (splitChecks n t (sheet n t d) (ones (sheet n t d))) _ late in
+      behind-more _ _ _ _ _ _
+      (behind-more _ _ _ _ _ _ (behind-last _ _ _ 15 _ _ refl (late-leaves d 15 0 (there (there (here refl)))))
+      (λ k p e. late-leaves d k p (in-left (15 ∷ []) (refusal-says _ crossing k p e .0))))
+      (early-leaves d)
+
+  pub call-ends : (c : Call) → Ends n o c
+  call-ends Call.check = check-ends
+  call-ends (Call.orbit mask d) = orbit-ends mask d
+  call-ends (Call.sheet d) = sheet-ends d
+  call-ends Call.add = add-ends
+  call-ends (Call.sew i d e) = sew-ends i d e
+  call-ends (Call.unsew i d) = unsew-ends i d
+  call-ends (Call.remove d) = remove-ends d
+  call-ends (Call.split d) = split-ends d
+  call-ends Call.undo = undo-ends
+  call-ends Call.redo = redo-ends
+
+  -- ---- the number of a call
+
+  -- what the first check that fails says
+  pub call-says : (c : Call) (k p : ℕ) → inOrder (checks n o c) ≡ refuse k p → In k (numbers c) × Says n t j k p
+  call-says c = refusal-says (checks n o c) (call-numbers n o c)
+
+  pub call-passed : (c : Call) → doCall n o c .number ≡ 0 → inOrder (checks n o c) ≡ pass
   unfolding refused
-  turned k p m h = refuses h refl refl
+  call-passed c h = ⊎-elim (λ e. e) (λ q.
+      let number = ap (λ (r : Outcome). r .number) (call-ends c .refuses (q .0) (q .1) (q .2)) in
+      absurd (call-says c (q .0) (q .1) (q .2) .1 .not-0 (sym number ∙ h)))
+      (passed-or-refused (inOrder (checks n o c)))
 
-  with-outcome : (o : Outcome) (m : List ℕ) → Ends Q A t j u o → Ends Q A t j u (keeping o m (o .journal))
-  unfolding keeping
-  with-outcome o m (refuses a b c) = refuses a b c
-  with-outcome o m (commits a b c d e) = commits a b c d e
+  pub call-done : (c : Call) → doCall n o c .number ≡ 0 → doCall n o c ≡ done n o c
+  call-done c h = call-ends c .passes (call-passed c h)
 
--- ---- the operations
+  pub done-number : (c : Call) → done n o c .number ≡ 0
+  unfolding doneOf
+  done-number Call.check = refl
+  done-number (Call.orbit mask d) = refl
+  done-number (Call.sheet d) = refl
+  done-number Call.add = refl
+  done-number (Call.sew i d e) = refl
+  done-number (Call.unsew i d) = refl
+  done-number (Call.remove d) = refl
+  done-number (Call.split d) = refl
+  done-number Call.undo = refl
+  done-number Call.redo = refl
 
-module _ {x y z w : ℕ} (n : ℕ) (t m j : List ℕ) (F : Front x y z w n t j) where
-  abbrev Q : Op → ℕ → Type 0
-  Q p k = In k (numbers x y z w p)
+  -- a call that gives another number than 0: the first check that fails has that number
+  pub call-refused : (c : Call) → doCall n o c .number ≢ 0
+      → (p : ℕ) × (inOrder (checks n o c) ≡ refuse (doCall n o c .number) p)
+      × (doCall n o c ≡ refusedBy n o c (doCall n o c .number) p)
+  unfolding refused
+  call-refused c h = ⊎-elim (λ e. absurd (h (ap (λ (r : Outcome). r .number) (call-ends c .passes e) ∙ done-number c))) (λ q.
+      let e = call-ends c .refuses (q .0) (q .1) (q .2) in
+      let k : doCall n o c .number ≡ q .0 = ap (λ (r : Outcome). r .number) e in
+      (q .1, rw k (q .2), e ∙ ap (λ (k : ℕ). refusedBy n o c k (q .1)) (sym k)))
+      (passed-or-refused (inOrder (checks n o c)))
 
-  abbrev OpEnds : Op → Outcome → Type 0
-  OpEnds p o = Ends (Q p) (Passed n t m j p) t j (effect n t p) o
+  -- ---- operations
 
-  pub add-outcome : OpEnds Op.add (addCall n t j)
-  unfolding addCall effect
-  add-outcome = guard (OpEnds Op.add) (add-numbers n t j F) _ _ (λ a. commit-outcome (Q Op.add) _ t j _ _ _ _ (here refl) a) (λ k p i. turned (Q Op.add) _ t j _ k p [] (there i))
+  op-passed : (p : Op) → inOrder (checks n o (callOf p)) ≡ pass
+      → Passed n t m j p × (recordOk t (effect n t p) j ≡ pass)
+  unfolding checksOf callOf effect sewChecks
+  op-passed Op.add h = let r = passed-append (addChecks n t j) _ h in (r .0, passed-at _ (r .1) 0)
+  op-passed (Op.sew i d e) h =
+      let both = append-assoc (sidesChecks n t j i d e) (pairingOk n t i d e ∷ []) _ in
+      let r = passed-append (sewChecks n t j i d e) _ (ap inOrder both ∙ h) in
+      (r .0, passed-at _ (r .1) 0)
+  op-passed (Op.unsew i d) h = let r = passed-append (unsewChecks n t j i d) _ h in (r .0, passed-at _ (r .1) 0)
+  op-passed (Op.remove d) h = let r = passed-append (layerChecks n t m j d) _ h in (r .0, passed-at _ (r .1) 0)
+  op-passed (Op.split d) h =
+      let r = passed-append (layerChecks n t m j d) _ h in
+      let s = passed-append (splitChecks n t (sheet n t d) (ones (sheet n t d))) _ (r .1) in
+      ((r .0, s .0), passed-at _ (s .1) 0)
 
-  pub unsew-outcome : (i d : ℕ) → OpEnds (Op.unsew i d) (unsewCall n t j i d)
-  unfolding unsewCall effect
-  unsew-outcome i d = guard (OpEnds (Op.unsew i d)) (unsew-numbers n t j F i d) _ _ (λ a. commit-outcome (Q (Op.unsew i d)) _ t j _ _ _ _ (here refl) a) (λ k p l. turned (Q (Op.unsew i d)) _ t j _ k p [] (there l))
+  done-op : (p : Op) → (done n o (callOf p) .table ≡ effect n t p)
+      × (done n o (callOf p) .journal ≡ written j (recordOf (changesFrom 0 t (effect n t p))))
+  unfolding doneOf callOf effect
+  done-op Op.add = (refl, refl)
+  done-op (Op.sew i d e) = (refl, refl)
+  done-op (Op.unsew i d) = (refl, refl)
+  done-op (Op.remove d) = (refl, refl)
+  done-op (Op.split d) = (refl, refl)
 
-  pub sew-outcome : (i d e : ℕ) → OpEnds (Op.sew i d e) (sewCall n t j i d e)
-  unfolding sewCall effect
-  sew-outcome i d e = guard (OpEnds (Op.sew i d e)) (sew-numbers n t j F i d e) _ _
-      (λ a. commit-outcome (Q (Op.sew i d e)) _ t j _ _ _ _ (here refl) a) (λ k p l. turned (Q (Op.sew i d e)) _ t j _ k p [] (there l))
-
-  pub remove-outcome : (d : ℕ) → OpEnds (Op.remove d) (removeCall n t m j d)
-  unfolding removeCall effect
-  remove-outcome d = guard (OpEnds (Op.remove d)) (layer-numbers n t j F m d) _ _ (λ a. commit-outcome (Q (Op.remove d)) _ t j _ _ _ _ (here refl) a) (λ k p i. turned (Q (Op.remove d)) _ t j _ k p m (there i))
-
-  pub split-outcome : (d : ℕ) → OpEnds (Op.split d) (splitCall n t m j d)
-  unfolding splitCall effect
-  split-outcome d = guard (OpEnds (Op.split d)) (layer-numbers n t j F m d) _ _
-      (λ a. guard (OpEnds (Op.split d)) (split-numbers n t _ _) _ _ (λ b. commit-outcome (Q (Op.split d)) _ t j _ _ _ _ (here refl) (a, b)) (λ k p i. turned (Q (Op.split d)) _ t j _ k p _ (there (in-left (x ∷ y ∷ 3 ∷ z ∷ w ∷ 7 ∷ 8 ∷ []) i))))
-      (λ k p i. turned (Q (Op.split d)) _ t j _ k p m (there (there (there i))))
-
-pub op-outcome : {x y z w : ℕ} (n : ℕ) (o : Outcome) → Front x y z w n (o .table) (o .journal) → (p : Op)
-    → Ends (λ k. In k (numbers x y z w p)) (Passed n (o .table) (o .marks) (o .journal) p) (o .table) (o .journal) (effect n (o .table) p) (doCall n o (callOf p))
-unfolding doCall callOf
-op-outcome n o F Op.add = with-outcome _ _ _ _ _ _ _ (add-outcome n (o .table) (o .marks) (o .journal) F)
-op-outcome n o F (Op.sew i x y) = with-outcome _ _ _ _ _ _ _ (sew-outcome n (o .table) (o .marks) (o .journal) F i x y)
-op-outcome n o F (Op.unsew i x) = with-outcome _ _ _ _ _ _ _ (unsew-outcome n (o .table) (o .marks) (o .journal) F i x)
-op-outcome n o F (Op.remove x) = remove-outcome n (o .table) (o .marks) (o .journal) F x
-op-outcome n o F (Op.split x) = split-outcome n (o .table) (o .marks) (o .journal) F x
-
--- the table keeps its length
-pub effect-length : (n : ℕ) (t : List ℕ) (p : Op) → length (effect n t p) ≡ length t
-unfolding effect addTable unsewTable removeTable splitTable sewTable added unsewn relink removed halved retable
-effect-length n t Op.add = length-tab _ (length t)
-effect-length n t (Op.sew i d e) = go (partners n t i d e) (partners n t i e d)
-  where
-    go : (x y : Option (List ℕ)) → length {A = ℕ} (elim x [ none ↦ t | some p ↦ (elim y [ none ↦ t | some q ↦ sewn t i p q ]) ]) ≡ length t
-    go none y = refl
-    go (some p) none = refl
-    go (some p) (some q) = unfold sewn in length-tab _ (length t)
-effect-length n t (Op.unsew i d) = length-tab _ (length t)
-effect-length n t (Op.remove d) = length-tab _ (length t)
-effect-length n t (Op.split d) = length-tab _ (length t)
+  -- an accepted operation has passed its checks, and leaves its effect and the record of the changes
+  pub op-accepted : (p : Op) → doCall n o (callOf p) .number ≡ 0 → OpAccepted n o p (doCall n o (callOf p))
+  op-accepted p h =
+      let passed = op-passed p (call-passed (callOf p) h) in
+      let is = call-done (callOf p) h in
+      let leaves = done-op p in
+      record {
+        passed = passed .0;
+        table = ap (λ (r : Outcome). r .table) is ∙ leaves .0;
+        journal = ap (λ (r : Outcome). r .journal) is ∙ leaves .1;
+        room = record-pass _ _ _ (passed .1);
+      }

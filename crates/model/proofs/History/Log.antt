@@ -1,110 +1,101 @@
--- A journal as pages: the words of what stands, the words of what was undone, and the rest. Writing, undo and redo turn the pages.
-use Prim.Native.Nat.{ℕ, zero, suc, _+_, _*_, _-_, _≤_, _<_}
+-- A journal by its words: those of the records that stand, those of the records that were undone, and the rest.
+-- `journal-written`: a new record goes behind those that stand. `undo-steps`, `redo-steps`: the record that stands last is
+-- the next undone one, and back; only the cursor moves.
+use Prim.Native.Nat.{ℕ, suc, _+_, _*_, _-_, _≤_, _<_}
 use mathlib.Core.Path.{_≡_, refl, sym, ap, _∙_}
+use mathlib.Core.Bool.{Bool, true, false, not}
 use mathlib.Core.Logic.{_≢_}
-use mathlib.Core.Bool.{Bool, true, false, not, _&&_}
 use mathlib.Core.List.{List, [], _∷_, _++_, append-assoc}
 use native.Mathlib.Omega.{arith}
-use lib.ListN.{length, getD, set, drop, length-append, length-drop}
+use lib.ListN.{length, getD, drop, length-append, length-drop}
 use lib.Seq.{getD-at, getD-append-seam, getD-append-add, take-append-seam, drop-append-add}
-use lib.Dec.{eqb, leb}
+use lib.Dec.{eqb}
 use borrow.Author.Tests.{eq-eqb, ne-eqb, le-leb}
 use Rattle.model.specs.Map.{isMap}
 use Rattle.model.specs.Journal.{Change, triples, readChanges, changesAt, recordOf, written, cursor, end, put, sound, unbroken}
-use Rattle.model.specs.Checks.{Check, pass, refuse, andThen, must, mustAt, inOrder, dimOk, tableOk, journalOk, mapOk, stepChecks}
-use Rattle.model.specs.Checks.{undoOk, redoOk}
+use Rattle.model.specs.Checks.{Check, pass, refuse, andThen, must, mustAt, inOrder, dimOk, tableOk, journalOk, mapOk}
+use Rattle.model.specs.Checks.{undoOk, redoOk, stepChecks}
 use Rattle.model.specs.Calls.{Outcome, stepOutcome, undoCall, redoCall, refused}
 use Rattle.model.proofs.Lists.Scan.{and-i}
-use Rattle.model.proofs.History.Record.{changes-flat, length-flat, length-record}
+use Rattle.model.proofs.Calls.Fails.{journal-holds}
+use Rattle.model.proofs.History.Record.{read-triples, length-triples, length-record}
 
-unfoldable pub pages : List ℕ → List ℕ → List ℕ → List ℕ
-pages b a w = suc (suc (length b)) ∷ suc (suc (length b + length a)) ∷ (b ++ (a ++ w))
+-- the words of what stands, of what was undone, and the rest: the cursor is behind the first, the end behind the second
+unfoldable pub journalOf : List ℕ → List ℕ → List ℕ → List ℕ
+journalOf standing undone rest =
+    suc (suc (length standing)) ∷ suc (suc (length standing + length undone)) ∷ (standing ++ (undone ++ rest))
 
-pub pages-length : (b a w : List ℕ) → length (pages b a w) ≡ suc (suc (length b + (length a + length w)))
-unfolding pages
-pages-length b a w = simp length-append
+module _ (standing undone rest : List ℕ) where
+  journal-length : length (journalOf standing undone rest) ≡ suc (suc (length standing + (length undone + length rest)))
+  unfolding journalOf
+  journal-length = simp length-append
 
-pub pages-ok : (b a w : List ℕ) → length (pages b a w) ≤ 1048576 → journalOk (pages b a w) ≡ pass
-unfolding journalOk must cursor end pages
-pages-ok b a w h =
-    let l = pages-length b a w in
-    ap (λ (x : Bool). must x 4)
-    (and-i (and-i (and-i (and-i (le-leb 2 (length (pages b a w)) (omega arith)) (le-leb (length (pages b a w)) 1048576 h)) (le-leb 2 (suc (suc (length b))) (omega arith)))
-    (le-leb (suc (suc (length b))) (suc (suc (length b + length a))) (omega arith))) (le-leb (suc (suc (length b + length a))) (length (pages b a w)) (omega arith)))
+  pub journal-ok : length (journalOf standing undone rest) ≤ 1048576 → journalOk (journalOf standing undone rest) ≡ pass
+  unfolding cursor end journalOf
+  journal-ok few =
+      let l = journal-length in
+      journal-holds (journalOf standing undone rest)
+      (record { long = omega arith; few = few; low = omega arith; ends = omega arith; within = omega arith })
 
--- a record that is written goes behind what stands; what was undone is lost
-pub pages-written : (b a w r : List ℕ) → written (pages b a w) r ≡ pages (b ++ r) [] (drop (length r) (a ++ w))
-unfolding written pages cursor
-pages-written b a w r =
-    let p : suc (suc (length b)) + length r ≡ suc (suc (length b + length r)) = omega arith in
-    let q : length (b ++ r) ≡ length b + length r = length-append b r in
-    let z : length b + length r + 0 ≡ length b + length r = omega arith in
-    rw (p, q, z, take-append-seam b (a ++ w)) (ap (λ (l : List ℕ). suc (suc (length b + length r)) ∷ suc (suc (length b + length r)) ∷ ((b ++ r) ++ l)) (drop-append-add b (a ++ w) (length r)))
+  -- a record that is written goes behind what stands; what was undone is lost
+  pub journal-written : (r : List ℕ)
+      → written (journalOf standing undone rest) r ≡ journalOf (standing ++ r) [] (drop (length r) (undone ++ rest))
+  unfolding written journalOf cursor
+  journal-written r =
+      let s = length standing in
+      let p : suc (suc s) + length r ≡ suc (suc (s + length r)) = omega arith in
+      let z : s + length r + 0 ≡ s + length r = omega arith in
+      rw (p, length-append standing r, z, take-append-seam standing (undone ++ rest))
+      (ap (λ (l : List ℕ). suc (suc (s + length r)) ∷ suc (suc (s + length r)) ∷ ((standing ++ r) ++ l))
+      (drop-append-add standing (undone ++ rest) (length r)))
 
-pub written-length : (b a w r : List ℕ) → length r ≤ length (pages b a w) - cursor (pages b a w) → length (pages (b ++ r) [] (drop (length r) (a ++ w))) ≡ length (pages b a w)
-unfolding cursor pages
-written-length b a w r h =
-    let l = pages-length b a w in
-    simp (length-append, length-drop) (omega arith)
+  pub written-length : (r : List ℕ)
+      → length r ≤ length (journalOf standing undone rest) - cursor (journalOf standing undone rest)
+      → length (written (journalOf standing undone rest) r) ≡ length (journalOf standing undone rest)
+  unfolding cursor journalOf
+  written-length r h =
+      let l = journal-length in
+      ap length (journal-written r) ∙ simp (length-append, length-drop) (omega arith)
 
--- ---- undo and redo behind their checks
+-- ---- a record among other words, behind a cursor and an end
 
--- the checks of a chain, passed one after another
-chain : (c : Check) (cs : List Check) {r : Check} → c ≡ pass → inOrder cs ≡ r → inOrder (c ∷ cs) ≡ r
-unfolding inOrder andThen
-chain c cs p q = rw p q
+module _ (first second : ℕ) (before : List ℕ) (cs : List Change) (behind : List ℕ) where
+  abbrev journal-words : List ℕ
+  journal-words = first ∷ second ∷ (before ++ (recordOf cs ++ behind))
 
-chain-end : inOrder [] ≡ pass
-unfolding inOrder
-chain-end = refl
+  abbrev record-start : ℕ
+  record-start = suc (suc (length before))
 
-step-ok : (redo : Bool) (n : ℕ) (t u j : List ℕ) (a k c : ℕ) → put redo (changesAt j a k) t ≡ u → unbroken redo t j a k ≡ true → isMap n u ≡ true
-    → stepOutcome redo n t j a k c ≡ record { number = 0; place = 0; count = k; table = u; marks = []; journal = set j 0 c }
-unfolding stepOutcome
-step-ok redo n t u j a k c p h m = rw (h, ap (isMap n) p ∙ m, stepOutcome) (rw p)
-
--- ---- a record in the pages
-
-module _ (c e : ℕ) (b : List ℕ) (cs : List Change) (w : List ℕ) where
-  abbrev J : List ℕ
-  J = c ∷ e ∷ (b ++ (recordOf cs ++ w))
-
-  abbrev a : ℕ
-  a = suc (suc (length b))
-
-  first : getD J a 0 ≡ length cs
+  first-count : getD journal-words record-start 0 ≡ length cs
   unfolding recordOf
-  first = getD-append-seam b (length cs) _ 0
+  first-count = getD-append-seam before (length cs) _ 0
 
-  last : (x : ℕ) → x ≡ a + (3 * length cs + 1) → getD J x 0 ≡ length cs
+  last-count : (x : ℕ) → x ≡ record-start + (3 * length cs + 1) → getD journal-words x 0 ≡ length cs
   unfolding recordOf
-  last x h =
-      let l = length-flat cs in
-      let q : x ≡ suc (suc (length b + suc (3 * length cs))) = omega arith in
-      ap (λ (k : ℕ). getD J k 0) q ∙ getD-append-add b (recordOf cs ++ w) (suc (3 * length cs)) 0
-      ∙ ap (λ (l : List ℕ). getD l (3 * length cs) 0) (append-assoc (triples cs) (length cs ∷ []) w)
-      ∙ getD-at (triples cs) (length cs) w 0 (3 * length cs) l
+  last-count x h =
+      let l = length-triples cs in
+      let q : x ≡ suc (suc (length before + suc (3 * length cs))) = omega arith in
+      ap (λ (k : ℕ). getD journal-words k 0) q ∙ getD-append-add before (recordOf cs ++ behind) (suc (3 * length cs)) 0
+      ∙ ap (λ (l : List ℕ). getD l (3 * length cs) 0) (append-assoc (triples cs) (length cs ∷ []) behind)
+      ∙ getD-at (triples cs) (length cs) behind 0 (3 * length cs) l
 
-  read : changesAt J a (length cs) ≡ cs
+  record-read : changesAt journal-words record-start (length cs) ≡ cs
   unfolding recordOf changesAt
-  read =
-      let q : suc (length b) ≡ length b + 1 = omega arith in
-      ap (readChanges (length cs)) (ap (λ (k : ℕ). drop k (b ++ (recordOf cs ++ w))) q ∙ drop-append-add b (recordOf cs ++ w) 1 ∙ append-assoc (triples cs) (length cs ∷ []) w)
-      ∙ changes-flat cs _
+  record-read =
+      let q : suc (length before) ≡ length before + 1 = omega arith in
+      let from-count = ap (λ (k : ℕ). drop k (before ++ (recordOf cs ++ behind))) q in
+      let from-triples = drop-append-add before (recordOf cs ++ behind) 1 ∙ append-assoc (triples cs) (length cs ∷ []) behind in
+      ap (readChanges (length cs)) (from-count ∙ from-triples) ∙ read-triples cs _
 
-  pub step-read : (redo : Bool) (n : ℕ) (t u : List ℕ) (at : ℕ) → zero < length cs → a + (3 * length cs + 2) ≤ e
-      → sound redo t 0 cs ≡ true → put redo cs t ≡ u → isMap n u ≡ true
-      → stepOutcome redo n t J a (length cs) at
-      ≡ record { number = 0; place = 0; count = length cs; table = u; marks = []; journal = at ∷ e ∷ (b ++ (recordOf cs ++ w)) }
+  record-unbroken : (redo : Bool) (t : List ℕ) → 0 < length cs → record-start + (3 * length cs + 2) ≤ second
+      → sound redo t 0 cs ≡ true → unbroken redo t journal-words record-start (length cs) ≡ true
   unfolding end unbroken
-  step-read redo n t u at some fits s p m =
-      step-ok redo n t u J a (length cs) at (ap (λ (ds : List Change). put redo ds t) read ∙ p)
-      (and-i (and-i (and-i (and-i
-      (ap not (ne-eqb (length cs) 0 (λ q. omega arith)))
-      (le-leb 2 a (omega arith)))
-      (le-leb (a + (3 * length cs + 2)) e fits))
-      (eq-eqb _ _ (first ∙ sym (last _ refl))))
-      (ap (sound redo t 0) read ∙ s)) m
+  record-unbroken redo t some fits s =
+      let not-0 = ap not (ne-eqb (length cs) 0 (λ q. omega arith)) in
+      let behind-2 = le-leb 2 record-start (omega arith) in
+      let within = le-leb (record-start + (3 * length cs + 2)) second fits in
+      let counts = eq-eqb _ _ (first-count ∙ sym (last-count _ refl)) in
+      and-i (and-i (and-i (and-i not-0 behind-2) within) counts) (ap (sound redo t 0) record-read ∙ s)
 
 -- ---- undo and redo
 
@@ -112,107 +103,129 @@ pub map-ok : (n : ℕ) (t : List ℕ) → isMap n t ≡ true → mapOk n t ≡ p
 unfolding isMap mapOk mustAt
 map-ok n t h = rw h
 
-all-one : (c : Check) {k p : ℕ} → c ≡ refuse k p → inOrder (c ∷ []) ≡ refuse k p
-unfolding inOrder andThen
-all-one c h = rw h
-
-pub moved : (x y : ℕ) → x ≢ y → must (not (eqb x y)) 16 ≡ pass
-unfolding must
-moved x y h = rw (ne-eqb x y h)
-
-pub stuck : (x y : ℕ) → x ≡ y → must (not (eqb x y)) 16 ≡ refuse 16 0
-unfolding must
-stuck x y h = rw (eq-eqb x y h)
-
--- a dimension and a table that pass
+-- a dimension and a table that pass the checks 1, 2 and 5
 pub record InRule (n : ℕ) (t : List ℕ) : Type 0 where
   pub dim : dimOk n ≡ pass
   pub size : tableOk t ≡ pass
   pub map : isMap n t ≡ true
 
-unfoldable pub took : ℕ → List ℕ → List ℕ → Outcome
-took k t j = record { number = 0; place = 0; count = k; table = t; marks = []; journal = j }
+then-pass : (c : Check) → andThen c pass ≡ c
+unfolding andThen
+then-pass pass = refl
+then-pass (refuse k p) = refl
 
--- the pages before and behind a record r: they differ in the cursor only
-module _ (b r a w : List ℕ) where
-  abbrev behind : ℕ
-  behind = suc (suc (length b + length r))
+-- where they pass, and 4 too, the last check of undo and redo decides
+step-checks : {n : ℕ} {t : List ℕ} (j : List ℕ) (there : Check) → InRule n t → journalOk j ≡ pass
+    → inOrder (stepChecks n t j there) ≡ there
+unfolding inOrder andThen stepChecks
+step-checks {n} {t} j there rule ok = rw (rule .dim, rule .size, ok, map-ok n t (rule .map)) (then-pass there)
 
-  abbrev ahead : ℕ
-  ahead = suc (suc (length b))
+not-equal-ok : (x y : ℕ) → x ≢ y → must (not (eqb x y)) 16 ≡ pass
+unfolding must
+not-equal-ok x y h = rw (ne-eqb x y h)
 
-  abbrev tail : List ℕ
-  tail = suc (suc (length b + length r + length a)) ∷ (b ++ (r ++ (a ++ w)))
+equal-refused : (x y : ℕ) → x ≡ y → must (not (eqb x y)) 16 ≡ refuse 16 0
+unfolding must
+equal-refused x y h = rw (eq-eqb x y h)
 
-  pages-behind : pages (b ++ r) a w ≡ behind ∷ tail
-  unfolding pages
-  pages-behind = rw (append-assoc b r (a ++ w), length-append b r)
+-- the changes cs make the map u of the map t, by undo or by redo
+pub record Leads (redo : Bool) (n : ℕ) (t u : List ℕ) (cs : List Change) : Type 0 where
+  pub rule : InRule n t
+  pub some : 0 < length cs
+  pub sound : sound redo t 0 cs ≡ true
+  pub puts : put redo cs t ≡ u
+  pub map : isMap n u ≡ true
 
-  pages-ahead : pages b (r ++ a) w ≡ ahead ∷ tail
-  unfolding pages
-  pages-ahead =
-      let q : length b + (length r + length a) ≡ length b + length r + length a = omega arith in
-      rw (append-assoc r a w, length-append r a, q)
+-- an undo or a redo that is accepted
+unfoldable pub stepsTo : ℕ → List ℕ → List ℕ → Outcome
+stepsTo k u j = record { number = 0; place = 0; count = k; table = u; marks = []; journal = j }
 
-  pub pages-same : length (pages b (r ++ a) w) ≡ length (pages (b ++ r) a w)
-  pages-same = ap length pages-ahead ∙ sym (ap length pages-behind)
+-- the journal with the cursor behind a record, and before it: they differ in the first word
+module _ (standing undone rest : List ℕ) (cs : List Change) where
+  abbrev cursor-behind : ℕ
+  cursor-behind = suc (suc (length standing + length (recordOf cs)))
 
-module _ (n : ℕ) (t u : List ℕ) (K : InRule n t) (b a w : List ℕ) (cs : List Change) (some : zero < length cs) (m : isMap n u ≡ true) where
-  abbrev r : List ℕ
-  r = recordOf cs
+  abbrev cursor-before : ℕ
+  cursor-before = suc (suc (length standing))
 
-  abbrev C : ℕ
-  C = behind b r a w
+  abbrev end-word : ℕ
+  end-word = suc (suc (length standing + length (recordOf cs) + length undone))
 
-  abbrev A : ℕ
-  A = ahead b r a w
+  abbrev journal-at : ℕ → List ℕ
+  journal-at c = journal-words c end-word standing cs (undone ++ rest)
 
-  abbrev W : List ℕ
-  W = tail b r a w
+  journal-behind : journalOf (standing ++ recordOf cs) undone rest ≡ journal-at cursor-behind
+  unfolding journalOf
+  journal-behind = rw (append-assoc standing (recordOf cs) (undone ++ rest), length-append standing (recordOf cs))
 
-  turn : (d : Bool) → sound d t 0 cs ≡ true → put d cs t ≡ u → (c at : ℕ) → stepOutcome d n t (c ∷ W) A (length cs) at ≡ took (length cs) u (at ∷ W)
-  unfolding took
-  turn d s p c at = let l = length-record cs in step-read c _ b cs (a ++ w) d n t u at some (omega arith) s p m
+  journal-before : journalOf standing (recordOf cs ++ undone) rest ≡ journal-at cursor-before
+  unfolding journalOf
+  journal-before =
+      let r = length (recordOf cs) in
+      let q : length standing + (r + length undone) ≡ length standing + r + length undone = omega arith in
+      rw (append-assoc (recordOf cs) undone rest, length-append (recordOf cs) undone, q)
 
-  undo-turn : sound false t 0 cs ≡ true → put false cs t ≡ u → journalOk (C ∷ W) ≡ pass → undoCall n t (C ∷ W) ≡ took (length cs) u (A ∷ W)
-  unfolding undoCall undoOk stepChecks cursor
-  undo-turn s p ok =
+  pub journal-same : length (journalOf standing (recordOf cs ++ undone) rest)
+      ≡ length (journalOf (standing ++ recordOf cs) undone rest)
+  journal-same = ap length journal-before ∙ sym (ap length journal-behind)
+
+  step-from : {redo : Bool} {n : ℕ} {t u : List ℕ} → Leads redo n t u cs → (from to : ℕ)
+      → stepOutcome redo n t (journal-at from) cursor-before (length cs) to ≡ stepsTo (length cs) u (journal-at to)
+  unfolding stepOutcome stepsTo
+  step-from {redo} {n} {t} leads from to =
       let l = length-record cs in
-      let q : C - (3 * length cs + 2) ≡ A = omega arith in
-      rw (
-        chain _ _ (K .dim) (chain _ _ (K .size) (chain _ _ ok (chain _ _ (map-ok n t (K .map)) (chain _ _ (moved C 2 (λ z. omega arith)) chain-end)))),
-        undoCall,
-        last C _ b cs (a ++ w) (C - 1) (omega arith),
-        q,
-      ) (turn false s p C A)
+      let changes = record-read from end-word standing cs (undone ++ rest) in
+      let result = ap (λ (ds : List Change). put redo ds t) changes ∙ leads .puts in
+      let whole = record-unbroken from end-word standing cs (undone ++ rest) redo t (leads .some) (omega arith) (leads .sound) in
+      rw (whole, ap (isMap n) result ∙ leads .map, stepOutcome) (rw result)
 
-  redo-turn : sound true t 0 cs ≡ true → put true cs t ≡ u → journalOk (A ∷ W) ≡ pass → redoCall n t (A ∷ W) ≡ took (length cs) u (C ∷ W)
-  unfolding redoCall redoOk stepChecks cursor end
-  redo-turn s p ok =
+  undo-at : {n : ℕ} {t u : List ℕ} → Leads false n t u cs → journalOk (journal-at cursor-behind) ≡ pass
+      → undoCall n t (journal-at cursor-behind) ≡ stepsTo (length cs) u (journal-at cursor-before)
+  unfolding undoCall undoOk cursor
+  undo-at leads ok =
       let l = length-record cs in
-      let q : A + (3 * length cs + 2) ≡ C = omega arith in
-      rw (
-        chain _ _ (K .dim) (chain _ _ (K .size) (chain _ _ ok (chain _ _ (map-ok n t (K .map)) (chain _ _ (moved A (suc (suc (length b + length r + length a))) (λ z. omega arith)) chain-end)))),
-        redoCall,
-        first A _ b cs (a ++ w),
-        q,
-      ) (turn true s p A C)
+      let back : cursor-behind - (3 * length cs + 2) ≡ cursor-before = omega arith in
+      let passes = step-checks _ _ (leads .rule) ok ∙ not-equal-ok cursor-behind 2 (λ q. omega arith) in
+      let counted = last-count cursor-behind end-word standing cs (undone ++ rest) (cursor-behind - 1) (omega arith) in
+      rw (passes, undoCall, counted, back) (step-from leads cursor-behind cursor-before)
 
-  pub undo-pages : sound false t 0 cs ≡ true → put false cs t ≡ u → length (pages (b ++ r) a w) ≤ 1048576
-      → undoCall n t (pages (b ++ r) a w) ≡ took (length cs) u (pages b (r ++ a) w)
-  undo-pages s p h = rw (pages-behind b r a w, pages-ahead b r a w) (undo-turn s p (rw (pages-behind b r a w) at (pages-ok (b ++ r) a w h)))
+  redo-at : {n : ℕ} {t u : List ℕ} → Leads true n t u cs → journalOk (journal-at cursor-before) ≡ pass
+      → redoCall n t (journal-at cursor-before) ≡ stepsTo (length cs) u (journal-at cursor-behind)
+  unfolding redoCall redoOk cursor end
+  redo-at leads ok =
+      let l = length-record cs in
+      let on : cursor-before + (3 * length cs + 2) ≡ cursor-behind = omega arith in
+      let passes = step-checks _ _ (leads .rule) ok ∙ not-equal-ok cursor-before end-word (λ q. omega arith) in
+      rw (passes, redoCall, first-count cursor-before end-word standing cs (undone ++ rest), on)
+      (step-from leads cursor-before cursor-behind)
 
-  pub redo-pages : sound true t 0 cs ≡ true → put true cs t ≡ u → length (pages b (r ++ a) w) ≤ 1048576
-      → redoCall n t (pages b (r ++ a) w) ≡ took (length cs) u (pages (b ++ r) a w)
-  redo-pages s p h = rw (pages-behind b r a w, pages-ahead b r a w) (redo-turn s p (rw (pages-ahead b r a w) at (pages-ok b (r ++ a) w h)))
+  pub undo-steps : {n : ℕ} {t u : List ℕ} → Leads false n t u cs
+      → length (journalOf (standing ++ recordOf cs) undone rest) ≤ 1048576
+      → undoCall n t (journalOf (standing ++ recordOf cs) undone rest)
+      ≡ stepsTo (length cs) u (journalOf standing (recordOf cs ++ undone) rest)
+  undo-steps leads few =
+      let ok = rw journal-behind at (journal-ok (standing ++ recordOf cs) undone rest few) in
+      rw (journal-behind, journal-before) (undo-at leads ok)
 
-module _ (n : ℕ) (t : List ℕ) (K : InRule n t) where
-  pub undo-none : (a w : List ℕ) → length (pages [] a w) ≤ 1048576 → undoCall n t (pages [] a w) ≡ refused 16 0 t [] (pages [] a w)
-  unfolding undoCall undoOk stepChecks cursor pages
-  undo-none a w h =
-      rw (chain _ _ (K .dim) (chain _ _ (K .size) (chain _ _ (pages-ok [] a w h) (chain _ _ (map-ok n t (K .map)) (all-one _ (stuck 2 2 refl))))), undoCall)
+  pub redo-steps : {n : ℕ} {t u : List ℕ} → Leads true n t u cs
+      → length (journalOf standing (recordOf cs ++ undone) rest) ≤ 1048576
+      → redoCall n t (journalOf standing (recordOf cs ++ undone) rest)
+      ≡ stepsTo (length cs) u (journalOf (standing ++ recordOf cs) undone rest)
+  redo-steps leads few =
+      let ok = rw journal-before at (journal-ok standing (recordOf cs ++ undone) rest few) in
+      rw (journal-behind, journal-before) (redo-at leads ok)
 
-  pub redo-none : (b w : List ℕ) → length (pages b [] w) ≤ 1048576 → redoCall n t (pages b [] w) ≡ refused 16 0 t [] (pages b [] w)
-  unfolding redoCall redoOk stepChecks cursor end pages
-  redo-none b w h =
-      rw (chain _ _ (K .dim) (chain _ _ (K .size) (chain _ _ (pages-ok b [] w h) (chain _ _ (map-ok n t (K .map)) (all-one _ (stuck (suc (suc (length b))) (suc (suc (length b + 0))) (omega arith)))))), redoCall)
+module _ {n : ℕ} {t : List ℕ} (rule : InRule n t) where
+  pub undo-none : (undone rest : List ℕ) → length (journalOf [] undone rest) ≤ 1048576
+      → undoCall n t (journalOf [] undone rest) ≡ refused 16 0 t [] (journalOf [] undone rest)
+  unfolding undoCall undoOk cursor journalOf
+  undo-none undone rest few =
+      rw (step-checks _ _ rule (journal-ok [] undone rest few) ∙ equal-refused 2 2 refl, undoCall)
+
+  pub redo-none : (standing rest : List ℕ) → length (journalOf standing [] rest) ≤ 1048576
+      → redoCall n t (journalOf standing [] rest) ≡ refused 16 0 t [] (journalOf standing [] rest)
+  unfolding redoCall redoOk cursor end journalOf
+  redo-none standing rest few =
+      let s = length standing in
+      let refuses = equal-refused (suc (suc s)) (suc (suc (s + 0))) (omega arith) in
+      rw (step-checks _ _ rule (journal-ok standing [] rest few) ∙ refuses, redoCall)

@@ -1,28 +1,29 @@
--- The calls on a map and a journal in rule: none gives 4 or 5, an accepted operation changes the table and leaves a map, and check, orbit and sheet change nothing.
+-- What an operation makes of a table: a table of the same length (`effect-length`), another one where its checks pass
+-- (`op-changes`), and a map where it is accepted (`op-map`).
 use Prim.Native.Nat.{ℕ, _<_}
 use mathlib.Core.Path.{_≡_, refl, sym, ap, _∙_, subst}
 use mathlib.Core.Logic.{_≢_}
-use mathlib.Core.Bool.{true, false}
-use mathlib.Core.List.{List, [], _∷_, List·Memᴰ as In}
+use mathlib.Core.Bool.{true}
+use mathlib.Core.Option.{Option, none, some}
+use mathlib.Core.List.{List}
 use native.Mathlib.Omega.{arith}
-use lib.ListN.{getD, take}
-use borrow.Author.Tests.{eqb-true}
-use Rattle.model.specs.Lists.{ones, indexOf, member}
-use Rattle.model.specs.Table.{unused, link, live}
+use lib.ListN.{length, getD}
+use Rattle.model.specs.Lists.{ones}
+use Rattle.model.specs.Table.{unused, link, live, retable, relink}
 use Rattle.model.specs.Map.{isMap}
 use Rattle.model.specs.Cell.{cellSize}
 use Rattle.model.specs.Numbering.{cellLink, firstBit, corners, flip}
 use Rattle.model.specs.Sheet.{sheet}
-use Rattle.model.specs.Add.{addSlots, addTable}
-use Rattle.model.specs.Sew.{side}
-use Rattle.model.specs.Split.{splitTable}
-use Rattle.model.specs.Checks.{pass, dimOk, tableOk, journalOk, mapOk}
-use Rattle.model.specs.Calls.{Outcome, refused, checkCall, orbitCall, sheetCall}
+use Rattle.model.specs.Add.{addSlots, added, addTable}
+use Rattle.model.specs.Sew.{side, partners, sewn, sewTable, unsewn, unsewTable}
+use Rattle.model.specs.Remove.{removed, removeTable}
+use Rattle.model.specs.Split.{halved, splitTable}
+use Rattle.model.specs.Calls.{Outcome}
 use Rattle.model.specs.Runs.{doCall, keeping, Op, callOf, effect}
-use Rattle.model.specs.Meaning.Ends.{numbers, Passed, Ends}
+use Rattle.model.specs.Meaning.Ends.{Passed}
 use Rattle.model.specs.Meaning.Maps.{Dim}
 use Rattle.model.specs.Meaning.Sets.{Marked}
-use Rattle.model.proofs.Lists.Scan.{clash}
+use Rattle.model.proofs.Lists.Scan.{clash, length-tab}
 use Rattle.model.proofs.Lists.Ones.{getD-in, ones-in, vacant-frees}
 use Rattle.model.proofs.Maps.Rules.{dead-link}
 use Rattle.model.proofs.Maps.Tables.{mapTable, live-below, rule-at}
@@ -36,60 +37,24 @@ use Rattle.model.proofs.Layers.Sheet.{sheet-own}
 use Rattle.model.proofs.Layers.Marks.{marks-own}
 use Rattle.model.proofs.Layers.Remove.{remove-removes}
 use Rattle.model.proofs.Layers.Cut.{split-cuts, new-in, split-cut}
-use Rattle.model.proofs.Calls.Pass.{not-in, Front, front-passed, check-numbers, orbit-numbers, sheet-numbers}
-use Rattle.model.proofs.Calls.Pass.{add-passed, unsew-passed, sew-passed, layer-passed, split-passed}
-use Rattle.model.proofs.Calls.Ends.{guard, weaken, op-outcome}
-use Rattle.model.proofs.Calls.Kept.{unsew-side, sides-sewable, add-call, sew-call, unsew-call, remove-call, split-call}
+use Rattle.model.proofs.Calls.Pass.{add-passed, unsew-passed, sew-passed, layer-passed, split-passed, unsew-side, sides-sewable}
+use Rattle.model.proofs.Calls.Kept.{add-call, sew-call, unsew-call, remove-call, split-call}
 
--- ---- numbers
+-- ---- the table keeps its length
 
--- the number of a refusal, but 4 and 5
-pub record Mild (k : ℕ) : Type 0 where
-  pub no-0 : k ≢ 0
-  pub no-4 : k ≢ 4
-  pub no-5 : k ≢ 5
-
-mild : (zs : List ℕ) → member zs 0 ≡ false → member zs 4 ≡ false → member zs 5 ≡ false → (k : ℕ) → In k zs → Mild k
-mild zs a b c k i = record { no-0 = not-in zs 0 a k i; no-4 = not-in zs 4 b k i; no-5 = not-in zs 5 c k i }
-
-mild-op : (p : Op) (k : ℕ) → In k (numbers 1 1 1 1 p) → Mild k
-unfolding member indexOf
-mild-op Op.add = mild (numbers 1 1 1 1 Op.add) refl refl refl
-mild-op (Op.sew i d e) = mild (numbers 1 1 1 1 (Op.sew i d e)) refl refl refl
-mild-op (Op.unsew i d) = mild (numbers 1 1 1 1 (Op.unsew i d)) refl refl refl
-mild-op (Op.remove d) = mild (numbers 1 1 1 1 (Op.remove d)) refl refl refl
-mild-op (Op.split d) = mild (numbers 1 1 1 1 (Op.split d)) refl refl refl
-
--- in rule, an operation refuses by another number than 0, 4 and 5, and leaves table and journal; or it gives 0 and its effect, and writes the record
-pub op-ends : (n : ℕ) (o : Outcome) (p : Op) → dimOk n ≡ pass → tableOk (o .table) ≡ pass → journalOk (o .journal) ≡ pass → mapOk n (o .table) ≡ pass
-    → Ends Mild (Passed n (o .table) (o .marks) (o .journal) p) (o .table) (o .journal) (effect n (o .table) p) (doCall n o (callOf p))
-op-ends n o p a b c d = weaken (mild-op p) (op-outcome n o (front-passed n (o .table) (o .journal) a b c d) p)
-
--- ---- the calls that change nothing
-
-pub record Still (t : List ℕ) (o : Outcome) : Type 0 where
-  pub same : o .table ≡ t
-  pub no-4 : o .number ≢ 4
-  pub no-5 : o .number ≢ 5
-
-module _ (n : ℕ) (t j : List ℕ) (F : Front 1 1 1 1 n t j) where
-  idle : (k p : ℕ) (m : List ℕ) → Mild k → Still t (refused k p t m [])
-  unfolding refused
-  idle k p m h = record { same = refl; no-4 = h .no-4; no-5 = h .no-5 }
-
-  pub check-still : Still t (checkCall n t)
-  unfolding checkCall member indexOf
-  check-still = guard (Still t) (check-numbers n t j F) _ _ (λ e. record { same = refl; no-4 = λ z. omega arith; no-5 = λ z. omega arith }) (λ k p i. idle k p [] (mild (1 ∷ 1 ∷ 1 ∷ []) refl refl refl k i))
-
-  pub orbit-still : (m : List ℕ) (i d : ℕ) → Still t (orbitCall n t m i d)
-  unfolding orbitCall member indexOf
-  orbit-still m i d = guard (Still t) (orbit-numbers n t j F m i d) _ _ (λ e. record { same = refl; no-4 = λ z. omega arith; no-5 = λ z. omega arith })
-      (λ k p l. idle k p m (mild (1 ∷ 1 ∷ 3 ∷ 1 ∷ 6 ∷ 7 ∷ []) refl refl refl k l))
-
-  pub sheet-still : (m : List ℕ) (d : ℕ) → Still t (sheetCall n t m d)
-  unfolding sheetCall member indexOf
-  sheet-still m d = guard (Still t) (sheet-numbers n t j F m d) _ _ (λ e. record { same = refl; no-4 = λ z. omega arith; no-5 = λ z. omega arith })
-      (λ k p l. idle k p m (mild (1 ∷ 1 ∷ 3 ∷ 1 ∷ 7 ∷ 8 ∷ []) refl refl refl k l))
+pub effect-length : (n : ℕ) (t : List ℕ) (p : Op) → length (effect n t p) ≡ length t
+unfolding effect addTable unsewTable removeTable splitTable sewTable added unsewn relink removed halved retable
+effect-length n t Op.add = length-tab _ (length t)
+effect-length n t (Op.sew i d e) = go (partners n t i d e) (partners n t i e d)
+  where
+    go : (x y : Option (List ℕ))
+        → length {A = ℕ} (elim x [ none ↦ t | some p ↦ (elim y [ none ↦ t | some q ↦ sewn t i p q ]) ]) ≡ length t
+    go none y = refl
+    go (some p) none = refl
+    go (some p) (some q) = unfold sewn in length-tab _ (length t)
+effect-length n t (Op.unsew i d) = length-tab _ (length t)
+effect-length n t (Op.remove d) = length-tab _ (length t)
+effect-length n t (Op.split d) = length-tab _ (length t)
 
 -- ---- an accepted operation changes the table
 

@@ -1,4 +1,4 @@
--- What demand 3 asks of a run.
+-- What demand 3 asks of a run of calls.
 use Prim.Native.Nat.{ℕ, _%_, _≤_}
 use mathlib.Core.Path.{_≡_}
 use mathlib.Core.Logic.{_≢_, _↔_}
@@ -10,15 +10,8 @@ use Rattle.model.specs.Journal.{cursor, end}
 use Rattle.model.specs.Runs.{Call, State, Step, answer, replay}
 use Rattle.model.specs.Meaning.Maps.{Dim}
 
--- an undo, a redo, with these marks lent
-abbrev pub undoing : List ℕ → Step
-undoing m = record { call = Call.undo; marks = m }
-
-abbrev pub redoing : List ℕ → Step
-redoing m = record { call = Call.redo; marks = m }
-
--- a table that is a map, and a fresh journal, of lengths that are allowed
-pub record Fresh (n : ℕ) (t j : List ℕ) : Type 0 where
+-- where a run begins: a table that is a map, and a fresh journal, of lengths that are allowed
+pub record FreshStart (n : ℕ) (t j : List ℕ) : Type 0 where
   pub dim : Dim n
   pub whole : length t % 4 ≡ 0
   pub few : length t ≤ 262144
@@ -28,25 +21,32 @@ pub record Fresh (n : ℕ) (t j : List ℕ) : Type 0 where
   pub at-cursor : cursor j ≡ 2
   pub at-end : end j ≡ 2
 
--- the number given to a call
-unfoldable pub number : ℕ → State → Call → List ℕ → ℕ
-number n s c m = answer n s (record { call = c; marks = m }) .number
+-- a call, with these marks lent
+abbrev pub calling : Call → List ℕ → Step
+calling c m = record { call = c; marks = m }
 
--- of a state after a run that began with the table t; m are the marks lent to the next call
+-- the number that the next call gives, with these marks lent
+unfoldable pub numberOf : ℕ → State → Call → List ℕ → ℕ
+numberOf n s c m = answer n s (calling c m) .number
+
+-- of the state s after a run that began with the table t; m are the marks lent to the next call
 pub record Stands (n : ℕ) (t : List ℕ) (s : State) : Type 0 where
+  -- the table is what the operations that stand make of the first one, and it is a map
   pub table : s .outcome .table ≡ replay n t (s .history .standing)
   pub map : isMap n (s .outcome .table) ≡ true
-  pub undo-16 : (m : List ℕ) → (number n s Call.undo m ≡ 16) ↔ (s .history .standing ≡ [])
-  pub redo-16 : (m : List ℕ) → (number n s Call.redo m ≡ 16) ↔ (s .history .undone ≡ [])
-  pub undo-0 : (m : List ℕ) → s .history .standing ≢ [] → number n s Call.undo m ≡ 0
-  pub redo-0 : (m : List ℕ) → s .history .undone ≢ [] → number n s Call.redo m ≡ 0
-  pub undo-17 : (m : List ℕ) → number n s Call.undo m ≢ 17
-  pub redo-17 : (m : List ℕ) → number n s Call.redo m ≢ 17
-  pub never-4 : (c : Call) (m : List ℕ) → number n s c m ≢ 4
-  pub never-5 : (c : Call) (m : List ℕ) → number n s c m ≢ 5
+  -- undo gives 16 exactly if none stands, redo exactly if none was undone; else they are accepted
+  pub undo-16 : (m : List ℕ) → (numberOf n s Call.undo m ≡ 16) ↔ (s .history .standing ≡ [])
+  pub redo-16 : (m : List ℕ) → (numberOf n s Call.redo m ≡ 16) ↔ (s .history .undone ≡ [])
+  pub undo-0 : (m : List ℕ) → s .history .standing ≢ [] → numberOf n s Call.undo m ≡ 0
+  pub redo-0 : (m : List ℕ) → s .history .undone ≢ [] → numberOf n s Call.redo m ≡ 0
+  pub undo-17 : (m : List ℕ) → numberOf n s Call.undo m ≢ 17
+  pub redo-17 : (m : List ℕ) → numberOf n s Call.redo m ≢ 17
+  -- no call finds a journal out of rule, or a table that is no map
+  pub never-4 : (c : Call) (m : List ℕ) → numberOf n s c m ≢ 4
+  pub never-5 : (c : Call) (m : List ℕ) → numberOf n s c m ≢ 5
 
 -- two states with the same table, journal and history
-pub record Same (s r : State) : Type 0 where
+pub record Alike (s r : State) : Type 0 where
   pub table : s .outcome .table ≡ r .outcome .table
   pub journal : s .outcome .journal ≡ r .outcome .journal
   pub history : s .history ≡ r .history

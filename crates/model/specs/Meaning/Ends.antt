@@ -1,24 +1,87 @@
--- How an operation ends: the numbers that it can give, its passed checks, and its two ends.
-use Prim.Native.Nat.{ℕ, _-_, _≤_}
+-- How a call ends (`Ends`): its checks in order, with their numbers; what a refusal leaves (`refusedBy`); what an accepted
+-- call gives (`done`). And what theorems say of that: `Untouched`, `Recorded`, `CursorMoved`, `CountsChanges`.
+use Prim.Native.Nat.{ℕ, _+_, _*_, _-_, _≤_, _<_}
 use mathlib.Core.Path.{_≡_}
-use mathlib.Core.List.{List, [], _∷_}
-use lib.ListN.{length}
-use Rattle.model.specs.Lists.{ones}
-use Rattle.model.specs.Sheet.{sheet}
-use Rattle.model.specs.Journal.{changesFrom, recordOf, written, cursor}
-use Rattle.model.specs.Checks.{pass, inOrder, addChecks, sewChecks, unsewChecks, layerChecks, splitChecks}
-use Rattle.model.specs.Calls.{Outcome}
-use Rattle.model.specs.Runs.{Op}
+use mathlib.Core.Logic.{_≢_}
+use mathlib.Core.Bool.{Bool, true, false, _&&_}
+use mathlib.Core.List.{List, [], _∷_, _++_}
+use lib.ListN.{length, getD, set}
+use lib.Dec.{leb, eqb}
+use Rattle.model.specs.Lists.{count, ones, member}
+use Rattle.model.specs.Table.{slots}
+use Rattle.model.specs.Map.{isMap, leastBreaking}
+use Rattle.model.specs.Cell.{cellSize, isBlock, leastWrong}
+use Rattle.model.specs.Orbit.{orbit, orbitPlace}
+use Rattle.model.specs.Sheet.{sheet, sheetMarks}
+use Rattle.model.specs.Add.{addSlots, addTable}
+use Rattle.model.specs.Sew.{sewTable, unsewTable}
+use Rattle.model.specs.Remove.{removeTable}
+use Rattle.model.specs.Split.{splitSlots, splitTable}
+use Rattle.model.specs.Journal.{cursor, end, changesFrom, recordOf, written, changesAt, put, unbroken}
+use Rattle.model.specs.Checks.{Check, pass, refuse, must, inOrder, pairingOk, undoOk, redoOk}
+use Rattle.model.specs.Checks.{checkChecks, orbitChecks, sheetChecks}
+use Rattle.model.specs.Checks.{addChecks, sidesChecks, sewChecks, unsewChecks, layerChecks, splitChecks, stepChecks}
+use Rattle.model.specs.Calls.{Outcome, refused}
+use Rattle.model.specs.Runs.{Call, doCall, Op, effect}
 
--- the numbers by which an operation refuses; x, y, z, w stand for 1, 2, 4, 5
-abbrev pub numbers : ℕ → ℕ → ℕ → ℕ → Op → List ℕ
-numbers x y z w Op.add = 15 ∷ x ∷ y ∷ z ∷ w ∷ 14 ∷ []
-numbers x y z w (Op.sew i d e) = 15 ∷ x ∷ y ∷ z ∷ w ∷ 6 ∷ 7 ∷ 7 ∷ 9 ∷ 10 ∷ 12 ∷ []
-numbers x y z w (Op.unsew i d) = 15 ∷ x ∷ y ∷ z ∷ w ∷ 6 ∷ 7 ∷ 11 ∷ []
-numbers x y z w (Op.remove d) = 15 ∷ x ∷ y ∷ 3 ∷ z ∷ w ∷ 7 ∷ 8 ∷ []
-numbers x y z w (Op.split d) = 15 ∷ 13 ∷ 14 ∷ x ∷ y ∷ 3 ∷ z ∷ w ∷ 7 ∷ 8 ∷ []
+-- a table, marks and a journal that are lent to a call
+abbrev pub lent : List ℕ → List ℕ → List ℕ → Outcome
+lent t m j = record { number = 0; place = 0; count = 0; table = t; marks = m; journal = j }
 
--- the table t, the marks m and the journal j pass the checks of an operation
+-- ---- the checks of a call, with 15 and 17
+
+-- 15: "record longer than the words from cursor to length", where u is the new table
+unfoldable pub recordOk : List ℕ → List ℕ → List ℕ → Check
+recordOk t u j = must (leb (length (recordOf (changesFrom 0 t u))) (length j - cursor j)) 15
+
+-- 17: "record broken, or result no map", of the record of k changes at the word a
+unfoldable pub stepOk : Bool → ℕ → List ℕ → List ℕ → ℕ → ℕ → Check
+stepOk redo n t j a k = must (unbroken redo t j a k && isMap n (put redo (changesAt j a k) t)) 17
+
+-- the record before the cursor: its number of changes, and the word where it begins
+abbrev pub undoCount : List ℕ → ℕ
+undoCount j = getD j (cursor j - 1) 0
+
+abbrev pub undoStart : List ℕ → ℕ
+undoStart j = cursor j - (3 * undoCount j + 2)
+
+-- the record at the cursor: its number of changes
+abbrev pub redoCount : List ℕ → ℕ
+redoCount j = getD j (cursor j) 0
+
+-- of a call on the table t, the marks m and the journal j
+unfoldable pub checksOf : ℕ → List ℕ → List ℕ → List ℕ → Call → List Check
+checksOf n t m j Call.check = checkChecks n t
+checksOf n t m j (Call.orbit mask d) = orbitChecks n t m mask d
+checksOf n t m j (Call.sheet d) = sheetChecks n t m d
+checksOf n t m j Call.add = addChecks n t j ++ (recordOk t (addTable n t) j ∷ [])
+checksOf n t m j (Call.sew i d e) =
+    sidesChecks n t j i d e ++ (pairingOk n t i d e ∷ recordOk t (sewTable n t i d e) j ∷ [])
+checksOf n t m j (Call.unsew i d) = unsewChecks n t j i d ++ (recordOk t (unsewTable n t i d) j ∷ [])
+checksOf n t m j (Call.remove d) = layerChecks n t m j d ++ (recordOk t (removeTable n t d) j ∷ [])
+checksOf n t m j (Call.split d) =
+    let s = sheet n t d in
+    layerChecks n t m j d ++ (splitChecks n t s (ones s) ++ (recordOk t (splitTable n t d) j ∷ []))
+checksOf n t m j Call.undo = stepChecks n t j (undoOk j) ++ (stepOk false n t j (undoStart j) (undoCount j) ∷ [])
+checksOf n t m j Call.redo = stepChecks n t j (redoOk j) ++ (stepOk true n t j (cursor j) (redoCount j) ∷ [])
+
+abbrev pub checks : ℕ → Outcome → Call → List Check
+checks n o c = checksOf n (o .table) (o .marks) (o .journal) c
+
+-- their numbers: the column "Calls" of 01's table. sew has 7 twice, for d and for e
+abbrev pub numbers : Call → List ℕ
+numbers Call.check = 1 ∷ 2 ∷ 5 ∷ []
+numbers (Call.orbit mask d) = 1 ∷ 2 ∷ 3 ∷ 5 ∷ 6 ∷ 7 ∷ []
+numbers (Call.sheet d) = 1 ∷ 2 ∷ 3 ∷ 5 ∷ 7 ∷ 8 ∷ []
+numbers Call.add = 1 ∷ 2 ∷ 4 ∷ 5 ∷ 14 ∷ 15 ∷ []
+numbers (Call.sew i d e) = 1 ∷ 2 ∷ 4 ∷ 5 ∷ 6 ∷ 7 ∷ 7 ∷ 9 ∷ 10 ∷ 12 ∷ 15 ∷ []
+numbers (Call.unsew i d) = 1 ∷ 2 ∷ 4 ∷ 5 ∷ 6 ∷ 7 ∷ 11 ∷ 15 ∷ []
+numbers (Call.remove d) = 1 ∷ 2 ∷ 3 ∷ 4 ∷ 5 ∷ 7 ∷ 8 ∷ 15 ∷ []
+numbers (Call.split d) = 1 ∷ 2 ∷ 3 ∷ 4 ∷ 5 ∷ 7 ∷ 8 ∷ 13 ∷ 14 ∷ 15 ∷ []
+numbers Call.undo = 1 ∷ 2 ∷ 4 ∷ 5 ∷ 16 ∷ 17 ∷ []
+numbers Call.redo = 1 ∷ 2 ∷ 4 ∷ 5 ∷ 16 ∷ 17 ∷ []
+
+-- an operation passes its checks, but for 15
 abbrev pub Passed : ℕ → List ℕ → List ℕ → List ℕ → Op → Type 0
 Passed n t m j Op.add = inOrder (addChecks n t j) ≡ pass
 Passed n t m j (Op.sew i d e) = inOrder (sewChecks n t j i d e) ≡ pass
@@ -27,8 +90,129 @@ Passed n t m j (Op.remove d) = inOrder (layerChecks n t m j d) ≡ pass
 Passed n t m j (Op.split d) =
     (inOrder (layerChecks n t m j d) ≡ pass) × (inOrder (splitChecks n t (sheet n t d) (ones (sheet n t d))) ≡ pass)
 
--- a refusal by a number of which Q holds; or the table u and the record of its changes, and A holds
-pub data Ends (Q : ℕ → Type 0) (A : Type 0) (t j u : List ℕ) (o : Outcome) : Type 0 where
-  refuses : Q (o .number) → o .table ≡ t → o .journal ≡ j → Ends Q A t j u o
-  commits : A → o .number ≡ 0 → o .table ≡ u → o .journal ≡ written j (recordOf (changesFrom 0 t u))
-      → length (recordOf (changesFrom 0 t u)) ≤ length j - cursor j → Ends Q A t j u o
+-- ---- a refusal by the number k
+
+-- "place is 0 but for 5 and 8"
+unfoldable pub refusalPlace : ℕ → List ℕ → ℕ → ℕ
+refusalPlace n t k =
+    elim (eqb k 5) [ true ↦ leastBreaking n t | false ↦ (elim (eqb k 8) [ true ↦ leastWrong n t | false ↦ 0 ]) ]
+
+-- "marks too, but remove and split refused by 13, 14 or 15 leave the sheet's marks"
+unfoldable pub layerMarks : ℕ → Outcome → ℕ → ℕ → List ℕ
+layerMarks n o d k =
+    elim (member (13 ∷ 14 ∷ 15 ∷ []) k) [ true ↦ sheetMarks n (o .table) (sheet n (o .table) d) | false ↦ o .marks ]
+
+unfoldable pub refusalMarks : ℕ → Outcome → Call → ℕ → List ℕ
+refusalMarks n o Call.check k = o .marks
+refusalMarks n o (Call.orbit mask d) k = o .marks
+refusalMarks n o (Call.sheet d) k = o .marks
+refusalMarks n o Call.add k = o .marks
+refusalMarks n o (Call.sew i d e) k = o .marks
+refusalMarks n o (Call.unsew i d) k = o .marks
+refusalMarks n o (Call.remove d) k = layerMarks n o d k
+refusalMarks n o (Call.split d) k = layerMarks n o d k
+refusalMarks n o Call.undo k = o .marks
+refusalMarks n o Call.redo k = o .marks
+
+-- "Refusals leave table and journal alike"
+abbrev pub refusedBy : ℕ → Outcome → Call → ℕ → ℕ → Outcome
+refusedBy n o c k p = refused k p (o .table) (refusalMarks n o c k) (o .journal)
+
+-- of the outcome r of a call on o that is refused
+pub record Untouched (n : ℕ) (o : Outcome) (c : Call) (r : Outcome) : Type 0 where
+  pub count : r .count ≡ 0
+  pub place : r .place ≡ refusalPlace n (o .table) (r .number)
+  pub table : r .table ≡ o .table
+  pub marks : r .marks ≡ refusalMarks n o c (r .number)
+  pub journal : r .journal ≡ o .journal
+
+-- ---- an accepted call
+
+-- the calls that change nothing but marks
+pub data Reading : Call → Type 0 where
+  reads-check : Reading Call.check
+  reads-orbit : {mask d : ℕ} → Reading (Call.orbit mask d)
+  reads-sheet : {d : ℕ} → Reading (Call.sheet d)
+
+-- one of these: the table and the journal stay; the place, the count and the marks
+abbrev pub marking : List ℕ → List ℕ → ℕ → ℕ → List ℕ → Outcome
+marking t j p k m = record { number = 0; place = p; count = k; table = t; marks = m; journal = j }
+
+-- an operation: the new table u, the place, the count and the marks
+abbrev pub changing : List ℕ → List ℕ → List ℕ → ℕ → ℕ → List ℕ → Outcome
+changing t j u p k m = record {
+  number = 0;
+  place = p;
+  count = k;
+  table = u;
+  marks = m;
+  journal = written j (recordOf (changesFrom 0 t u));
+}
+
+-- undo or redo of the record of k changes at the word a; the cursor goes to c
+abbrev pub stepping : Bool → List ℕ → List ℕ → List ℕ → ℕ → ℕ → ℕ → Outcome
+stepping redo t m j a k c = record {
+  number = 0;
+  place = 0;
+  count = k;
+  table = put redo (changesAt j a k) t;
+  marks = m;
+  journal = set j 0 c;
+}
+
+unfoldable pub doneOf : ℕ → List ℕ → List ℕ → List ℕ → Call → Outcome
+doneOf n t m j Call.check = marking t j 0 (elim (isBlock n t) [ true ↦ 2 | false ↦ 1 ]) m
+doneOf n t m j (Call.orbit mask d) = let s = orbit n t mask d in marking t j (orbitPlace n mask) (count 1 s) s
+doneOf n t m j (Call.sheet d) = let s = sheet n t d in marking t j 0 (count 1 s) (sheetMarks n t s)
+doneOf n t m j Call.add = changing t j (addTable n t) (getD (addSlots n t) 0 0) (cellSize n) m
+doneOf n t m j (Call.sew i d e) = let u = sewTable n t i d e in changing t j u 0 (length (changesFrom 0 t u)) m
+doneOf n t m j (Call.unsew i d) = let u = unsewTable n t i d in changing t j u 0 (length (changesFrom 0 t u)) m
+doneOf n t m j (Call.remove d) =
+    let marks = sheetMarks n t (sheet n t d) in
+    changing t j (removeTable n t d) 0 (slots t - count 0 marks) marks
+doneOf n t m j (Call.split d) =
+    let s = sheet n t d in
+    changing t j (splitTable n t d) (getD (splitSlots n t (ones s)) 0 0) (n * length (ones s)) (sheetMarks n t s)
+doneOf n t m j Call.undo = stepping false t m j (undoStart j) (undoCount j) (undoStart j)
+doneOf n t m j Call.redo = stepping true t m j (cursor j) (redoCount j) (cursor j + (3 * redoCount j + 2))
+
+abbrev pub done : ℕ → Outcome → Call → Outcome
+done n o c = doneOf n (o .table) (o .marks) (o .journal) c
+
+-- ---- how a call ends
+
+-- behind the checks cs an outcome is y, where they pass, and f of the number and place where one refuses
+pub record Behind (cs : List Check) (y : Outcome) (f : ℕ → ℕ → Outcome) (r : Outcome) : Type 0 where
+  pub passes : inOrder cs ≡ pass → r ≡ y
+  pub refuses : (k p : ℕ) → inOrder cs ≡ refuse k p → r ≡ f k p
+
+abbrev pub Ends : ℕ → Outcome → Call → Type 0
+Ends n o c = Behind (checks n o c) (done n o c) (refusedBy n o c) (doCall n o c)
+
+-- of the outcome r of an accepted operation p on o: it has passed its checks, and leaves its effect and the record of
+-- the changes, for which there was room
+pub record OpAccepted (n : ℕ) (o : Outcome) (p : Op) (r : Outcome) : Type 0 where
+  pub passed : Passed n (o .table) (o .marks) (o .journal) p
+  pub table : r .table ≡ effect n (o .table) p
+  pub journal : r .journal ≡ written (o .journal) (recordOf (changesFrom 0 (o .table) (effect n (o .table) p)))
+  pub room : length (recordOf (changesFrom 0 (o .table) (effect n (o .table) p))) ≤ length (o .journal) - cursor (o .journal)
+
+-- "writes its record .. at the cursor; cursor and end go behind it .. Other journal words stay": of the journal j and the
+-- journal k after it, where r is the record
+pub record Recorded (r j k : List ℕ) : Type 0 where
+  pub long : length k ≡ length j
+  pub at-cursor : cursor k ≡ cursor j + length r
+  pub at-end : end k ≡ cursor j + length r
+  pub words : (x : ℕ) → x < length r → getD k (cursor j + x) 0 ≡ getD r x 0
+  pub before : (x : ℕ) → 2 ≤ x → x < cursor j → getD k x 0 ≡ getD j x 0
+  pub behind : (x : ℕ) → cursor j + length r ≤ x → getD k x 0 ≡ getD j x 0
+
+-- "Undo and redo change only the cursor word": of the journal j and the journal k after them
+pub record CursorMoved (j k : List ℕ) : Type 0 where
+  pub long : length k ≡ length j
+  pub words : (x : ℕ) → x ≢ 0 → getD k x 0 ≡ getD j x 0
+
+-- "Count: entries changed": of the table t and the table u after it; there is one at least
+pub record CountsChanges (t u : List ℕ) (k : ℕ) : Type 0 where
+  pub size : k ≡ length (changesFrom 0 t u)
+  pub some : 0 < k

@@ -1,0 +1,183 @@
+-- When each check fails, in the words of 01's table: `dim-fails` (1) to `step-fails` (17).
+use Prim.Native.Nat.{ℕ, _+_, _*_, _-_, _%_, _^_, _≤_, _<_}
+use mathlib.Core.Path.{_≡_, refl}
+use mathlib.Core.Logic.{_⊎_, inl, inr, _≢_, _↔_, ⊎-elim, Iff·rfl, Iff·trans, Iff·and}
+use mathlib.Core.Bool.{Bool, true, false, not, _&&_, _||_}
+use mathlib.Core.List.{List}
+use native.Mathlib.Omega.{arith}
+use lib.ListN.{length, take, length-take}
+use lib.Dec.{leb, ltb, eqb}
+use borrow.Author.Tests.{eqb-true, eqb-false, eq-eqb, ne-eqb, leb-false, le-leb, lt-leb, ltb-false, le-ltb}
+use Rattle.model.specs.Lists.{ones}
+use Rattle.model.specs.Table.{slots, link, live, unusedSlots}
+use Rattle.model.specs.Map.{isMap}
+use Rattle.model.specs.Reach.{inSet}
+use Rattle.model.specs.Cell.{cellSize, isBlock}
+use Rattle.model.specs.Add.{addSlots}
+use Rattle.model.specs.Sew.{side}
+use Rattle.model.specs.Split.{splitSlots}
+use Rattle.model.specs.Journal.{cursor, end, changesFrom, recordOf, changesAt, put, unbroken}
+use Rattle.model.specs.Checks.{pass, must, mustAt, dimOk, tableOk, marksOk, journalOk, mapOk, indexOk, maskOk}
+use Rattle.model.specs.Checks.{dartOk, blockOk, apartOk, freeOk, sewnOk, pairingOk, crossingOk, addRoomOk, splitRoomOk}
+use Rattle.model.specs.Checks.{undoOk, redoOk}
+use Rattle.model.specs.Meaning.Ends.{recordOk, stepOk}
+use Rattle.model.specs.Meaning.Maps.{Dim, Map, MapTable, BlockTable}
+use Rattle.model.specs.Meaning.Numbers.{JournalRule, StepFails}
+use Rattle.model.specs.Meaning.Pairings.{Pairing}
+use Rattle.model.specs.Meaning.Sets.{Marked}
+use Rattle.model.specs.Meaning.Sheets.{Crossing}
+use Rattle.model.proofs.Lists.Scan.{clash, test}
+use Rattle.model.proofs.Maps.Rules.{map-of, of-map}
+use Rattle.model.proofs.Cells.Chart.{block-of, of-block}
+use Rattle.model.proofs.Sewing.Pairing.{paired-exactly}
+use Rattle.model.proofs.Layers.Sheet.{crosses-some}
+use Rattle.model.proofs.Calls.Checks.{not-pass}
+use Rattle.model.proofs.Calls.Pass.{journal-pass, SidesPassed, left-side, right-side}
+
+-- ---- tests that fail
+
+not-fails : (b : Bool) → (not b ≡ false) ↔ (b ≡ true)
+not-fails true = (λ h. refl, λ h. refl)
+not-fails false = (λ h. absurd (clash refl h), λ h. absurd (clash h refl))
+
+and-fails : (a b : Bool) → ((a && b) ≡ false) ↔ ((a ≡ false) ⊎ (b ≡ false))
+and-fails true b = (inr, ⊎-elim (λ q. absurd (clash refl q)) (λ q. q))
+and-fails false b = (inl, λ h. refl)
+
+or-fails : (a b : Bool) → ((a || b) ≡ false) ↔ ((a ≡ false) × (b ≡ false))
+or-fails true b = (λ h. absurd (clash refl h), λ r. r .0)
+or-fails false b = (λ h. (refl, h), λ r. r .1)
+
+leb-fails : (a b : ℕ) → (leb a b ≡ false) ↔ (b < a)
+leb-fails a b = (leb-false a b, lt-leb a b)
+
+ltb-fails : (a b : ℕ) → (ltb a b ≡ false) ↔ (b ≤ a)
+ltb-fails a b = (ltb-false a b, le-ltb a b)
+
+eqb-fails : (a b : ℕ) → (eqb a b ≡ false) ↔ (a ≢ b)
+eqb-fails a b = (eqb-false a b, ne-eqb a b)
+
+eqb-holds : (a b : ℕ) → (eqb a b ≡ true) ↔ (a ≡ b)
+eqb-holds a b = (eqb-true a b, eq-eqb a b)
+
+-- a test fails exactly if what it tests does not hold
+test-fails : {P : Type 0} (b : Bool) → (b ≡ true) ↔ P → (b ≡ false) ↔ (P → ⊥)
+test-fails b f = (λ h p. clash (f .1 p) h, λ h. test b (λ e. absurd (h (f .0 e))) (λ e. e))
+
+must-fails : {P : Type 0} (b : Bool) (k : ℕ) → (b ≡ false) ↔ P → (must b k ≢ pass) ↔ P
+unfolding must
+must-fails true k f = (λ h. absurd (h refl), λ p. absurd (clash refl (f .1 p)))
+must-fails false k f = (λ h. f .0 refl, λ p e. not-pass e)
+
+mustAt-fails : {P : Type 0} (b : Bool) (k p : ℕ) → (b ≡ false) ↔ P → (mustAt b k p ≢ pass) ↔ P
+unfolding mustAt
+mustAt-fails true k p f = (λ h. absurd (h refl), λ x. absurd (clash refl (f .1 x)))
+mustAt-fails false k p f = (λ h. f .0 refl, λ x e. not-pass e)
+
+one-of : {A B C D : Type 0} → A ↔ C → B ↔ D → (A ⊎ B) ↔ (C ⊎ D)
+one-of f g = (⊎-elim (λ a. inl (f .0 a)) (λ b. inr (g .0 b)), ⊎-elim (λ c. inl (f .1 c)) (λ d. inr (g .1 d)))
+
+-- ---- the checks by number
+
+pub dim-fails : (n : ℕ) → (dimOk n ≢ pass) ↔ ((n ≢ 2) × (n ≢ 3))
+unfolding dimOk
+dim-fails n = must-fails _ 1 (Iff·trans (or-fails (eqb n 2) (eqb n 3)) (Iff·and (eqb-fails n 2) (eqb-fails n 3)))
+
+pub table-fails : (t : List ℕ) → (tableOk t ≢ pass) ↔ ((length t % 4 ≢ 0) ⊎ (262144 < length t))
+unfolding tableOk
+table-fails t =
+    let whole = eqb-fails (length t % 4) 0 in
+    let few = leb-fails (length t) 262144 in
+    must-fails _ 2 (Iff·trans (and-fails (eqb (length t % 4) 0) _) (one-of whole few))
+
+pub marks-fails : (t m : List ℕ) → (marksOk t m ≢ pass) ↔ (length m ≢ slots t)
+unfolding marksOk
+marks-fails t m = must-fails _ 3 (eqb-fails (length m) (slots t))
+
+pub journal-holds : (j : List ℕ) → JournalRule j → journalOk j ≡ pass
+unfolding journalOk must
+journal-holds j rule =
+    let long = le-leb _ _ (rule .long) in
+    let few = le-leb _ _ (rule .few) in
+    rw (long, few, le-leb _ _ (rule .low), le-leb _ _ (rule .ends), le-leb _ _ (rule .within))
+
+pub journal-fails : (j : List ℕ) → (journalOk j ≢ pass) ↔ (JournalRule j → ⊥)
+journal-fails j = (λ h rule. h (journal-holds j rule), λ h e. h (journal-pass j e))
+
+pub map-fails : (n : ℕ) (t : List ℕ) → Dim n → (mapOk n t ≢ pass) ↔ (Map n t → ⊥)
+unfolding mapOk isMap
+map-fails n t dim = mustAt-fails _ 5 _ (test-fails (isMap n t) (map-of n t (dim .1), of-map n t))
+
+pub index-fails : (n i : ℕ) → (indexOk n i ≢ pass) ↔ (n < i)
+unfolding indexOk
+index-fails n i = must-fails _ 6 (leb-fails i n)
+
+pub mask-fails : (n mask : ℕ) → (maskOk n mask ≢ pass) ↔ (2 ^ (n + 1) ≤ mask)
+unfolding maskOk
+mask-fails n mask = must-fails _ 6 (ltb-fails mask (2 ^ (n + 1)))
+
+pub dart-fails : (t : List ℕ) (d : ℕ) → (dartOk t d ≢ pass) ↔ (live t d ≡ false)
+unfolding dartOk
+dart-fails t d = must-fails _ 7 Iff·rfl
+
+pub block-fails : (n : ℕ) (t : List ℕ) → MapTable n t → (blockOk n t ≢ pass) ↔ (BlockTable n t → ⊥)
+unfolding blockOk isBlock
+block-fails n t T = mustAt-fails _ 8 _ (test-fails (isBlock n t) (block-of n t T, of-block n t))
+
+pub apart-fails : (n : ℕ) (t : List ℕ) (i d e : ℕ) → (apartOk n t i d e ≢ pass) ↔ Marked (side n t i d) e
+unfolding apartOk inSet
+apart-fails n t i d e = must-fails _ 9 (Iff·trans (not-fails _) (eqb-holds _ 1))
+
+pub free-fails : (t : List ℕ) (i d e : ℕ) → (freeOk t i d e ≢ pass) ↔ ((link t i d ≢ d) ⊎ (link t i e ≢ e))
+unfolding freeOk
+free-fails t i d e = must-fails _ 10 (Iff·trans (and-fails (eqb (link t i d) d) _) (one-of (eqb-fails _ _) (eqb-fails _ _)))
+
+pub sewn-fails : (t : List ℕ) (i d : ℕ) → (sewnOk t i d ≢ pass) ↔ (link t i d ≡ d)
+unfolding sewnOk
+sewn-fails t i d = must-fails _ 11 (Iff·trans (not-fails _) (eqb-holds _ _))
+
+-- ---- 12: sew finds a pairing exactly if there is one
+
+pub pairing-fails : (n : ℕ) (t : List ℕ) (i d e : ℕ) → SidesPassed n t i d e → (pairingOk n t i d e ≢ pass) ↔ (Pairing n t i d e → ⊥)
+unfolding pairingOk
+pairing-fails n t i d e passed = must-fails _ 12 (test-fails _ (paired-exactly (left-side passed) (right-side passed)))
+
+-- ---- 13
+
+-- some g in s has g.1 in s
+pub crossing-fails : (t s : List ℕ) → (crossingOk t s (ones s) ≢ pass) ↔ Crossing t s
+unfolding crossingOk
+crossing-fails t s = must-fails _ 13 (Iff·trans (not-fails _) (crosses-some t s))
+
+-- ---- 14 to 17
+
+-- the first k of a list are not k
+take-short : {A : Type 0} (k : ℕ) (l : List A) → (length (take k l) ≢ k) ↔ (length l < k)
+take-short k l = let h = length-take k l in (λ x. omega arith, λ x y. omega arith)
+
+pub add-room-fails : (n : ℕ) (t : List ℕ) → (addRoomOk n t ≢ pass) ↔ (length (unusedSlots t) < cellSize n)
+unfolding addRoomOk addSlots
+add-room-fails n t = must-fails _ 14 (Iff·trans (eqb-fails _ _) (take-short (cellSize n) (unusedSlots t)))
+
+pub split-room-fails : (n : ℕ) (t gs : List ℕ) → (splitRoomOk n t gs ≢ pass) ↔ (length (unusedSlots t) < n * length gs)
+unfolding splitRoomOk splitSlots
+split-room-fails n t gs = must-fails _ 14 (Iff·trans (eqb-fails _ _) (take-short (n * length gs) (unusedSlots t)))
+
+pub record-fails : (t u j : List ℕ) → (recordOk t u j ≢ pass) ↔ (length j - cursor j < length (recordOf (changesFrom 0 t u)))
+unfolding recordOk
+record-fails t u j = must-fails _ 15 (leb-fails _ _)
+
+pub undo-fails : (j : List ℕ) → (undoOk j ≢ pass) ↔ (cursor j ≡ 2)
+unfolding undoOk
+undo-fails j = must-fails _ 16 (Iff·trans (not-fails _) (eqb-holds _ 2))
+
+pub redo-fails : (j : List ℕ) → (redoOk j ≢ pass) ↔ (cursor j ≡ end j)
+unfolding redoOk
+redo-fails j = must-fails _ 16 (Iff·trans (not-fails _) (eqb-holds _ _))
+
+pub step-fails : (redo : Bool) (n : ℕ) (t j : List ℕ) (a k : ℕ) → Dim n → (stepOk redo n t j a k ≢ pass) ↔ StepFails redo n t j a k
+unfolding stepOk
+step-fails redo n t j a k dim =
+    let u = put redo (changesAt j a k) t in
+    must-fails _ 17 (Iff·trans (and-fails (unbroken redo t j a k) (isMap n u))
+    (one-of Iff·rfl (test-fails (isMap n u) (map-of n u (dim .1), of-map n u))))

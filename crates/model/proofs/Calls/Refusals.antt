@@ -1,0 +1,131 @@
+-- When a number is given, by the checks before it. `given-exactly`: of any call, by a check that has its number alone.
+-- `sew-12`: no pairing exists. `split-13`: some g in S has g.1 in S. `undo-17`, `redo-17`: record broken, or result no map.
+use Prim.Native.Nat.{ℕ}
+use mathlib.Core.Path.{_≡_, refl, sym, ap, _∙_}
+use mathlib.Core.Logic.{_≢_, _↔_, ⊎-elim}
+use mathlib.Core.Bool.{true, false}
+use mathlib.Core.List.{List, [], _∷_, _++_, List·Memᴰ·eq-of-singleton as sole}
+use native.Mathlib.Omega.{arith}
+use lib.ListN.{length, take, drop}
+use Rattle.model.specs.Lists.{indexOf, member}
+use Rattle.model.specs.Table.{link}
+use Rattle.model.specs.Sheet.{sheet}
+use Rattle.model.specs.Journal.{cursor}
+use Rattle.model.specs.Checks.{Check, pass, refuse, andThen, inOrder, undoOk, redoOk}
+use Rattle.model.specs.Checks.{sidesChecks, layerChecks, splitChecks, stepChecks}
+use Rattle.model.specs.Calls.{Outcome, refused, sewCall, splitCall, undoCall, redoCall}
+use Rattle.model.specs.Runs.{Call, doCall, keeping}
+use Rattle.model.specs.Meaning.Ends.{lent, checksOf, checks, numbers, undoCount, undoStart, redoCount}
+use Rattle.model.specs.Meaning.Numbers.{StepFails}
+use Rattle.model.specs.Meaning.Pairings.{Pairing}
+use Rattle.model.specs.Meaning.Sets.{Marked}
+use Rattle.model.proofs.Calls.Checks.{passed-at, append-passed, append-refused, passed-or-refused, same-refusal}
+use Rattle.model.proofs.Calls.Checks.{Numbers, not-in, numbers-before, numbers-behind, refusal-says, call-numbers}
+use Rattle.model.proofs.Calls.Pass.{dim-pass, sides-passed}
+use Rattle.model.proofs.Calls.Fails.{pairing-fails, crossing-fails, step-fails}
+use Rattle.model.proofs.Calls.Ends.{call-ends, call-refused}
+
+-- ---- one check among others
+
+-- the check `own`, and no other, has the number z
+record Alone (n : ℕ) (t j : List ℕ) (z : ℕ) (before : List Check) (own : Check) (behind : List Check) : Type 0 where
+  numbers : List ℕ
+  numbered : Numbers n t j numbers (before ++ (own ∷ behind))
+  not-before : member (take (length before) numbers) z ≡ false
+  here : take 1 (drop (length before) numbers) ≡ z ∷ []
+  not-behind : member (drop 1 (drop (length before) numbers)) z ≡ false
+
+-- a refusal by z is its own: those before pass, and it fails; and back
+module _ {n : ℕ} {t j : List ℕ} {z : ℕ} {before : List Check} {own : Check} {behind : List Check}
+    (alone : Alone n t j z before own behind) where
+  abbrev Refused : Type 0
+  Refused = (p : ℕ) × (inOrder (before ++ (own ∷ behind)) ≡ refuse z p)
+
+  rest : Numbers n t j (drop (length before) (alone .numbers)) (own ∷ behind)
+  rest = numbers-behind before (own ∷ behind) (alone .numbered)
+
+  before-passed : Refused → inOrder before ≡ pass
+  before-passed r = ⊎-elim (λ e. e) (λ q.
+      let i = refusal-says before (numbers-before before (own ∷ behind) (alone .numbered)) (q .0) (q .1) (q .2) .0 in
+      let number = same-refusal (λ k p. k) (sym (append-refused before (own ∷ behind) (q .2)) ∙ r .1) in
+      absurd (not-in _ z (alone .not-before) (q .0) i number))
+      (passed-or-refused (inOrder before))
+
+  own-failed : Refused → own ≢ pass
+  unfolding inOrder andThen
+  own-failed r h =
+      let own-passed : inOrder (own ∷ []) ≡ pass = rw h in
+      let e = sym (append-passed before (own ∷ behind) (before-passed r) ∙ append-passed (own ∷ []) behind own-passed) ∙ r .1 in
+      not-in _ z (alone .not-behind) z (refusal-says behind (numbers-behind (own ∷ []) behind rest) z (r .0) e .0) refl
+
+  own-refuses : inOrder before ≡ pass → own ≢ pass → Refused
+  unfolding inOrder andThen
+  own-refuses h failed = ⊎-elim (λ e. absurd (failed e)) (λ q.
+      let own-refused : inOrder (own ∷ []) ≡ refuse (q .0) (q .1) = rw (q .2) in
+      let i = refusal-says (own ∷ []) (numbers-before (own ∷ []) behind rest) (q .0) (q .1) own-refused .0 in
+      let e = append-passed before (own ∷ behind) h ∙ append-refused (own ∷ []) behind own-refused in
+      (q .1, e ∙ ap (λ (k : ℕ). refuse k (q .1)) (sole (rw (alone .here) at i))))
+      (passed-or-refused own)
+
+-- ---- of a call
+
+module _ (n : ℕ) (o : Outcome) (c : Call) (z : ℕ) (some-number : z ≢ 0) where
+  -- another number than 0 is that of the first check that fails
+  number-refused : (doCall n o c .number ≡ z) ↔ ((p : ℕ) × (inOrder (checks n o c) ≡ refuse z p))
+  unfolding refused
+  number-refused = (
+    λ h. let r = call-refused n o c (λ q. some-number (sym h ∙ q)) in (r .0, r .1 ∙ ap (λ (k : ℕ). refuse k (r .0)) h),
+    λ r. ap (λ (x : Outcome). x .number) (call-ends n o c .refuses z (r .0) (r .1)),
+  )
+
+  -- the check `own`, and no other, has the number z, and fails exactly if P, where those before pass
+  pub given-exactly : {P : Type 0} (before : List Check) (own : Check) (behind : List Check)
+      → checks n o c ≡ before ++ (own ∷ behind)
+      → member (take (length before) (numbers c)) z ≡ false
+      → take 1 (drop (length before) (numbers c)) ≡ z ∷ []
+      → member (drop 1 (drop (length before) (numbers c))) z ≡ false
+      → (inOrder before ≡ pass → (own ≢ pass) ↔ P)
+      → (doCall n o c .number ≡ z) ↔ ((inOrder before ≡ pass) × P)
+  given-exactly before own behind is not-before here not-behind says =
+      let alone : Alone n (o .table) (o .journal) z before own behind = record {
+        numbers = numbers c;
+        numbered = rw is at (call-numbers n o c);
+        not-before = not-before;
+        here = here;
+        not-behind = not-behind;
+      } in (
+        λ h. let r = rw is at (number-refused .0 h) in
+            let passed = before-passed alone r in
+            (passed, says passed .0 (own-failed alone r)),
+        λ r. number-refused .1 (rw is (own-refuses alone (r .0) (says (r .0) .1 (r .1)))),
+      )
+
+-- ---- 12, 13, 17
+
+pub sew-12 : (n : ℕ) (t j : List ℕ) (i d e : ℕ) → (sewCall n t j i d e .number ≡ 12)
+    ↔ ((inOrder (sidesChecks n t j i d e) ≡ pass) × (Pairing n t i d e → ⊥))
+unfolding doCall keeping checksOf sidesChecks member indexOf
+sew-12 n t j i d e =
+    given-exactly n (lent t [] j) (Call.sew i d e) 12 (λ q. omega arith) (sidesChecks n t j i d e) _ _ refl refl refl refl
+    (λ h. pairing-fails n t i d e (sides-passed n t j i d e h))
+
+pub split-13 : (n : ℕ) (t m j : List ℕ) (d : ℕ) → (splitCall n t m j d .number ≡ 13)
+    ↔ ((inOrder (layerChecks n t m j d) ≡ pass) × ((g : ℕ) × Marked (sheet n t d) g × Marked (sheet n t d) (link t 1 g)))
+unfolding doCall checksOf layerChecks splitChecks member indexOf
+split-13 n t m j d =
+    given-exactly n (lent t m j) (Call.split d) 13 (λ q. omega arith) (layerChecks n t m j d) _ _ refl refl refl refl
+    (λ h. crossing-fails t (sheet n t d))
+
+pub undo-17 : (n : ℕ) (t j : List ℕ) → (undoCall n t j .number ≡ 17)
+    ↔ ((inOrder (stepChecks n t j (undoOk j)) ≡ pass) × StepFails false n t j (undoStart j) (undoCount j))
+unfolding doCall keeping checksOf stepChecks member indexOf
+undo-17 n t j =
+    given-exactly n (lent t [] j) Call.undo 17 (λ q. omega arith) (stepChecks n t j (undoOk j)) _ [] refl refl refl refl
+    (λ h. step-fails false n t j _ _ (dim-pass n (passed-at _ h 0)))
+
+pub redo-17 : (n : ℕ) (t j : List ℕ) → (redoCall n t j .number ≡ 17)
+    ↔ ((inOrder (stepChecks n t j (redoOk j)) ≡ pass) × StepFails true n t j (cursor j) (redoCount j))
+unfolding doCall keeping checksOf stepChecks member indexOf
+redo-17 n t j =
+    given-exactly n (lent t [] j) Call.redo 17 (λ q. omega arith) (stepChecks n t j (redoOk j)) _ [] refl refl refl refl
+    (λ h. step-fails true n t j _ _ (dim-pass n (passed-at _ h 0)))

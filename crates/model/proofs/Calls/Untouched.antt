@@ -1,0 +1,57 @@
+-- `call-untouched`: a call that is refused leaves table and journal, gives the count 0, the place of its number, and the
+-- marks as lent, but for remove and split refused by 13, 14 or 15.
+-- `reading-untouched`: check, orbit and sheet leave table and journal also where they are accepted.
+use Prim.Native.Nat.{ℕ}
+use mathlib.Core.Path.{_≡_, refl, ap, _∙_}
+use mathlib.Core.Logic.{_≢_}
+use native.Mathlib.Omega.{arith}
+use Rattle.model.specs.Map.{leastBreaking}
+use Rattle.model.specs.Cell.{leastWrong}
+use Rattle.model.specs.Calls.{Outcome, refused}
+use Rattle.model.specs.Runs.{Call, doCall}
+use Rattle.model.specs.Meaning.Ends.{Untouched, done, refusalPlace, Reading, reads-check, reads-orbit, reads-sheet, doneOf}
+use Rattle.model.proofs.Lists.Scan.{if-eq}
+use Rattle.model.proofs.Calls.Checks.{place-other}
+use Rattle.model.proofs.Calls.Ends.{call-says, call-done, call-refused}
+
+module _ (n : ℕ) (o : Outcome) (c : Call) where
+  pub call-untouched : doCall n o c .number ≢ 0 → Untouched n o c (doCall n o c)
+  unfolding refused
+  call-untouched h =
+      let r = call-refused n o c h in
+      let is = r .2 in
+      record {
+        count = ap (λ (x : Outcome). x .count) is;
+        place = ap (λ (x : Outcome). x .place) is ∙ call-says n o c _ (r .0) (r .1) .1 .place;
+        table = ap (λ (x : Outcome). x .table) is;
+        marks = ap (λ (x : Outcome). x .marks) is;
+        journal = ap (λ (x : Outcome). x .journal) is;
+      }
+
+  -- "On a refusal .. place is 0 but for 5 and 8": the least slot that breaks a rule ..
+  pub place-of-5 : doCall n o c .number ≡ 5 → doCall n o c .place ≡ leastBreaking n (o .table)
+  unfolding refusalPlace
+  place-of-5 h = rw h at (call-untouched (λ q. omega arith) .place)
+
+  -- .. the least live slot in a wrong cell ..
+  pub place-of-8 : doCall n o c .number ≡ 8 → doCall n o c .place ≡ leastWrong n (o .table)
+  unfolding refusalPlace
+  place-of-8 h = rw h at (call-untouched (λ q. omega arith) .place)
+
+  -- .. and 0
+  pub place-of-others : doCall n o c .number ≢ 0 → doCall n o c .number ≢ 5 → doCall n o c .number ≢ 8 → doCall n o c .place ≡ 0
+  place-of-others h a b = call-untouched h .place ∙ place-other n (o .table) _ a b
+
+  -- a call that leaves table and journal where it is accepted leaves them always
+  untouched-always : done n o c .table ≡ o .table → done n o c .journal ≡ o .journal
+      → (doCall n o c .table ≡ o .table) × (doCall n o c .journal ≡ o .journal)
+  untouched-always a b = if-eq (doCall n o c .number) 0
+      (λ h. let is = call-done n o c h in (ap (λ (r : Outcome). r .table) is ∙ a, ap (λ (r : Outcome). r .journal) is ∙ b))
+      (λ h. let r = call-untouched h in (r .table, r .journal))
+
+pub reading-untouched : (n : ℕ) (o : Outcome) {c : Call} → Reading c
+    → (doCall n o c .table ≡ o .table) × (doCall n o c .journal ≡ o .journal)
+unfolding doneOf
+reading-untouched n o reads-check = untouched-always n o _ refl refl
+reading-untouched n o reads-orbit = untouched-always n o _ refl refl
+reading-untouched n o reads-sheet = untouched-always n o _ refl refl

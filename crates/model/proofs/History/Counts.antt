@@ -1,0 +1,182 @@
+-- Counts are sizes. Of sew, unsew, undo and redo: the entries that changed, one at least (`sew-count`, ..). Of orbit and
+-- sheet: the darts of the set. Of add, remove and split: the darts of the new cell, of the removed cells, the new darts.
+-- `op-changes-some`: an accepted operation changes an entry.
+use Prim.Native.Nat.{ℕ, zero, suc, _+_, _*_, _-_, _<_}
+use mathlib.Core.Path.{_≡_, refl, sym, ap, _∙_}
+use mathlib.Core.Bool.{Bool, true, false, not, _&&_}
+use mathlib.Core.List.{List, [], _∷_}
+use native.Mathlib.Nat.{suc-inj}
+use native.Mathlib.Omega.{arith}
+use lib.ListN.{length, getD, drop}
+use lib.Dec.{eqb, leb}
+use borrow.Author.Tests.{eqb-false, not-true}
+use Rattle.model.specs.Lists.{count, onesFrom, ones}
+use Rattle.model.specs.Table.{slots}
+use Rattle.model.specs.Cell.{cellSize, cellWords}
+use Rattle.model.specs.Reach.{closure}
+use Rattle.model.specs.Orbit.{orbit}
+use Rattle.model.specs.Sheet.{sheet, overlay, sheetMarks, sheetWords}
+use Rattle.model.specs.Journal.{end, changesFrom, changesAt, readChanges, put, sound, unbroken}
+use Rattle.model.specs.Checks.{stepChecks, undoOk, redoOk}
+use Rattle.model.specs.Calls.{Outcome}
+use Rattle.model.specs.Runs.{Call, doCall, Op, callOf, effect}
+use Rattle.model.specs.Meaning.Ends.{Passed, done, CountsChanges, checksOf, doneOf}
+use Rattle.model.proofs.Lists.Scan.{and-l, and-r}
+use Rattle.model.proofs.Sets.Closure.{closure-least}
+use Rattle.model.proofs.Calls.Checks.{passed-at, passed-append}
+use Rattle.model.proofs.Calls.Pass.{step-pass}
+use Rattle.model.proofs.Calls.Ends.{call-passed, call-done, op-accepted}
+use Rattle.model.proofs.History.Record.{changes-some}
+use Rattle.model.proofs.History.Sound.{sound-changes}
+use Rattle.model.proofs.History.Ops.{effect-length, op-changes}
+
+-- ---- operations
+
+pub effect-changes-some : (n : ℕ) (t m j : List ℕ) (p : Op) → Passed n t m j p → 0 < length (changesFrom 0 t (effect n t p))
+effect-changes-some n t m j p passed = changes-some t (effect n t p) (sym (effect-length n t p)) (op-changes n t m j p passed)
+
+module _ (n : ℕ) (o : Outcome) where
+  pub op-changes-some : (p : Op) → doCall n o (callOf p) .number ≡ 0 → 0 < length (changesFrom 0 (o .table) (doCall n o (callOf p) .table))
+  op-changes-some p h =
+      let r = op-accepted n o p h in
+      rw (r .table) (effect-changes-some n (o .table) (o .marks) (o .journal) p (r .passed))
+
+  abbrev Counted : Call → Type 0
+  Counted c = doCall n o c .number ≡ 0 → CountsChanges (o .table) (doCall n o c .table) (doCall n o c .count)
+
+  op-counted : (p : Op) → done n o (callOf p) .count ≡ length (changesFrom 0 (o .table) (done n o (callOf p) .table)) → Counted (callOf p)
+  op-counted p e h =
+      let is = call-done n o (callOf p) h in
+      let size = ap (λ (r : Outcome). r .count) is ∙ e ∙ sym (ap (λ (r : Outcome). length (changesFrom 0 (o .table) (r .table))) is) in
+      record { size = size; some = rw size (op-changes-some p h) }
+
+  pub sew-count : (i d e : ℕ) → Counted (Call.sew i d e)
+  unfolding doneOf callOf
+  sew-count i d e = op-counted (Op.sew i d e) refl
+
+  pub unsew-count : (i d : ℕ) → Counted (Call.unsew i d)
+  unfolding doneOf callOf
+  unsew-count i d = op-counted (Op.unsew i d) refl
+
+-- ---- undo and redo
+
+length-read : (k : ℕ) (ws : List ℕ) → length (readChanges k ws) ≡ k
+unfolding readChanges
+length-read zero ws = refl
+length-read (suc k) ws = ap suc (length-read k (drop 3 ws))
+
+-- an unbroken record has a change, and its changes are sound
+module _ (redo : Bool) (t j : List ℕ) (a k : ℕ) (whole : unbroken redo t j a k ≡ true) where
+  abbrev some-change : Bool
+  some-change = not (eqb k 0)
+
+  abbrev behind-2 : Bool
+  behind-2 = leb 2 a
+
+  abbrev before-end : Bool
+  before-end = leb (a + (3 * k + 2)) (end j)
+
+  abbrev counts-agree : Bool
+  counts-agree = eqb (getD j a 0) (getD j (a + (3 * k + 1)) 0)
+
+  unbroken-sound : sound redo t 0 (changesAt j a k) ≡ true
+  unfolding unbroken
+  unbroken-sound = and-r (some-change && behind-2 && before-end && counts-agree) _ whole
+
+  unbroken-some : 0 < k
+  unfolding unbroken
+  unbroken-some =
+      let four = and-l (some-change && behind-2 && before-end && counts-agree) _ whole in
+      let three = and-l (some-change && behind-2 && before-end) _ four in
+      let two = and-l (some-change && behind-2) _ three in
+      let not-0 = eqb-false k 0 (not-true _ (and-l some-change behind-2 two)) in
+      omega arith
+
+  unbroken-counts : CountsChanges t (put redo (changesAt j a k) t) k
+  unfolding changesAt
+  unbroken-counts = record {
+    size = sym (sound-changes redo t (changesAt j a k) unbroken-sound ∙ length-read k _);
+    some = unbroken-some;
+  }
+
+module _ (n : ℕ) (o : Outcome) where
+  pub undo-count : Counted n o Call.undo
+  unfolding checksOf doneOf
+  undo-count h =
+      let q = passed-append (stepChecks n (o .table) (o .journal) (undoOk (o .journal))) _ (call-passed n o Call.undo h) in
+      let whole = step-pass false n (o .table) (o .journal) _ _ (passed-at _ (q .1) 0) .0 in
+      rw (call-done n o Call.undo h) (unbroken-counts false (o .table) (o .journal) _ _ whole)
+
+  pub redo-count : Counted n o Call.redo
+  unfolding checksOf doneOf
+  redo-count h =
+      let q = passed-append (stepChecks n (o .table) (o .journal) (redoOk (o .journal))) _ (call-passed n o Call.redo h) in
+      let whole = step-pass true n (o .table) (o .journal) _ _ (passed-at _ (q .1) 0) .0 in
+      rw (call-done n o Call.redo h) (unbroken-counts true (o .table) (o .journal) _ _ whole)
+
+-- ---- sets of darts
+
+length-ones : (l : List ℕ) (a : ℕ) → length (onesFrom a l) ≡ count 1 l
+unfolding onesFrom count
+length-ones [] a = refl
+length-ones (x ∷ l) a = go (eqb x 1) (length-ones l (suc a))
+  where
+    go : (b : Bool) → length (onesFrom (suc a) l) ≡ count 1 l
+        → length {A = ℕ} (elim b [ true ↦ a ∷ onesFrom (suc a) l | false ↦ onesFrom (suc a) l ])
+        ≡ elim b as (λ _. ℕ) [ true ↦ suc (count 1 l) | false ↦ count 1 l ]
+    go true e = ap suc e
+    go false e = e
+
+-- marks are 0, 1 or 2
+marks-counts : (a b : List ℕ) → length a ≡ length b → count 0 (overlay a b) + count 1 (overlay a b) + count 2 (overlay a b) ≡ length a
+unfolding overlay count
+marks-counts [] [] l = refl
+marks-counts [] (y ∷ b) l = absurd (omega arith)
+marks-counts (x ∷ a) [] l = absurd (omega arith)
+marks-counts (x ∷ a) (y ∷ b) l = go (eqb x 1) (eqb y 1) (marks-counts a b (suc-inj l))
+  where
+    mark : Bool → Bool → ℕ
+    mark p q = elim p [ true ↦ 1 | false ↦ (elim q [ true ↦ 2 | false ↦ 0 ]) ]
+
+    go : (p q : Bool) → count 0 (overlay a b) + count 1 (overlay a b) + count 2 (overlay a b) ≡ length a
+        → count 0 (mark p q ∷ overlay a b) + count 1 (mark p q ∷ overlay a b) + count 2 (mark p q ∷ overlay a b) ≡ suc (length a)
+    go true q e = omega arith
+    go false true e = omega arith
+    go false false e = omega arith
+
+removed-count : (n : ℕ) (t : List ℕ) (d : ℕ) → slots t - count 0 (sheetMarks n t (sheet n t d))
+    ≡ count 1 (sheetMarks n t (sheet n t d)) + count 2 (sheetMarks n t (sheet n t d))
+unfolding sheetMarks sheet
+removed-count n t d =
+    let s = closure-least t (sheetWords n) (d ∷ []) .long in
+    let c = closure-least t (cellWords n) (ones (sheet n t d)) .long in
+    let all = marks-counts (sheet n t d) (closure t (cellWords n) (ones (sheet n t d))) (s ∙ sym c) in
+    omega arith
+
+module _ (n : ℕ) (o : Outcome) where
+  -- "Count: darts reached"
+  pub orbit-count : (mask d : ℕ) → doCall n o (Call.orbit mask d) .number ≡ 0
+      → doCall n o (Call.orbit mask d) .count ≡ count 1 (orbit n (o .table) mask d)
+  unfolding doneOf
+  orbit-count mask d h = ap (λ (r : Outcome). r .count) (call-done n o (Call.orbit mask d) h)
+
+  -- "Count: size of S"
+  pub sheet-count : (d : ℕ) → doCall n o (Call.sheet d) .number ≡ 0 → doCall n o (Call.sheet d) .count ≡ count 1 (sheet n (o .table) d)
+  unfolding doneOf
+  sheet-count d h = ap (λ (r : Outcome). r .count) (call-done n o (Call.sheet d) h)
+
+  -- "Count: 8 or 48"
+  pub add-count : doCall n o Call.add .number ≡ 0 → doCall n o Call.add .count ≡ cellSize n
+  unfolding doneOf
+  add-count h = ap (λ (r : Outcome). r .count) (call-done n o Call.add h)
+
+  -- "Count: darts removed": those with marks 1 or 2
+  pub remove-count : (d : ℕ) → doCall n o (Call.remove d) .number ≡ 0
+      → doCall n o (Call.remove d) .count ≡ count 1 (doCall n o (Call.remove d) .marks) + count 2 (doCall n o (Call.remove d) .marks)
+  unfolding doneOf
+  remove-count d h = rw (call-done n o (Call.remove d) h) (removed-count n (o .table) d)
+
+  -- "Count: darts added": n for each dart of S
+  pub split-count : (d : ℕ) → doCall n o (Call.split d) .number ≡ 0 → doCall n o (Call.split d) .count ≡ n * count 1 (sheet n (o .table) d)
+  unfolding doneOf
+  split-count d h = rw (call-done n o (Call.split d) h) (ap (λ (k : ℕ). n * k) (length-ones (sheet n (o .table) d) 0))

@@ -1,0 +1,300 @@
+-- The invariant of a run: table and journal by the operations that stand and those that were undone. Each call keeps it
+-- (`call-keeps`); by it undo and redo are known (`undo-moves`, `redo-moves`, `undo-number`, `redo-number`).
+use Prim.Native.Nat.{ℕ, zero, suc, _-_, _≤_}
+use mathlib.Core.Path.{_≡_, refl, sym, ap, ap₂, _∙_, subst₂}
+use mathlib.Core.Logic.{_≢_}
+use mathlib.Core.Bool.{true, false}
+use mathlib.Core.List.{List, [], _∷_, _++_}
+use lib.ListN.{length, drop}
+use Rattle.model.specs.Map.{isMap}
+use Rattle.model.specs.Journal.{changesFrom, recordOf, written, cursor, put}
+use Rattle.model.specs.Checks.{pass, tableOk, journalOk}
+use Rattle.model.specs.Calls.{Outcome, undoCall, redoCall, refused}
+use Rattle.model.specs.Runs.{Call, doCall, keeping, Op, callOf, effect, replay, History, afterUndo, afterRedo, afterOp}
+use Rattle.model.specs.Runs.{accepted, answered}
+use Rattle.model.specs.Meaning.Ends.{Reading, reads-check, reads-orbit, reads-sheet}
+use Rattle.model.proofs.Lists.Scan.{if-eq}
+use Rattle.model.proofs.Calls.Ends.{op-accepted}
+use Rattle.model.proofs.Calls.Untouched.{call-untouched, reading-untouched}
+use Rattle.model.proofs.History.Record.{put-new-changes, put-old-changes, changes-some}
+use Rattle.model.proofs.History.Sound.{sound-undo, sound-redo}
+use Rattle.model.proofs.History.Log.{journalOf, journal-ok, journal-written, written-length, journal-same, InRule}
+use Rattle.model.proofs.History.Log.{Leads, stepsTo, undo-steps, redo-steps, undo-none, redo-none}
+use Rattle.model.proofs.History.Ops.{effect-length, op-changes, op-map}
+
+-- ---- the records of the operations
+
+-- an operation led from a map to another map of the same length
+pub record Edit (n : ℕ) (t u : List ℕ) : Type 0 where
+  pub long : length t ≡ length u
+  pub differ : t ≢ u
+  pub from : isMap n t ≡ true
+  pub to : isMap n u ≡ true
+
+-- the words of the record of an edit
+abbrev pub editWords : List ℕ → List ℕ → List ℕ
+editWords t u = recordOf (changesFrom 0 t u)
+
+-- the words of the operations that stand, and of those that were undone, the next to redo first
+unfoldable pub standingWords : ℕ → List ℕ → List Op → List ℕ
+standingWords n t [] = []
+standingWords n t (p ∷ ps) = standingWords n t ps ++ editWords (replay n t ps) (effect n (replay n t ps) p)
+
+unfoldable pub undoneWords : ℕ → List ℕ → List Op → List ℕ
+undoneWords n t [] = []
+undoneWords n t (p ∷ ps) = editWords t (effect n t p) ++ undoneWords n (effect n t p) ps
+
+-- each of them was an edit
+abbrev pub StandingEdits : ℕ → List ℕ → List Op → Type 0
+StandingEdits n t [] = Unit {0}
+StandingEdits n t (p ∷ ps) = Edit n (replay n t ps) (effect n (replay n t ps) p) × StandingEdits n t ps
+
+abbrev pub UndoneEdits : ℕ → List ℕ → List Op → Type 0
+UndoneEdits n t [] = Unit {0}
+UndoneEdits n t (p ∷ ps) = Edit n t (effect n t p) × UndoneEdits n (effect n t p) ps
+
+-- the journal of a history, before the words `rest`
+unfoldable pub historyWords : ℕ → List ℕ → History → List ℕ → List ℕ
+historyWords n t h rest = journalOf (standingWords n t (h .standing)) (undoneWords n (replay n t (h .standing)) (h .undone)) rest
+
+-- ---- the invariant of a run that began with the table `first`
+
+pub record Invariant (n : ℕ) (first : List ℕ) (h : History) (t j : List ℕ) : Type 0 where
+  -- the words of the journal behind the records
+  pub rest : List ℕ
+  -- the table is what the operations that stand make of the first one
+  pub table : t ≡ replay n first (h .standing)
+  -- the journal holds the records of what stands, then of what was undone, then the rest
+  pub journal : j ≡ historyWords n first h rest
+  -- the table passes the checks 1, 2 and 5
+  pub rule : InRule n (replay n first (h .standing))
+  -- the journal is not too long
+  pub few : length (historyWords n first h rest) ≤ 1048576
+  -- each operation in the history led from a map to another one
+  pub standing : StandingEdits n first (h .standing)
+  pub undone : UndoneEdits n (replay n first (h .standing)) (h .undone)
+
+abbrev pub historyOf : List Op → List Op → History
+historyOf standing undone = record { standing = standing; undone = undone }
+
+-- ---- undo and redo move one operation between the two lists
+
+rule-along : {n : ℕ} {t u : List ℕ} → length t ≡ length u → InRule n t → isMap n u ≡ true → InRule n u
+unfolding tableOk
+rule-along long rule map = record { dim = rule .dim; size = rw (← long) (rule .size); map = map }
+
+edit-back : {n : ℕ} {t u : List ℕ} → Edit n t u → InRule n u → Leads false n u t (changesFrom 0 t u)
+unfolding put
+edit-back {n} {t} {u} edit rule = record {
+  rule = rule;
+  some = changes-some t u (edit .long) (edit .differ);
+  sound = sound-undo t u (edit .long);
+  puts = put-old-changes t u (edit .long);
+  map = edit .from;
+}
+
+edit-forward : {n : ℕ} {t u : List ℕ} → Edit n t u → InRule n t → Leads true n t u (changesFrom 0 t u)
+unfolding put
+edit-forward {n} {t} {u} edit rule = record {
+  rule = rule;
+  some = changes-some t u (edit .long) (edit .differ);
+  sound = sound-redo t u (edit .long);
+  puts = put-new-changes t u (edit .long);
+  map = edit .to;
+}
+
+-- p is the operation that moves, `before` the table before it and `after` the one behind it
+module _ (n : ℕ) (first : List ℕ) (p : Op) (ds us : List Op) where
+  abbrev before : List ℕ
+  before = replay n first ds
+
+  abbrev after : List ℕ
+  after = effect n before p
+
+  -- how many entries it changed
+  abbrev changed : ℕ
+  changed = length (changesFrom 0 before after)
+
+  same-length : (rest : List ℕ)
+      → length (historyWords n first (historyOf ds (p ∷ us)) rest) ≡ length (historyWords n first (historyOf (p ∷ ds) us) rest)
+  unfolding historyWords standingWords undoneWords replay
+  same-length rest = journal-same (standingWords n first ds) (undoneWords n after us) rest (changesFrom 0 before after)
+
+  module _ {t j : List ℕ} where
+    pub undo-moves : (I : Invariant n first (historyOf (p ∷ ds) us) t j)
+        → undoCall n t j ≡ stepsTo changed before (historyWords n first (historyOf ds (p ∷ us)) (I .rest))
+    unfolding historyWords standingWords undoneWords replay
+    undo-moves I =
+        ap₂ (undoCall n) (I .table) (I .journal)
+        ∙ undo-steps (standingWords n first ds) (undoneWords n after us) (I .rest) _ (edit-back (I .standing .0) (I .rule)) (I .few)
+
+    undo-invariant : (I : Invariant n first (historyOf (p ∷ ds) us) t j)
+        → Invariant n first (historyOf ds (p ∷ us)) before (historyWords n first (historyOf ds (p ∷ us)) (I .rest))
+    unfolding replay
+    undo-invariant I =
+        let edit = I .standing .0 in
+        record {
+          rest = I .rest;
+          table = refl;
+          journal = refl;
+          rule = rule-along (sym (edit .long)) (I .rule) (edit .from);
+          few = rw (same-length (I .rest)) (I .few);
+          standing = I .standing .1;
+          undone = (edit, I .undone);
+        }
+
+    redo-moves : (I : Invariant n first (historyOf ds (p ∷ us)) t j)
+        → redoCall n t j ≡ stepsTo changed after (historyWords n first (historyOf (p ∷ ds) us) (I .rest))
+    unfolding historyWords standingWords undoneWords replay
+    redo-moves I =
+        ap₂ (redoCall n) (I .table) (I .journal)
+        ∙ redo-steps (standingWords n first ds) (undoneWords n after us) (I .rest) _ (edit-forward (I .undone .0) (I .rule)) (I .few)
+
+    redo-invariant : (I : Invariant n first (historyOf ds (p ∷ us)) t j)
+        → Invariant n first (historyOf (p ∷ ds) us) after (historyWords n first (historyOf (p ∷ ds) us) (I .rest))
+    unfolding replay
+    redo-invariant I =
+        let edit = I .undone .0 in
+        record {
+          rest = I .rest;
+          table = refl;
+          journal = refl;
+          rule = rule-along (edit .long) (I .rule) (edit .to);
+          few = rw (same-length (I .rest)) at (I .few);
+          standing = (edit, I .standing);
+          undone = I .undone .1;
+        }
+
+    -- a new operation is written over what was undone
+    written-invariant : Invariant n first (historyOf ds us) t j → Edit n t (effect n t p)
+        → length (editWords t (effect n t p)) ≤ length j - cursor j
+        → Invariant n first (historyOf (p ∷ ds) []) (effect n t p) (written j (editWords t (effect n t p)))
+    unfolding historyWords standingWords undoneWords replay
+    written-invariant I = rw (I .table, I .journal) (λ edit room.
+        let words = journal-written (standingWords n first ds) (undoneWords n before us) (I .rest) (editWords before after) in
+        let long = written-length (standingWords n first ds) (undoneWords n before us) (I .rest) (editWords before after) room in
+        record {
+          rest = drop (length (editWords before after)) (undoneWords n before us ++ I .rest);
+          table = refl;
+          journal = words;
+          rule = rule-along (edit .long) (I .rule) (edit .to);
+          few = rw (← words, long) (I .few);
+          standing = (edit, I .standing);
+          undone = tt;
+        })
+
+  -- what was undone is redone with the same words behind
+  pub redo-undone : {t j : List ℕ} (I : Invariant n first (historyOf (p ∷ ds) us) t j)
+      → redoCall n before (historyWords n first (historyOf ds (p ∷ us)) (I .rest))
+      ≡ stepsTo changed after (historyWords n first (historyOf (p ∷ ds) us) (I .rest))
+  unfolding undo-invariant
+  redo-undone I = redo-moves (undo-invariant I)
+
+-- ---- undo and redo keep the invariant, and give 16 or 0
+
+-- the number that undo, or redo, gives by the list that it takes from
+unfoldable pub stepNumber : List Op → ℕ
+stepNumber [] = 16
+stepNumber (p ∷ ps) = 0
+
+-- the invariant after a call on the history h with the outcome r
+abbrev pub After : ℕ → List ℕ → History → Call → Outcome → Type 0
+After n first h c r = Invariant n first (answered (r .number) c h) (r .table) (r .journal)
+
+module _ (n : ℕ) (first : List ℕ) {t j : List ℕ} where
+  undo-nothing : (us : List Op) → Invariant n first (historyOf [] us) t j → undoCall n t j ≡ refused 16 0 t [] j
+  unfolding historyWords standingWords
+  undo-nothing us I = subst₂ (λ t j. undoCall n t j ≡ refused 16 0 t [] j) (sym (I .table)) (sym (I .journal)) (undo-none (I .rule) _ (I .rest) (I .few))
+
+  redo-nothing : (ds : List Op) → Invariant n first (historyOf ds []) t j → redoCall n t j ≡ refused 16 0 t [] j
+  unfolding historyWords undoneWords
+  redo-nothing ds I = subst₂ (λ t j. redoCall n t j ≡ refused 16 0 t [] j) (sym (I .table)) (sym (I .journal)) (redo-none (I .rule) _ (I .rest) (I .few))
+
+  pub undo-number : (ds us : List Op) → Invariant n first (historyOf ds us) t j → undoCall n t j .number ≡ stepNumber ds
+  unfolding stepNumber refused stepsTo
+  undo-number [] us I = ap (λ (r : Outcome). r .number) (undo-nothing us I)
+  undo-number (p ∷ ds) us I = ap (λ (r : Outcome). r .number) (undo-moves n first p ds us I)
+
+  pub redo-number : (ds us : List Op) → Invariant n first (historyOf ds us) t j → redoCall n t j .number ≡ stepNumber us
+  unfolding stepNumber refused stepsTo
+  redo-number ds [] I = ap (λ (r : Outcome). r .number) (redo-nothing ds I)
+  redo-number ds (p ∷ us) I = ap (λ (r : Outcome). r .number) (redo-moves n first p ds us I)
+
+  undo-keeps : (ds us : List Op) → Invariant n first (historyOf ds us) t j → After n first (historyOf ds us) Call.undo (undoCall n t j)
+  unfolding refused stepsTo answered accepted afterUndo
+  undo-keeps [] us I = rw (undo-nothing us I) I
+  undo-keeps (p ∷ ds) us I = rw (undo-moves n first p ds us I) (undo-invariant n first p ds us I)
+
+  redo-keeps : (ds us : List Op) → Invariant n first (historyOf ds us) t j → After n first (historyOf ds us) Call.redo (redoCall n t j)
+  unfolding refused stepsTo answered accepted afterRedo
+  redo-keeps ds [] I = rw (redo-nothing ds I) I
+  redo-keeps ds (p ∷ us) I = rw (redo-moves n first p ds us I) (redo-invariant n first p ds us I)
+
+-- ---- the other calls
+
+pub refused-history : (k : ℕ) (c : Call) (h : History) → k ≢ 0 → answered k c h ≡ h
+unfolding answered
+refused-history zero c h e = absurd (e refl)
+refused-history (suc k) c h e = refl
+
+reading-history : (k : ℕ) {c : Call} (h : History) → Reading c → answered k c h ≡ h
+unfolding answered accepted
+reading-history (suc k) h reads = refl
+reading-history zero h reads-check = refl
+reading-history zero h reads-orbit = refl
+reading-history zero h reads-sheet = refl
+
+op-history : (p : Op) (h : History) → answered 0 (callOf p) h ≡ afterOp p h
+unfolding answered accepted callOf
+op-history Op.add h = refl
+op-history (Op.sew i d e) h = refl
+op-history (Op.unsew i d) h = refl
+op-history (Op.remove d) h = refl
+op-history (Op.split d) h = refl
+
+module _ {n : ℕ} {first : List ℕ} {h : History} (o : Outcome) (I : Invariant n first h (o .table) (o .journal)) where
+  pub rule-now : InRule n (o .table)
+  rule-now = rw (I .table) (I .rule)
+
+  pub journal-now : journalOk (o .journal) ≡ pass
+  unfolding historyWords
+  journal-now = rw (I .journal) (journal-ok _ _ _ (I .few))
+
+  unchanged-keeps : (c : Call) → answered (doCall n o c .number) c h ≡ h
+      → doCall n o c .table ≡ o .table → doCall n o c .journal ≡ o .journal → After n first h c (doCall n o c)
+  unchanged-keeps c e p q = rw (e, p, q) I
+
+  reading-keeps : {c : Call} → Reading c → After n first h c (doCall n o c)
+  reading-keeps {c} reads = let r = reading-untouched n o reads in unchanged-keeps c (reading-history _ h reads) (r .0) (r .1)
+
+  op-edit : (p : Op) → doCall n o (callOf p) .number ≡ 0 → Edit n (o .table) (effect n (o .table) p)
+  op-edit p e =
+      let done = op-accepted n o p e in
+      record {
+        long = sym (effect-length n (o .table) p);
+        differ = op-changes n (o .table) (o .marks) (o .journal) p (done .passed);
+        from = rule-now .map;
+        to = rw (done .table) at (op-map n o p e);
+      }
+
+  op-keeps : (p : Op) → After n first h (callOf p) (doCall n o (callOf p))
+  unfolding afterOp
+  op-keeps p = if-eq (doCall n o (callOf p) .number) 0 (λ e.
+      let done = op-accepted n o p e in
+      rw (e, op-history p h, done .table, done .journal)
+      (written-invariant n first p (h .standing) (h .undone) I (op-edit p e) (done .room))) (λ e.
+      let same = call-untouched n o (callOf p) e in
+      unchanged-keeps (callOf p) (refused-history _ (callOf p) h e) (same .table) (same .journal))
+
+  pub call-keeps : (c : Call) → After n first h c (doCall n o c)
+  unfolding doCall callOf keeping
+  call-keeps Call.check = reading-keeps reads-check
+  call-keeps (Call.orbit mask d) = reading-keeps reads-orbit
+  call-keeps (Call.sheet d) = reading-keeps reads-sheet
+  call-keeps Call.add = op-keeps Op.add
+  call-keeps (Call.sew i d e) = op-keeps (Op.sew i d e)
+  call-keeps (Call.unsew i d) = op-keeps (Op.unsew i d)
+  call-keeps (Call.remove d) = op-keeps (Op.remove d)
+  call-keeps (Call.split d) = op-keeps (Op.split d)
+  call-keeps Call.undo = undo-keeps n first (h .standing) (h .undone) I
+  call-keeps Call.redo = redo-keeps n first (h .standing) (h .undone) I

@@ -1,0 +1,144 @@
+-- "Numbers a call gives back": 01's table as rows, a number and when it is given, and for each call its rows in the order
+-- of the numbers. A call gives the number of the first row that is given, or 0 (`First`).
+use Prim.Native.Nat.{ℕ, _+_, _*_, _-_, _%_, _^_, _≤_, _<_}
+use mathlib.Core.Path.{_≡_}
+use mathlib.Core.Logic.{_⊎_, _≢_}
+use mathlib.Core.Bool.{Bool, true, false}
+use mathlib.Core.List.{List, [], _∷_}
+use lib.ListN.{length}
+use Rattle.model.specs.Lists.{ones}
+use Rattle.model.specs.Table.{slots, link, live, unusedSlots}
+use Rattle.model.specs.Cell.{cellSize}
+use Rattle.model.specs.Sheet.{sheet}
+use Rattle.model.specs.Add.{addTable}
+use Rattle.model.specs.Sew.{side, sewTable, unsewTable}
+use Rattle.model.specs.Remove.{removeTable}
+use Rattle.model.specs.Split.{splitTable}
+use Rattle.model.specs.Journal.{cursor, end, changesFrom, recordOf, changesAt, put, unbroken}
+use Rattle.model.specs.Runs.{Call}
+use Rattle.model.specs.Meaning.Ends.{undoCount, undoStart, redoCount}
+use Rattle.model.specs.Meaning.Maps.{Map, BlockTable}
+use Rattle.model.specs.Meaning.Pairings.{Pairing}
+use Rattle.model.specs.Meaning.Sets.{Marked}
+
+pub record Row : Type 1 where
+  pub number : ℕ
+  pub given : Type 0
+
+-- z is the number of the first row that is given, or 0
+abbrev pub First : List Row → ℕ → Type 0
+First [] z = z ≡ 0
+First (r ∷ rows) z = (r .given × (z ≡ r .number)) ⊎ ((r .given → ⊥) × First rows z)
+
+-- ---- the rows
+
+-- "n not 2 or 3"
+abbrev pub dimRow : ℕ → Row
+dimRow n = record { number = 1; given = (n ≢ 2) × (n ≢ 3) }
+
+-- "table length no multiple of 4, or above 262,144"
+abbrev pub tableRow : List ℕ → Row
+tableRow t = record { number = 2; given = (length t % 4 ≢ 0) ⊎ (262144 < length t) }
+
+-- "marks length differs from slots"
+abbrev pub marksRow : List ℕ → List ℕ → Row
+marksRow t m = record { number = 3; given = length m ≢ slots t }
+
+-- "lent u32 words, 2 to 1,048,576. Word 0 is the cursor, word 1 the end; 2 <= cursor <= end <= length."
+pub record JournalRule (j : List ℕ) : Type 0 where
+  pub long : 2 ≤ length j
+  pub few : length j ≤ 1048576
+  pub low : 2 ≤ cursor j
+  pub ends : cursor j ≤ end j
+  pub within : end j ≤ length j
+
+-- "journal length or its two words out of rule"
+abbrev pub journalRow : List ℕ → Row
+journalRow j = record { number = 4; given = JournalRule j → ⊥ }
+
+-- "not a map"
+abbrev pub mapRow : ℕ → List ℕ → Row
+mapRow n t = record { number = 5; given = Map n t → ⊥ }
+
+-- "i above n, or mask above 2^(n+1) - 1"
+abbrev pub indexRow : ℕ → ℕ → Row
+indexRow n i = record { number = 6; given = n < i }
+
+abbrev pub maskRow : ℕ → ℕ → Row
+maskRow n mask = record { number = 6; given = 2 ^ (n + 1) ≤ mask }
+
+-- "d or e not a live slot"
+abbrev pub dartRow : List ℕ → ℕ → Row
+dartRow t d = record { number = 7; given = live t d ≡ false }
+
+-- "not a block map"
+abbrev pub blockRow : ℕ → List ℕ → Row
+blockRow n t = record { number = 8; given = BlockTable n t → ⊥ }
+
+-- "e in d's side"
+abbrev pub apartRow : ℕ → List ℕ → ℕ → ℕ → ℕ → Row
+apartRow n t i d e = record { number = 9; given = Marked (side n t i d) e }
+
+-- "d or e not i-free"
+abbrev pub freeRow : List ℕ → ℕ → ℕ → ℕ → Row
+freeRow t i d e = record { number = 10; given = (link t i d ≢ d) ⊎ (link t i e ≢ e) }
+
+-- "d is i-free"
+abbrev pub sewnRow : List ℕ → ℕ → ℕ → Row
+sewnRow t i d = record { number = 11; given = link t i d ≡ d }
+
+-- "no pairing exists"
+abbrev pub pairingRow : ℕ → List ℕ → ℕ → ℕ → ℕ → Row
+pairingRow n t i d e = record { number = 12; given = Pairing n t i d e → ⊥ }
+
+-- "some g in S has g.1 in S"
+abbrev pub crossingRow : ℕ → List ℕ → ℕ → Row
+crossingRow n t d = record { number = 13; given = (g : ℕ) × Marked (sheet n t d) g × Marked (sheet n t d) (link t 1 g) }
+
+-- "too few unused slots", for k darts
+abbrev pub roomRow : List ℕ → ℕ → Row
+roomRow t k = record { number = 14; given = length (unusedSlots t) < k }
+
+-- "record longer than the words from cursor to length", where u is the new table
+abbrev pub recordRow : List ℕ → List ℕ → List ℕ → Row
+recordRow t u j = record { number = 15; given = length j - cursor j < length (recordOf (changesFrom 0 t u)) }
+
+-- "cursor 2 (undo); cursor = end (redo)"
+abbrev pub undoRow : List ℕ → Row
+undoRow j = record { number = 16; given = cursor j ≡ 2 }
+
+abbrev pub redoRow : List ℕ → Row
+redoRow j = record { number = 16; given = cursor j ≡ end j }
+
+-- "record broken, or result no map", of the record of k changes at the word a
+abbrev pub StepFails : Bool → ℕ → List ℕ → List ℕ → ℕ → ℕ → Type 0
+StepFails redo n t j a k = (unbroken redo t j a k ≡ false) ⊎ (Map n (put redo (changesAt j a k) t) → ⊥)
+
+abbrev pub stepRow : Bool → ℕ → List ℕ → List ℕ → ℕ → ℕ → Row
+stepRow redo n t j a k = record { number = 17; given = StepFails redo n t j a k }
+
+-- ---- the rows of each call, on the table t, the marks m and the journal j
+
+abbrev pub rows : ℕ → List ℕ → List ℕ → List ℕ → Call → List Row
+rows n t m j Call.check = dimRow n ∷ tableRow t ∷ mapRow n t ∷ []
+rows n t m j (Call.orbit mask d) =
+    dimRow n ∷ tableRow t ∷ marksRow t m ∷ mapRow n t ∷ maskRow n mask ∷ dartRow t d ∷ []
+rows n t m j (Call.sheet d) = dimRow n ∷ tableRow t ∷ marksRow t m ∷ mapRow n t ∷ dartRow t d ∷ blockRow n t ∷ []
+rows n t m j Call.add =
+    dimRow n ∷ tableRow t ∷ journalRow j ∷ mapRow n t ∷ roomRow t (cellSize n) ∷ recordRow t (addTable n t) j ∷ []
+rows n t m j (Call.sew i d e) =
+    dimRow n ∷ tableRow t ∷ journalRow j ∷ mapRow n t ∷ indexRow n i ∷ dartRow t d ∷ dartRow t e ∷ apartRow n t i d e
+    ∷ freeRow t i d e ∷ pairingRow n t i d e ∷ recordRow t (sewTable n t i d e) j ∷ []
+rows n t m j (Call.unsew i d) =
+    dimRow n ∷ tableRow t ∷ journalRow j ∷ mapRow n t ∷ indexRow n i ∷ dartRow t d ∷ sewnRow t i d
+    ∷ recordRow t (unsewTable n t i d) j ∷ []
+rows n t m j (Call.remove d) =
+    dimRow n ∷ tableRow t ∷ marksRow t m ∷ journalRow j ∷ mapRow n t ∷ dartRow t d ∷ blockRow n t
+    ∷ recordRow t (removeTable n t d) j ∷ []
+rows n t m j (Call.split d) =
+    dimRow n ∷ tableRow t ∷ marksRow t m ∷ journalRow j ∷ mapRow n t ∷ dartRow t d ∷ blockRow n t ∷ crossingRow n t d
+    ∷ roomRow t (n * length (ones (sheet n t d))) ∷ recordRow t (splitTable n t d) j ∷ []
+rows n t m j Call.undo =
+    dimRow n ∷ tableRow t ∷ journalRow j ∷ mapRow n t ∷ undoRow j ∷ stepRow false n t j (undoStart j) (undoCount j) ∷ []
+rows n t m j Call.redo =
+    dimRow n ∷ tableRow t ∷ journalRow j ∷ mapRow n t ∷ redoRow j ∷ stepRow true n t j (cursor j) (redoCount j) ∷ []
