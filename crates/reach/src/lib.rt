@@ -1,0 +1,96 @@
+// What is reached from a dart: orbit, side and sheet, by one flood with a queue that the caller lends.
+ghost use mathlib.Core.Path.{_≡_};
+ghost use mathlib.Core.Bool.{Bool, true, false, _||_};
+ghost use mathlib.Core.List.{[], _∷_};
+ghost use Prim.Native.Nat.{ℕ, _+_, _*_, _^_, _<_, _≤_};
+ghost use lib.ListN.{length, getD, set, replicate};
+ghost use lib.Dec.{leb};
+ghost use Rattle.model.specs.Lists.{count};
+ghost use Rattle.model.specs.Table.{slots, link, live, walk};
+ghost use Rattle.model.specs.Orbit.{bit, orbit};
+ghost use Rattle.model.specs.Sew.{side};
+ghost use Rattle.model.specs.Sheet.{sheet, sheetMarks};
+ghost use Rattle.reach.specs.Search.{searchOf, meet, meetSteps, floodWords, Found, Listed, Flooded, Gathered};
+ghost use Rattle.reach.specs.Given.{Given, Linked, Room, Seeds};
+
+// All marks 0 but for d's, and d first in the queue.
+fn begin(marks: &mut [u8], queue: &mut [u32], d: u32)
+    requires { ⌜ (d < length (now marks)) × (0 < length (now queue)) ⌝ }
+    ensures { λ _. ⌜ (now (marks .exit) ≡ set (replicate (length (now (marks .entry))) 0) d 1) × (now (queue .exit) ≡ set (now (queue .entry)) 0 d) ⌝ }
+{
+    let mut i = 0;
+    while i < marks.len() {
+        marks[i] = 0;
+        i += 1;
+    }
+    marks[d as usize] = 1;
+    queue[0] = d;
+}
+
+// The dart y gets the mark and goes behind the queue's words, if it has no mark yet.
+fn meet(marks: &mut [u8], queue: &mut [u32], tail: usize, mark: u8, y: u32) -> usize
+    requires { ⌜ (y < length (now marks)) × (getD (now marks) y 0 ≡ 0 → tail < length (now queue)) ⌝ }
+    ensures { λ r. ⌜ searchOf (now (marks .exit)) (now (queue .exit)) r ≡ meet mark y (searchOf (now (marks .entry)) (now (queue .entry)) tail) ⌝ }
+{
+    if marks[y as usize] == 0 {
+        marks[y as usize] = mark;
+        queue[tail] = y;
+        tail + 1
+    } else {
+        tail
+    }
+}
+
+// Link i of the dart x.
+fn link(table: &[u32], i: u32, x: u32) -> u32
+    requires { ⌜ (Linked (now table)) × (i < 4) × (live (now table) x ≡ true) ⌝ }
+    ensures { λ r. ⌜ r ≡ link (now (table .entry)) i x ⌝ }
+{
+    table[(4 * x + i) as usize]
+}
+
+// The opposite edge of x: 1.0.1.
+fn opposite_edge(table: &[u32], x: u32) -> u32
+    requires { ⌜ (Linked (now table)) × (live (now table) x ≡ true) ⌝ }
+    ensures { λ r. ⌜ r ≡ walk (now (table .entry)) (1 ∷ 0 ∷ 1 ∷ []) x ⌝ }
+{
+    let y = link(table, 1, x);
+    let z = link(table, 0, y);
+    link(table, 1, z)
+}
+
+// The queue's dart at head goes its steps, and the darts that they lead to are met.
+fn expand(table: &[u32], marks: &mut [u8], queue: &mut [u32], mask: u32, across: bool, mark: u8, head: usize, from: usize) -> usize
+    requires { ⌜ (Linked (now table)) × (Room (now table) (now marks) (now queue) from) × (head < from) × (0 < mark) × (live (now table) (getD (now queue) head 0) ≡ true) ⌝ }
+    ensures { λ r. ⌜ searchOf (now (marks .exit)) (now (queue .exit)) r ≡ meetSteps (now (table .entry)) mask across mark (getD (now (queue .entry)) head 0) (searchOf (now (marks .entry)) (now (queue .entry)) from) ⌝ }
+{
+    let x = queue[head];
+    let mut tail = from;
+    let mut i = 0;
+    while i < 4 {
+        if (mask >> i) % 2 == 1 {
+            let y = link(table, i, x);
+            tail = meet(marks, queue, tail, mark, y);
+        }
+        i += 1;
+    }
+    if across {
+        let y = opposite_edge(table, x);
+        tail = meet(marks, queue, tail, mark, y);
+    }
+    tail
+}
+
+// What is reached from the queue's first darts, by the links that the mask permits, and by 1.0.1 if `across`.
+fn flood(table: &[u32], marks: &mut [u8], queue: &mut [u32], mask: u32, across: bool, mark: u8, seeds: usize) -> usize
+    requires { ⌜ (Linked (now table)) × (Seeds (now table) (now marks) (now queue) seeds) × (0 < mark) ⌝ }
+    ensures { λ r. ⌜ Flooded (now (table .entry)) (floodWords mask across) mark (now (marks .entry)) (now (queue .entry)) seeds (now (marks .exit)) (now (queue .exit)) r ⌝ }
+{
+    let mut head = 0;
+    let mut tail = seeds;
+    while head < tail {
+        tail = expand(table, marks, queue, mask, across, mark, head, tail);
+        head += 1;
+    }
+    tail
+}
