@@ -278,11 +278,14 @@ module _ (t : List ℕ) (L : Linked t) (mask : ℕ) (across : Bool) where
         new : getD (s .marks) y 0 ≡ 0 → Turn (meet k y s) head x × Found (meet k y s .marks) y
         new e =
             let a = f .ahead in
-            rw (meet-new k y s e) (record {
-              state = rw (meet-new k y s e) at met;
-              ahead = omega arith;
-              same = getD-set-other (s .queue) (s .found) head y 0 (λ q. omega arith) ∙ f .same;
-            }, store-own (s .marks) y k (rw (f .state .long) y-in) k0)
+            rw (meet-new k y s e) (
+              record {
+                state = rw (meet-new k y s e) at met;
+                ahead = omega arith;
+                same = getD-set-other (s .queue) (s .found) head y 0 (λ q. omega arith) ∙ f .same;
+              },
+              store-own (s .marks) y k (rw (f .state .long) y-in) k0,
+            )
 
     links-go : (s : Search) (head x i : ℕ) → i ≤ 4 → Turn s head x
         → Turn (meetLinks t mask k x i s) head x

@@ -1,3 +1,5 @@
 pub mod Words
+pub mod Masks
 pub mod Marks
 pub mod Flooding
+pub mod Gathering

@@ -1,30 +1,27 @@
--- Words of links as sets: closures under the same words and from the same seeds are equal (`closure-same`), and the words
--- of a flood are those of an orbit, a side, a sheet or a cell where the mask's bits are (`Permits`).
-use Prim.Native.Nat.{ℕ, suc, _+_, _/_, _%_, _^_, _≤_, _<_}
-use mathlib.Core.Path.{_≡_, refl, sym, ap, _∙_}
+-- Words of links as sets: closures under the same words and from the same seeds are equal (`closure-same`); and which words
+-- a flood goes.
+use Prim.Native.Nat.{ℕ, _<_}
+use mathlib.Core.Path.{_≡_, refl, ap}
 use mathlib.Core.Logic.{_⊎_, inl, inr, ⊎-elim}
-use mathlib.Core.Bool.{Bool, true, false, _&&_, _||_}
+use mathlib.Core.Bool.{Bool, true, false}
 use mathlib.Core.List.{List, [], _∷_, List·Memᴰ as In, List·Memᴰ·not-nil as not-nil, List·Memᴰ·cases-cons as in-cons}
 use mathlib.Core.List.{List·Memᴰ·head as here, List·Memᴰ·tail as there}
 use native.Mathlib.Omega.{arith}
-use lib.Dec.{eqb, leb, ltb}
-use borrow.Author.Tests.{leb-true, le-leb, ne-eqb}
 use Rattle.model.specs.Table.{slots, walk}
-use Rattle.model.specs.Reach.{steps, closure, links, linksFrom}
+use Rattle.model.specs.Reach.{steps, closure, links}
 use Rattle.model.specs.Orbit.{bit}
-use Rattle.model.specs.Sheet.{sheetWords}
 use Rattle.model.specs.Meaning.Sets.{Least}
-use Rattle.model.specs.Meaning.Maps.{Dim}
-use Rattle.model.proofs.Lists.Scan.{and-l, and-r, and-i, if-lt}
 use Rattle.model.proofs.Sets.Closure.{closure-least, least-unique}
-use Rattle.model.proofs.Maps.Dim.{two-cases, dim-small}
 use Rattle.model.proofs.Sewing.Side.{word-in, word-of}
-use Rattle.reach.specs.Search.{floodWords, Permits}
+use Rattle.reach.specs.Search.{floodWords}
 
 -- the same elements
 pub record Same {A : Type 0} (a b : List A) : Type 0 where
   pub to : (x : A) → In x a → In x b
   pub of : (x : A) → In x b → In x a
+
+pub same-refl : {A : Type 0} (a : List A) → Same a a
+same-refl a = record { to = λ x i. i; of = λ x i. i }
 
 -- ---- steps by words
 
@@ -88,51 +85,3 @@ module _ (mask : ℕ) (across : Bool) where
   pub across-word : across ≡ true → In (1 ∷ 0 ∷ 1 ∷ []) (floodWords mask across)
   unfolding floodWords
   across-word e = rw (e, floodWords) (here refl)
-
--- ---- the mask of each set of links
-
-same-swap : {A : Type 0} (x y : A) (a b : List A) → Same a (y ∷ b) → Same (x ∷ a) (y ∷ x ∷ b)
-same-swap x y a b s = record {
-  to = λ z i. ⊎-elim (λ e. there (here e)) (λ j. ⊎-elim here (λ k. there (there k)) (in-cons (s .to z j))) (in-cons i);
-  of = λ z i. ⊎-elim (λ e. there (s .of z (here e))) (λ j. ⊎-elim here (λ k. there (s .of z (there k))) (in-cons j)) (in-cons i);
-}
-
-module _ (mask n : ℕ) (p : ℕ → Bool) (n3 : n ≤ 3) (h : Permits mask n p) where
-  pub links-same : Same (links 3 (bit mask)) (links n p)
-  unfolding links
-  links-same = record { to = to; of = of }
-    where
-      to : (w : List ℕ) → In w (links 3 (bit mask)) → In w (links n p)
-      to w i =
-          let r = word-of (bit mask) 4 0 w i in
-          let l = r .1 in
-          let e = sym (h (r .0) l) ∙ r .2 in
-          let k = leb-true (r .0) n (and-l _ _ e) in
-          rw (r .3) (word-in p (suc n) 0 (r .0) (omega arith) (omega arith) (and-r (leb (r .0) n) _ e))
-
-      of : (w : List ℕ) → In w (links n p) → In w (links 3 (bit mask))
-      of w i =
-          let r = word-of p (suc n) 0 w i in
-          let l = r .1 in
-          let e = h (r .0) (omega arith) ∙ and-i (le-leb (r .0) n (omega arith)) (r .2) in
-          rw (r .3) (word-in (bit mask) 4 0 (r .0) (omega arith) (omega arith) e)
-
-pub orbit-permits : (n mask : ℕ) → Dim n → mask < 2 ^ (n + 1) → Permits mask n (bit mask)
-unfolding bit
-orbit-permits n mask n23 = two-cases n n23 (λ n. mask < 2 ^ (n + 1) → Permits mask n (bit mask)) (λ h j l. two h j l) (λ h j l. rw (le-leb j 3 (omega arith)))
-  where
-    two : mask < 8 → (j : ℕ) → j < 4 → bit mask j ≡ (leb j 2 && bit mask j)
-    two h j l = if-lt j 3 (λ k. rw (le-leb j 2 (omega arith)))
-        (λ k. let e : j ≡ 3 = omega arith in rw e (ne-eqb (mask / 8 % 2) 1 (λ q. omega arith)))
-
--- the sheet's words: the links 0 and 2..n, and 1.0.1
-pub sheet-same : (n mask : ℕ) → Dim n → Permits mask n (λ j. eqb j 0 || leb 2 j) → Same (floodWords mask true) (sheetWords n)
-unfolding floodWords sheetWords links linksFrom
-sheet-same n mask n23 h =
-    same-swap (1 ∷ 0 ∷ 1 ∷ []) (0 ∷ []) (links 3 (bit mask)) (links n (λ j. leb 2 j)) (rw (← split) (links-same mask n q (dim-small n n23) h))
-  where
-    q : ℕ → Bool
-    q j = eqb j 0 || leb 2 j
-
-    split : links n q ≡ (0 ∷ []) ∷ links n (λ j. leb 2 j)
-    split = two-cases n n23 (λ n. links n q ≡ (0 ∷ []) ∷ links n (λ j. leb 2 j)) refl refl

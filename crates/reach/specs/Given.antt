@@ -26,6 +26,13 @@ pub record Linked (t : List ℕ) : Type 0 where
   pub few : slots t ≤ 65536
   pub goes : (x i : ℕ) → live t x ≡ true → i < 4 → live t (link t i x) ≡ true
 
+-- what a flood from d alone asks
+pub record Ready (t m q : List ℕ) (d : ℕ) : Type 0 where
+  pub linked : Linked t
+  pub long : length m ≡ slots t
+  pub room : slots t ≤ length q
+  pub start : live t d ≡ true
+
 -- marks for each slot, and room for the slots that have none behind the r words of the queue
 pub record Room (t m q : List ℕ) (r : ℕ) : Type 0 where
   pub long : length m ≡ slots t

@@ -86,9 +86,9 @@ pub record Flooded (t : List ℕ) (ws : List (List ℕ)) (k : ℕ) (m q : List �
   pub listed : Listed m′ q′ r
   pub stays : (j : ℕ) → j < s → getD q′ j 0 ≡ getD q j 0
 
--- a flood from d alone, with the mark 1
-pub record Gathered (t : List ℕ) (ws : List (List ℕ)) (d : ℕ) (m q : List ℕ) (r : ℕ) : Type 0 where
-  pub marks : m ≡ closure t ws (d ∷ [])
-  pub size : r ≡ count 1 (closure t ws (d ∷ []))
+-- marks and queue have the set c and nothing else, d first, and r is its size
+pub record Gathered (c : List ℕ) (d : ℕ) (m q : List ℕ) (r : ℕ) : Type 0 where
+  pub marks : m ≡ c
+  pub size : r ≡ count 1 c
   pub listed : Listed m q r
   pub first : getD q 0 0 ≡ d

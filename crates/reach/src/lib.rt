@@ -1,17 +1,18 @@
 // What is reached from a dart: orbit, side and sheet, by one flood with a queue that the caller lends.
 ghost use mathlib.Core.Path.{_≡_};
-ghost use mathlib.Core.Bool.{Bool, true, false, _||_};
+ghost use mathlib.Core.Bool.{true, false, not};
 ghost use mathlib.Core.List.{[], _∷_};
 ghost use Prim.Native.Nat.{ℕ, _+_, _*_, _^_, _<_, _≤_};
 ghost use lib.ListN.{length, getD, set, replicate};
-ghost use lib.Dec.{leb};
 ghost use Rattle.model.specs.Lists.{count};
 ghost use Rattle.model.specs.Table.{slots, link, live, walk};
+ghost use Rattle.model.specs.Reach.{closure};
 ghost use Rattle.model.specs.Orbit.{bit, orbit};
 ghost use Rattle.model.specs.Sew.{side};
 ghost use Rattle.model.specs.Sheet.{sheet, sheetMarks};
-ghost use Rattle.reach.specs.Search.{searchOf, meet, meetSteps, floodWords, Found, Listed, Flooded, Gathered};
-ghost use Rattle.reach.specs.Given.{Given, Linked, Room, Seeds};
+ghost use Rattle.model.specs.Meaning.Maps.{Dim};
+ghost use Rattle.reach.specs.Search.{Permits, searchOf, meet, meetSteps, floodWords, Found, Listed, Flooded, Gathered};
+ghost use Rattle.reach.specs.Given.{Given, Linked, Ready, Room, Seeds};
 
 // All marks 0 but for d's, and d first in the queue.
 fn begin(marks: &mut [u8], queue: &mut [u32], d: u32)
@@ -60,7 +61,16 @@ fn opposite_edge(table: &[u32], x: u32) -> u32
 }
 
 // The queue's dart at head goes its steps, and the darts that they lead to are met.
-fn expand(table: &[u32], marks: &mut [u8], queue: &mut [u32], mask: u32, across: bool, mark: u8, head: usize, from: usize) -> usize
+fn expand(
+    table: &[u32],
+    marks: &mut [u8],
+    queue: &mut [u32],
+    mask: u32,
+    across: bool,
+    mark: u8,
+    head: usize,
+    from: usize,
+) -> usize
     requires { ⌜ (Linked (now table)) × (Room (now table) (now marks) (now queue) from) × (head < from) × (0 < mark) × (live (now table) (getD (now queue) head 0) ≡ true) ⌝ }
     ensures { λ r. ⌜ searchOf (now (marks .exit)) (now (queue .exit)) r ≡ meetSteps (now (table .entry)) mask across mark (getD (now (queue .entry)) head 0) (searchOf (now (marks .entry)) (now (queue .entry)) from) ⌝ }
 {
@@ -82,7 +92,15 @@ fn expand(table: &[u32], marks: &mut [u8], queue: &mut [u32], mask: u32, across:
 }
 
 // What is reached from the queue's first darts, by the links that the mask permits, and by 1.0.1 if `across`.
-fn flood(table: &[u32], marks: &mut [u8], queue: &mut [u32], mask: u32, across: bool, mark: u8, seeds: usize) -> usize
+fn flood(
+    table: &[u32],
+    marks: &mut [u8],
+    queue: &mut [u32],
+    mask: u32,
+    across: bool,
+    mark: u8,
+    seeds: usize,
+) -> usize
     requires { ⌜ (Linked (now table)) × (Seeds (now table) (now marks) (now queue) seeds) × (0 < mark) ⌝ }
     ensures { λ r. ⌜ Flooded (now (table .entry)) (floodWords mask across) mark (now (marks .entry)) (now (queue .entry)) seeds (now (marks .exit)) (now (queue .exit)) r ⌝ }
 {
@@ -93,4 +111,60 @@ fn flood(table: &[u32], marks: &mut [u8], queue: &mut [u32], mask: u32, across: 
         head += 1;
     }
     tail
+}
+
+// What is reached from d alone, with the mark 1; the count of it.
+fn gather(
+    table: &[u32],
+    marks: &mut [u8],
+    queue: &mut [u32],
+    mask: u32,
+    across: bool,
+    d: u32,
+) -> u32
+    requires { ⌜ Ready (now table) (now marks) (now queue) d ⌝ }
+    ensures { λ r. ⌜ Gathered (closure (now (table .entry)) (floodWords mask across) (d ∷ [])) d (now (marks .exit)) (now (queue .exit)) r ⌝ }
+{
+    begin(marks, queue, d);
+    flood(table, marks, queue, mask, across, 1, 1) as u32
+}
+
+// The links 0..n but those of the mask `out`.
+fn links_but(n: u32, out: u32) -> u32
+    requires { ⌜ (Dim n) × (out < 64) ⌝ }
+    ensures { λ r. ⌜ Permits r n (λ j. not (bit out j)) ⌝ }
+{
+    ((2 << n) - 1) & !out
+}
+
+// Marks 1 at the darts reached from d by the links that the mask permits, 0 elsewhere; the count of the darts reached.
+pub fn orbit(n: u32, table: &[u32], marks: &mut [u8], queue: &mut [u32], mask: u32, d: u32) -> u32
+    requires { ⌜ (Given n (now table) (now marks) (now queue) d) × (mask < 2 ^ (n + 1)) ⌝ }
+    ensures { λ r. ⌜ (now (marks .exit) ≡ orbit n (now (table .entry)) mask d) × (r ≡ count 1 (orbit n (now (table .entry)) mask d)) ⌝ }
+{
+    gather(table, marks, queue, mask, false, d)
+}
+
+// Marks 1 at the darts of d's side of index i, 0 elsewhere; their count. The queue lists them, d first.
+pub fn side(n: u32, table: &[u32], marks: &mut [u8], queue: &mut [u32], i: u32, d: u32) -> u32
+    requires { ⌜ (Given n (now table) (now marks) (now queue) d) × (i ≤ n) ⌝ }
+    ensures { λ r. ⌜ Gathered (side n (now (table .entry)) i d) d (now (marks .exit)) (now (queue .exit)) r ⌝ }
+{
+    // not i-1, i, i+1
+    let mask = links_but(n, (7 << i) >> 1);
+    gather(table, marks, queue, mask, false, d)
+}
+
+// Marks 1 at the darts of d's sheet, 2 at the other darts of its cells, 0 elsewhere; the count of the sheet's darts.
+pub fn sheet(n: u32, table: &[u32], marks: &mut [u8], queue: &mut [u32], d: u32) -> u32
+    requires { ⌜ Given n (now table) (now marks) (now queue) d ⌝ }
+    ensures { λ r. ⌜ (now (marks .exit) ≡ sheetMarks n (now (table .entry)) (sheet n (now (table .entry)) d)) × (r ≡ count 1 (sheet n (now (table .entry)) d)) ⌝ }
+{
+    // not 1
+    let along = links_but(n, 2);
+    let size = gather(table, marks, queue, along, true, d);
+    // not n
+    let within = links_but(n, 1 << n);
+    flood(table, marks, queue, within, false, 2, size as usize);
+    size
 }

@@ -30,9 +30,11 @@ loop-less c = omega arith
 loop-again : tie.Need-loop-again Inv-loop μ-loop
 loop-again c =
     let a = c .before in
-    let i = a .loop .i in
-    (omega arith, ap (λ (l : List ℕ). set l i 0) (a .loop .inv .1) ∙ fill-more i 0 (a .before .args .marks .now) (omega arith),
-    length-set (a .loop .marks) i 0 ∙ a .loop .inv .2)
+    let i = a .loop .i in (
+      omega arith,
+      ap (λ (l : List ℕ). set l i 0) (a .loop .inv .1) ∙ fill-more i 0 (a .before .args .marks .now) (omega arith),
+      length-set (a .loop .marks) i 0 ∙ a .loop .inv .2,
+    )
 
 slice-write-marks-2 : tie.Need-slice-write-marks-2 Inv-loop μ-loop
 slice-write-marks-2 c =

@@ -102,11 +102,11 @@ loop-again c =
     let i = a .loop .i in
     ⊎-elim
     (λ w.
-      let gone = w .1 in
-      let met = w .4 in
-      rw (w .9, w .10, w .11)
-      (going-on t m k (dart p) (first p) (now a) i (a .loop .inv) (searchOf (met .last .0) (met .last .1 .0) (met .result)) l (eq-eqb _ _ (w .0 .taken))
-      (link-in p i l) (p .pre .3) (met .ensures ∙ ap (λ (y : ℕ). meet k y (now a)) (gone .ensures))))
+    let gone = w .1 in
+    let met = w .4 in
+    rw (w .9, w .10, w .11)
+    (going-on t m k (dart p) (first p) (now a) i (a .loop .inv) (searchOf (met .last .0) (met .last .1 .0) (met .result)) l (eq-eqb _ _ (w .0 .taken))
+    (link-in p i l) (p .pre .3) (met .ensures ∙ ap (λ (y : ℕ). meet k y (now a)) (gone .ensures))))
     (λ w. rw (w .1, w .2, w .3) (going-past t m k (dart p) (first p) (now a) i (a .loop .inv) l (ne-eqb _ _ (w .0 .left))))
     (c .if1 .came)
 
