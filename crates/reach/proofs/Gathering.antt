@@ -1,8 +1,9 @@
--- A flood from one dart: its seeds and what it gathers; and the darts gathered as the seeds of another flood.
-use Prim.Native.Nat.{ℕ, zero, suc, _+_, _≤_, _<_}
+-- A flood from one dart: its seeds (`one-seed`) and what it gathers (`gathered`); and the darts gathered as the seeds of another
+-- flood (`gathered-seeds`, `overlaid`).
+use Prim.Native.Nat.{ℕ, _≤_, _<_}
 use mathlib.Core.Path.{_≡_, refl, sym, ap, _∙_}
-use mathlib.Core.Bool.{Bool, true}
-use mathlib.Core.List.{List, [], _∷_, List·Memᴰ as In, List·Memᴰ·head as here}
+use mathlib.Core.Bool.{true}
+use mathlib.Core.List.{List, [], _∷_, List·Memᴰ·head as here}
 use native.Mathlib.Omega.{arith}
 use lib.ListN.{length, getD, set, take, replicate, length-set, length-replicate}
 use lib.Seq.{getD-set-same}
@@ -16,15 +17,16 @@ use Rattle.model.proofs.Lists.Ones.{ones-of, ones-in}
 use Rattle.model.proofs.Sets.Closure.{closure-least}
 use Rattle.model.proofs.Maps.Dim.{dim-small}
 use Rattle.model.proofs.Maps.Rules.{live-in, map-of}
-use Rattle.reach.specs.Search.{Found, Listed, Flooded, Gathered, lay}
-use Rattle.reach.specs.Given.{Given, Linked, Ready, Seeds}
+use Rattle.reach.specs.Search.{Flooded, Gathered, lay}
+use Rattle.reach.specs.Given.{Given, Ready, Seeds}
 use Rattle.reach.proofs.Words.{Same, closure-same}
-use Rattle.reach.proofs.Marks.{alone, alone-own, alone-only, alone-count, found-marked, marked-found, count-bits, lay-alone, lay-overlay}
+use Rattle.reach.proofs.Marks.{alone, alone-own, alone-only, alone-count, found-marked, marked-found}
+use Rattle.reach.proofs.Marks.{count-bits, lay-alone, lay-overlay}
 use Rattle.reach.proofs.Flooding.{take-at, at-take}
 
 -- what 01's checks say is what a flood asks
-pub given-ready : (n : ℕ) (t m q : List ℕ) (d : ℕ) → Given n t m q d → Ready t m q d
-given-ready n t m q d g = record {
+pub given-ready : {n : ℕ} {t m q : List ℕ} {d : ℕ} → Given n t m q d → Ready t m q d
+given-ready {n} {t} g = record {
   linked = record {
     fits = g .fits;
     few = g .few;
@@ -41,82 +43,100 @@ take-first : (q : List ℕ) (d : ℕ) → 0 < length q → take 1 (set q 0 d) �
 take-first [] d h = absurd (omega arith)
 take-first (x ∷ q) d h = refl
 
-module _ (t : List ℕ) (L : Linked t) (q : List ℕ) (d : ℕ) (room : slots t ≤ length q) (h : live t d ≡ true) where
+module _ {t m q : List ℕ} {d : ℕ} (R : Ready t m q d) where
   d-in : d < slots t
-  d-in = live-in t d (L .fits) h
+  d-in = live-in t d (R .linked .fits) (R .start)
 
   q-some : 0 < length q
-  q-some = let l = d-in in omega arith
+  q-some = let l = d-in in let r = R .room in omega arith
+
+  -- what `begin` asks, and its marks
+  pub begin-asks : (d < length m) × (0 < length q)
+  begin-asks = (rw (R .long) d-in, q-some)
+
+  pub begun-marks : set (replicate (length m) 0) d 1 ≡ alone (slots t) d
+  begun-marks = ap (λ (n : ℕ). alone n d) (R .long)
+
+  queued : getD (set q 0 d) 0 0 ≡ d
+  queued = getD-set-same q 0 d 0 q-some
 
   seed : Seeds t (alone (slots t) d) (set q 0 d) 1
   seed = record {
     long = length-set (replicate (slots t) 0) d 1 ∙ length-replicate (slots t) 0;
-    room = rw length-set room;
+    room = rw length-set (R .room);
     listed = record {
       number = alone-count (slots t) d d-in;
-      inside = λ j b. let e : j ≡ 0 = omega arith in rw (e, first) (marked-found (alone (slots t) d) d (alone-own (slots t) d d-in));
-      all = λ x f. (0, omega arith, first ∙ sym (alone-only (slots t) d d-in x f));
+      inside = λ j b.
+          let e : j ≡ 0 = omega arith in
+          rw (e, queued) (marked-found (alone (slots t) d) d (alone-own (slots t) d d-in));
+      all = λ x f. (0, omega arith, queued ∙ sym (alone-only (slots t) d d-in x f));
       once = λ i j a b. absurd (omega arith);
     };
-    lives = λ x f. rw (alone-only (slots t) d d-in x f) h;
+    lives = λ x f. rw (alone-only (slots t) d d-in x f) (R .start);
   }
-    where
-      first : getD (set q 0 d) 0 0 ≡ d
-      first = getD-set-same q 0 d 0 q-some
 
-  -- d alone has a mark and stands in the queue
-  module _ (m₁ q₁ : List ℕ) (em : m₁ ≡ alone (slots t) d) (eq : q₁ ≡ set q 0 d) where
+  -- m₁ and q₁ are what `begin` leaves
+  module _ (m₁ q₁ : List ℕ) (em : m₁ ≡ set (replicate (length m) 0) d 1) (eq : q₁ ≡ set q 0 d) where
     pub one-seed : Seeds t m₁ q₁ 1
-    one-seed = rw (em, eq) seed
+    one-seed = rw (em, begun-marks, eq) seed
 
-    pub gathered : (ws : List (List ℕ)) (m q′ : List ℕ) (r : ℕ) → Flooded t ws 1 m₁ q₁ 1 m q′ r → Gathered (closure t ws (d ∷ [])) d m q′ r
-    gathered ws m q′ r f =
-        record { marks = is; size = size; listed = f .listed; first = f .stays 0 (omega arith) ∙ rw eq (getD-set-same q 0 d 0 q-some) }
+    pub gathered : {ws : List (List ℕ)} {m′ q′ : List ℕ} {r : ℕ} → Flooded t ws 1 m₁ q₁ 1 m′ q′ r
+        → Gathered (closure t ws (d ∷ [])) d m′ q′ r
+    gathered {ws} {m′} {q′} {r} f =
+        record { marks = is; size = size; listed = f .listed; first = f .stays 0 (omega arith) ∙ rw eq queued }
       where
-        c : Least (steps t ws) (slots t) (d ∷ []) (closure t ws (d ∷ []))
-        c = closure-least t ws (d ∷ [])
+        c : List ℕ
+        c = closure t ws (d ∷ [])
 
-        is : m ≡ closure t ws (d ∷ [])
-        is = rw (em, eq, take-first q d q-some) at (f .marks) ∙ sym (lay-alone (slots t) d (closure t ws (d ∷ [])) d-in (c .long) (c .bits) (c .holds d (here refl) d-in))
+        least : Least (steps t ws) (slots t) (d ∷ []) c
+        least = closure-least t ws (d ∷ [])
 
-        size : r ≡ count 1 (closure t ws (d ∷ []))
-        size = let n = rw is at (f .listed .number) in let b = count-bits (closure t ws (d ∷ [])) (c .bits) in omega arith
+        is : m′ ≡ c
+        is = rw (em, begun-marks, eq, take-first q d q-some) at (f .marks)
+            ∙ sym (lay-alone (slots t) d c d-in (least .long) (least .bits) (least .holds d (here refl) d-in))
+
+        size : r ≡ count 1 c
+        size = let n = rw is at (f .listed .number) in let b = count-bits c (least .bits) in omega arith
 
 pub gathered-as : {c c′ : List ℕ} {d : ℕ} {m q : List ℕ} {r : ℕ} → c ≡ c′ → Gathered c d m q r → Gathered c′ d m q r
 gathered-as e g = rw e at g
 
 -- ---- what is gathered, as seeds
 
-module _ (t : List ℕ) (ws : List (List ℕ)) (d : ℕ) (m q : List ℕ) (r : ℕ) (g : Gathered (closure t ws (d ∷ [])) d m q r) where
-  c : Least (steps t ws) (slots t) (d ∷ []) (closure t ws (d ∷ []))
-  c = closure-least t ws (d ∷ [])
-
+module _ (t : List ℕ) (ws : List (List ℕ)) {d : ℕ} {m q : List ℕ} {r : ℕ} (room : slots t ≤ length q)
+    (g : Gathered (closure t ws (d ∷ [])) d m q r) where
   bits : Bits m
-  bits = rw (g .marks) (c .bits)
+  bits = rw (g .marks) (closure-least t ws (d ∷ []) .bits)
 
   long : length m ≡ slots t
-  long = rw (g .marks) (c .long)
+  long = rw (g .marks) (closure-least t ws (d ∷ []) .long)
 
-  module _ (room : slots t ≤ length q) where
-    pub gathered-seeds : ((x : ℕ) → Marked (closure t ws (d ∷ [])) x → live t x ≡ true) → Seeds t m q r
-    gathered-seeds h = record { long = long; room = room; listed = g .listed; lives = λ x f. h x (rw (g .marks) at (found-marked m x bits f)) }
+  pub gathered-seeds : ((x : ℕ) → Marked (closure t ws (d ∷ [])) x → live t x ≡ true) → Seeds t m q r
+  gathered-seeds h = record {
+    long = long;
+    room = room;
+    listed = g .listed;
+    lives = λ x f. h x (rw (g .marks) at (found-marked m x bits f));
+  }
 
-    -- the queue has the darts of the set
-    gathered-ones : Same (take r q) (ones m)
-    gathered-ones = record {
-      to = λ x i. let j = take-at r q x i in ones-in m x (found-marked m x bits (rw (j .2) at (g .listed .inside (j .0) (j .1))));
-      of = λ x i. let j = g .listed .all x (marked-found m x (ones-of m x i)) in rw (j .2) at (at-take r q (j .0) (j .1) fits);
-    }
-      where
-        fits : r ≤ length q
-        fits = let n = g .listed .number in let l = long in omega arith
+  -- the queue has the darts of the set
+  gathered-ones : Same (take r q) (ones m)
+  gathered-ones = record {
+    to = λ x i. let j = take-at r q x i in ones-in m x (found-marked m x bits (rw (j .2) at (g .listed .inside (j .0) (j .1))));
+    of = λ x i. let j = g .listed .all x (marked-found m x (ones-of m x i)) in rw (j .2) at (at-take r q (j .0) (j .1) fits);
+  }
+    where
+      fits : r ≤ length q
+      fits = let n = g .listed .number in let l = long in omega arith
 
-    -- a second flood, with the mark 2, by other words
-    pub overlaid : (vs us : List (List ℕ)) (m′ q′ : List ℕ) (r′ : ℕ) → Same vs us → Flooded t vs 2 m q r m′ q′ r′ → m′ ≡ overlay m (closure t us (ones m))
-    overlaid vs us m′ q′ r′ s f =
-        f .marks ∙ ap (lay 2 m) (closure-same t vs us (take r q) (ones m) s gathered-ones)
-        ∙ sym (lay-overlay m (closure t us (ones m)) (long ∙ sym (closure-least t us (ones m) .long)) bits)
+  -- a second flood, with the mark 2, by the words us
+  pub overlaid : {vs us : List (List ℕ)} {m′ q′ : List ℕ} {r′ : ℕ} → Same vs us → Flooded t vs 2 m q r m′ q′ r′
+      → m′ ≡ overlay m (closure t us (ones m))
+  overlaid {vs} {us} s f =
+      f .marks ∙ ap (lay 2 m) (closure-same t vs us (take r q) (ones m) s gathered-ones)
+      ∙ sym (lay-overlay m (closure t us (ones m)) (long ∙ sym (closure-least t us (ones m) .long)) bits)
 
-pub sheet-marks : (n : ℕ) (t s m m′ : List ℕ) → m ≡ s → m′ ≡ overlay m (closure t (cellWords n) (ones m)) → m′ ≡ sheetMarks n t s
+pub sheet-marks : (n : ℕ) (t : List ℕ) {s m m′ : List ℕ} → m ≡ s → m′ ≡ overlay m (closure t (cellWords n) (ones m))
+    → m′ ≡ sheetMarks n t s
 unfolding sheetMarks
-sheet-marks n t s m m′ e h = rw e at h
+sheet-marks n t e h = rw e at h

@@ -1,8 +1,8 @@
 -- Lists of marks: how many are 0 or 1, a store in them, and what a flood lays over them.
-use Prim.Native.Nat.{ℕ, zero, suc, _+_, _≤_, _<_}
+use Prim.Native.Nat.{ℕ, zero, suc, _+_, _<_}
 use mathlib.Core.Path.{_≡_, refl, sym, ap, _∙_}
-use mathlib.Core.Logic.{_⊎_, inl, inr, ⊎-elim, _≢_}
-use mathlib.Core.Bool.{Bool, true, false}
+use mathlib.Core.Logic.{⊎-elim, _≢_}
+use mathlib.Core.Bool.{true, false}
 use mathlib.Core.List.{List, [], _∷_}
 use native.Mathlib.Omega.{arith}
 use lib.ListN.{length, getD, set, replicate, length-set, length-replicate, List·getD-eq-default}
@@ -120,7 +120,8 @@ over-lay k m c r o =
   where
     at : (x : ℕ) → getD r x 0 ≡ laid k m c x
     at x = if-eq (getD m x 0) 0
-        (λ e. if-eq (getD c x 0) 1 (λ h. o .new x e h ∙ sym (laid-new k m c x e h)) (λ h. o .none x e h ∙ sym (laid-none k m c x e h)))
+        (λ e. if-eq (getD c x 0) 1 (λ h. o .new x e h ∙ sym (laid-new k m c x e h))
+        (λ h. o .none x e h ∙ sym (laid-none k m c x e h)))
         (λ e. o .kept x e ∙ sym (laid-kept k m c x e))
 
 -- laid over d's mark alone: the set itself
@@ -137,7 +138,8 @@ lay-alone n d c h l b own = over-lay 1 (alone n d) c c (record {
 layer : ℕ → ℕ → ℕ
 layer u v = elim (eqb u 1) [ true ↦ 1 | false ↦ (elim (eqb v 1) [ true ↦ 2 | false ↦ 0 ]) ]
 
-overlay-at : (a b : List ℕ) (x : ℕ) → length a ≡ length b → x < length a → getD (overlay a b) x 0 ≡ layer (getD a x 0) (getD b x 0)
+overlay-at : (a b : List ℕ) (x : ℕ) → length a ≡ length b → x < length a
+    → getD (overlay a b) x 0 ≡ layer (getD a x 0) (getD b x 0)
 unfolding overlay layer
 overlay-at [] b x l h = absurd (omega arith)
 overlay-at (u ∷ a) [] x l h = absurd (omega arith)

@@ -43,9 +43,12 @@ all-but : (n : ℕ) → Dim n → allBelow 64 (λ out. allBelow 4 (butTest n out
 unfolding allBelow allFrom butTest bit
 all-but n n23 = two-cases n n23 (λ n. allBelow 64 (λ out. allBelow 4 (butTest n out)) ≡ true) refl refl
 
-pub but-permits : (n out : ℕ) → Dim n → out < 64 → Permits (bitAnd (2 * 2 ^ n % 4294967296 - 1) (4294967295 - out)) n (λ j. not (bit out j))
+pub but-permits : (n out : ℕ) → Dim n → out < 64
+    → Permits (bitAnd (2 * 2 ^ n % 4294967296 - 1) (4294967295 - out)) n (λ j. not (bit out j))
 unfolding butTest
-but-permits n out n23 b j l = agree-eq _ _ (below-at (butTest n out) 4 (below-at (λ out. allBelow 4 (butTest n out)) 64 (all-but n n23) out b) j l)
+but-permits n out n23 b j l =
+    let all = below-at (λ out. allBelow 4 (butTest n out)) 64 (all-but n n23) out b in
+    agree-eq _ _ (below-at (butTest n out) 4 all j l)
 
 -- ---- the words that a mask permits
 
@@ -71,7 +74,8 @@ module _ (mask n : ℕ) (p : ℕ → Bool) (n3 : n ≤ 3) (h : Permits mask n p)
 
 orbit-permits : (n mask : ℕ) → Dim n → mask < 2 ^ (n + 1) → Permits mask n (bit mask)
 unfolding bit
-orbit-permits n mask n23 = two-cases n n23 (λ n. mask < 2 ^ (n + 1) → Permits mask n (bit mask)) (λ h j l. two h j l) (λ h j l. rw (le-leb j 3 (omega arith)))
+orbit-permits n mask n23 =
+    two-cases n n23 (λ n. mask < 2 ^ (n + 1) → Permits mask n (bit mask)) two (λ h j l. rw (le-leb j 3 (omega arith)))
   where
     two : mask < 8 → (j : ℕ) → j < 4 → bit mask j ≡ (leb j 2 && bit mask j)
     two h j l = if-lt j 3 (λ k. rw (le-leb j 2 (omega arith)))
@@ -117,11 +121,13 @@ Far n i = links n (λ j. not (bit (near i) j)) ≡ sideWords n i
 
 far-links : (n i : ℕ) → Dim n → i < 4 → Far n i
 unfolding sideWords links linksFrom bit
-far-links n i n23 = two-cases n n23 (λ n. i < 4 → Far n i) (below-four (Far 2) refl refl refl refl i) (below-four (Far 3) refl refl refl refl i)
+far-links n i n23 =
+    two-cases n n23 (λ n. i < 4 → Far n i) (below-four (Far 2) refl refl refl refl i) (below-four (Far 3) refl refl refl refl i)
 
-pub side-same : (mask n i : ℕ) → Dim n → i ≤ n → Permits mask n (λ j. not (bit (near i) j)) → Same (floodWords mask false) (sideWords n i)
+pub side-same : (mask n i : ℕ) → Dim n → i < 4 → Permits mask n (λ j. not (bit (near i) j))
+    → Same (floodWords mask false) (sideWords n i)
 unfolding floodWords
-side-same mask n i n23 b h = let s = dim-small n n23 in but-same mask n (near i) n23 h (sideWords n i) (far-links n i n23 (omega arith))
+side-same mask n i n23 l h = but-same mask n (near i) n23 h (sideWords n i) (far-links n i n23 l)
 
 same-swap : {A : Type 0} (x y : A) (a b : List A) → Same a (y ∷ b) → Same (x ∷ a) (y ∷ x ∷ b)
 same-swap x y a b s = record {
@@ -132,7 +138,10 @@ same-swap x y a b s = record {
 pub sheet-same : (mask n : ℕ) → Dim n → Permits mask n (λ j. not (bit 2 j)) → Same (floodWords mask true) (sheetWords n)
 unfolding floodWords sheetWords links linksFrom bit
 sheet-same mask n n23 h =
-    same-swap (1 ∷ 0 ∷ 1 ∷ []) (0 ∷ []) (links 3 (bit mask)) (links n (λ j. leb 2 j)) (but-same mask n 2 n23 h ((0 ∷ []) ∷ links n (λ j. leb 2 j)) split)
+    same-swap (1 ∷ 0 ∷ 1 ∷ []) (0 ∷ []) (links 3 (bit mask)) (from-two n) (but-same mask n 2 n23 h ((0 ∷ []) ∷ from-two n) split)
   where
-    split : links n (λ j. not (bit 2 j)) ≡ (0 ∷ []) ∷ links n (λ j. leb 2 j)
-    split = two-cases n n23 (λ n. links n (λ j. not (bit 2 j)) ≡ (0 ∷ []) ∷ links n (λ j. leb 2 j)) refl refl
+    from-two : ℕ → List (List ℕ)
+    from-two n = links n (λ j. leb 2 j)
+
+    split : links n (λ j. not (bit 2 j)) ≡ (0 ∷ []) ∷ from-two n
+    split = two-cases n n23 (λ n. links n (λ j. not (bit 2 j)) ≡ (0 ∷ []) ∷ from-two n) refl refl

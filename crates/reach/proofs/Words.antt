@@ -2,7 +2,7 @@
 -- a flood goes.
 use Prim.Native.Nat.{ℕ, _<_}
 use mathlib.Core.Path.{_≡_, refl, ap}
-use mathlib.Core.Logic.{_⊎_, inl, inr, ⊎-elim}
+use mathlib.Core.Logic.{⊎-elim}
 use mathlib.Core.Bool.{Bool, true, false}
 use mathlib.Core.List.{List, [], _∷_, List·Memᴰ as In, List·Memᴰ·not-nil as not-nil, List·Memᴰ·cases-cons as in-cons}
 use mathlib.Core.List.{List·Memᴰ·head as here, List·Memᴰ·tail as there}
@@ -19,9 +19,6 @@ use Rattle.reach.specs.Search.{floodWords}
 pub record Same {A : Type 0} (a b : List A) : Type 0 where
   pub to : (x : A) → In x a → In x b
   pub of : (x : A) → In x b → In x a
-
-pub same-refl : {A : Type 0} (a : List A) → Same a a
-same-refl a = record { to = λ x i. i; of = λ x i. i }
 
 -- ---- steps by words
 
@@ -59,17 +56,27 @@ closure-same t ws vs a b w s = least-unique (steps t ws) (slots t) a _ _ (closur
       within = λ P hs kept. c .within P (λ x i. hs x (s .of x i)) (λ x y l p i. kept x y l p (steps-to t x vs ws (w .of) y i));
     }
 
+pub closure-words : (t : List ℕ) (seeds : List ℕ) {ws vs : List (List ℕ)} → Same ws vs → closure t ws seeds ≡ closure t vs seeds
+closure-words t seeds {ws} {vs} w = closure-same t ws vs seeds seeds w (record { to = λ x i. i; of = λ x i. i })
+
 -- ---- the words of a flood
 
+-- a word of a flood is a link or the opposite edge
+pub data FloodWord (mask : ℕ) (across : Bool) (w : List ℕ) : Type 0 where
+  by-link : (j : ℕ) → j < 4 → bit mask j ≡ true → w ≡ j ∷ [] → FloodWord mask across w
+  by-edge : across ≡ true → w ≡ 1 ∷ 0 ∷ 1 ∷ [] → FloodWord mask across w
+
 module _ (mask : ℕ) (across : Bool) where
-  pub flood-word : (w : List ℕ) → In w (floodWords mask across)
-      → ((j : ℕ) × (j < 4) × (bit mask j ≡ true) × (w ≡ j ∷ [])) ⊎ ((across ≡ true) × (w ≡ 1 ∷ 0 ∷ 1 ∷ []))
+  pub flood-word : (w : List ℕ) → In w (floodWords mask across) → FloodWord mask across w
   unfolding floodWords links
   flood-word w i = go across i
     where
-      go : (b : Bool) → In w (floodWords mask b) → ((j : ℕ) × (j < 4) × (bit mask j ≡ true) × (w ≡ j ∷ [])) ⊎ ((b ≡ true) × (w ≡ 1 ∷ 0 ∷ 1 ∷ []))
-      go true k = ⊎-elim (λ e. inr (refl, e)) (λ l. inl (word-of (bit mask) 4 0 w l)) (in-cons k)
-      go false k = inl (word-of (bit mask) 4 0 w k)
+      link : {b : Bool} → In w (links 3 (bit mask)) → FloodWord mask b w
+      link k = let r = word-of (bit mask) 4 0 w k in by-link (r .0) (r .1) (r .2) (r .3)
+
+      go : (b : Bool) → In w (floodWords mask b) → FloodWord mask b w
+      go true k = ⊎-elim (λ e. by-edge refl e) link (in-cons k)
+      go false k = link k
 
   pub link-word : (j : ℕ) → j < 4 → bit mask j ≡ true → In (j ∷ []) (floodWords mask across)
   unfolding floodWords links

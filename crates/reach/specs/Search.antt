@@ -1,5 +1,5 @@
--- The flood as the code does it: the marks, and a queue of the darts found; `meet` is one step of it.
--- What it leaves is said by `lay` (the marks) and `Listed` (the queue).
+-- The flood as the code does it: marks, and a queue of the darts found. `meet`, `follow` and `expand` are its steps;
+-- `lay` (the marks) and `Listed` (the queue) say what it leaves.
 use Prim.Native.Nat.{ℕ, zero, suc, _+_, _<_}
 use mathlib.Core.Path.{_≡_}
 use mathlib.Core.Logic.{_≢_}
@@ -12,11 +12,11 @@ use Rattle.model.specs.Table.{link, walk}
 use Rattle.model.specs.Reach.{closure, links, inSet}
 use Rattle.model.specs.Orbit.{bit}
 
--- the words of a flood: link i where bit i of the mask is set, and, where `across` says so, the opposite edge 1.0.1
+-- the words of a flood: link i where bit i of the mask is set, and, if `across`, the opposite edge 1.0.1
 unfoldable pub floodWords : ℕ → Bool → List (List ℕ)
 floodWords mask across = elim across [ true ↦ (1 ∷ 0 ∷ 1 ∷ []) ∷ links 3 (bit mask) | false ↦ links 3 (bit mask) ]
 
--- bit j of the mask, for the links 0..3: j is one of the links 0..n, and passes
+-- of the links 0..3 the mask permits those of 0..n that pass
 abbrev pub Permits : ℕ → ℕ → (ℕ → Bool) → Type 0
 Permits mask n p = (j : ℕ) → j < 4 → bit mask j ≡ (leb j n && p j)
 
@@ -39,21 +39,21 @@ meet k y s =
       | false ↦ s
     ]
 
--- the links below i of x that the mask permits are met, from the lowest
-unfoldable pub meetLinks : List ℕ → ℕ → ℕ → ℕ → ℕ → Search → Search
-meetLinks t mask k x zero s = s
-meetLinks t mask k x (suc i) s =
-    elim (bit mask i) [
-      | true ↦ meet k (link t i x) (meetLinks t mask k x i s)
-      | false ↦ meetLinks t mask k x i s
-    ]
+-- link i of x is met, if the mask permits it
+unfoldable pub follow : List ℕ → ℕ → ℕ → ℕ → ℕ → Search → Search
+follow t mask k x i s = elim (bit mask i) [ true ↦ meet k (link t i x) s | false ↦ s ]
 
--- and after them the opposite edge
-unfoldable pub meetSteps : List ℕ → ℕ → Bool → ℕ → ℕ → Search → Search
-meetSteps t mask across k x s =
+-- the links of x below i, from the lowest
+unfoldable pub followBelow : List ℕ → ℕ → ℕ → ℕ → ℕ → Search → Search
+followBelow t mask k x zero s = s
+followBelow t mask k x (suc i) s = follow t mask k x i (followBelow t mask k x i s)
+
+-- all steps of x: the links, and after them, if `across`, the opposite edge
+unfoldable pub expand : List ℕ → ℕ → Bool → ℕ → ℕ → Search → Search
+expand t mask across k x s =
     elim across [
-      | true ↦ meet k (walk t (1 ∷ 0 ∷ 1 ∷ []) x) (meetLinks t mask k x 4 s)
-      | false ↦ meetLinks t mask k x 4 s
+      | true ↦ meet k (walk t (1 ∷ 0 ∷ 1 ∷ []) x) (followBelow t mask k x 4 s)
+      | false ↦ followBelow t mask k x 4 s
     ]
 
 -- ---- what it leaves
@@ -69,7 +69,7 @@ pub record Listed (m q : List ℕ) (r : ℕ) : Type 0 where
   pub all : (x : ℕ) → Found m x → (j : ℕ) × (j < r) × (getD q j 0 ≡ x)
   pub once : (i j : ℕ) → i < j → j < r → getD q i 0 ≢ getD q j 0
 
--- a mark that is not 0 stays; the other darts of the set c get the mark k
+-- the mark of x: if it is not 0 it stays; else it is k in the set c, and 0 elsewhere
 unfoldable pub laid : ℕ → List ℕ → List ℕ → ℕ → ℕ
 laid k m c x =
     elim (eqb (getD m x 0) 0) [
@@ -80,13 +80,13 @@ laid k m c x =
 unfoldable pub lay : ℕ → List ℕ → List ℕ → List ℕ
 lay k m c = tabulate (length m) (laid k m c)
 
--- a flood from the first s words of the queue, by the words ws, with the mark k
+-- the flood from the first s words of the queue, by the words ws, with the mark k
 pub record Flooded (t : List ℕ) (ws : List (List ℕ)) (k : ℕ) (m q : List ℕ) (s : ℕ) (m′ q′ : List ℕ) (r : ℕ) : Type 0 where
   pub marks : m′ ≡ lay k m (closure t ws (take s q))
   pub listed : Listed m′ q′ r
   pub stays : (j : ℕ) → j < s → getD q′ j 0 ≡ getD q j 0
 
--- marks and queue have the set c and nothing else, d first, and r is its size
+-- the marks are the set c, r is its size, and the queue lists it, d first
 pub record Gathered (c : List ℕ) (d : ℕ) (m q : List ℕ) (r : ℕ) : Type 0 where
   pub marks : m ≡ c
   pub size : r ≡ count 1 c

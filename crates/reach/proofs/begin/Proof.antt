@@ -10,7 +10,8 @@ use Rattle.reach.proofs.begin.Statement.{statement}
 use Rattle.reach.proofs.begin.Tie as tie
 
 abbrev Inv-loop : tie.InvT-loop
-Inv-loop marks₀ queue d i₀ marks i = (i ≤ length marks₀) × (marks ≡ replicate i 0 ++ drop i marks₀) × (length marks ≡ length marks₀)
+Inv-loop marks₀ queue d i₀ marks i =
+    (i ≤ length marks₀) × (marks ≡ replicate i 0 ++ drop i marks₀) × (length marks ≡ length marks₀)
 
 abbrev μ-loop : tie.MeasureT-loop
 μ-loop marks₀ queue d i₀ marks i = length marks₀ - i
@@ -55,7 +56,8 @@ returns c =
     let a = c .before in
     let m = a .before .args .marks .now in
     let e : a .loop .i ≡ length m = omega arith in
-    let z : a .loop .marks ≡ replicate (length m) 0 = a .loop .inv .1 ∙ rw (e, drop-length m) (append-nil (replicate (length m) 0)) in
+    let z : a .loop .marks ≡ replicate (length m) 0 =
+    a .loop .inv .1 ∙ rw (e, drop-length m) (append-nil (replicate (length m) 0)) in
     (ap (λ (l : List ℕ). set l (a .before .args .d) 1) z, refl)
 
 pub begin-spec : {M : Type 1} → statement M

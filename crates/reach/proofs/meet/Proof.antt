@@ -4,7 +4,7 @@ use Prim.Native.Nat.{_<_}
 use lib.ListN.{length}
 use borrow.Author.Needs.{needs}
 use Rattle.reach.specs.Search.{Search, searchOf}
-use Rattle.reach.proofs.Flooding.{meet-new, meet-old}
+use Rattle.reach.proofs.Meeting.{meet-new, meet-old}
 use Rattle.reach.proofs.meet.Statement.{statement}
 use Rattle.reach.proofs.meet.Tie as tie
 

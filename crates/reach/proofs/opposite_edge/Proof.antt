@@ -17,7 +17,9 @@ link-requires-2 : tie.Need-link-requires-2
 link-requires-2 c κs = (c .before .before .pre .0, omega arith, y-live c)
 
 z-live : (c : tie.After-link2) → live (c .before .before .before .args .table .now) (c .link2 .result) ≡ true
-z-live c = rw (c .link2 .ensures) (c .before .before .before .pre .0 .goes (c .before .link .result) 0 (y-live (c .before)) (omega arith))
+z-live c =
+    let a = c .before .before .before in
+    rw (c .link2 .ensures) (a .pre .0 .goes (c .before .link .result) 0 (y-live (c .before)) (omega arith))
 
 link-requires-3 : tie.Need-link-requires-3
 link-requires-3 c κs = (c .before .before .before .pre .0, omega arith, z-live c)

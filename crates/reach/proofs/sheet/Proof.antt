@@ -1,30 +1,30 @@
 -- `reach::sheet` meets its contract.
-use mathlib.Core.Path.{_≡_, ap, _∙_}
-use mathlib.Core.Bool.{true, false}
+use mathlib.Core.Path.{_≡_}
+use mathlib.Core.Bool.{true}
 use mathlib.Core.List.{List, [], _∷_, List·Memᴰ·eq-of-singleton as sole}
 use Prim.Native.Nat.{ℕ, _≤_}
 use native.Mathlib.Omega.{arith}
 use borrow.Author.Needs.{needs}
 use lib.ListN.{length}
-use Rattle.model.specs.Lists.{count}
 use Rattle.model.specs.Table.{slots}
 use Rattle.model.specs.Reach.{closure}
-use Rattle.model.specs.Cell.{cellWords}
 use Rattle.model.specs.Sheet.{sheet}
 use Rattle.model.proofs.Maps.Dim.{dim-small}
 use Rattle.reach.specs.Search.{floodWords}
-use Rattle.reach.specs.Given.{Ready}
-use Rattle.reach.proofs.Words.{closure-same, same-refl}
+use Rattle.reach.proofs.Words.{closure-words}
 use Rattle.reach.proofs.Masks.{top-small, cell-same, sheet-same}
 use Rattle.reach.proofs.Flooding.{closure-live}
-use Rattle.reach.proofs.Gathering.{given-ready, gathered-seeds, overlaid, sheet-marks}
+use Rattle.reach.proofs.Gathering.{given-ready, gathered-as, gathered-seeds, overlaid, sheet-marks}
 use Rattle.reach.proofs.sheet.Statement.{statement}
 use Rattle.reach.proofs.sheet.Tie as tie
 
-ready : (p : tie.Start) → Ready (p .args .table .now) (p .args .marks .now) (p .args .queue .now) (p .args .d)
-ready p = given-ready (p .args .n) (p .args .table .now) (p .args .marks .now) (p .args .queue .now) (p .args .d) (p .pre)
+links-but-requires : tie.Need-links-but-requires
+links-but-requires c κs = search needs
 
--- the sheet has been gathered
+gather-requires : tie.Need-gather-requires
+gather-requires c κs = given-ready (c .before .before .before .before .before .before .pre)
+
+-- where S has been gathered: the function's entry, and the words of S
 abbrev S : Type 0
 S = tie.After-gather
 
@@ -37,18 +37,14 @@ words g = floodWords (g .before .before .before .links-but .result) true
 room : (g : S) → slots (start g .args .table .now) ≤ length (g .gather .last .1 .1 .0)
 room g = let k = g .gather .kept .1 .1 .0 in let r = start g .pre .room in omega arith
 
-is : (g : S) → closure (start g .args .table .now) (words g) (start g .args .d ∷ []) ≡ sheet (start g .args .n) (start g .args .table .now) (start g .args .d)
+-- the set flooded is the sheet
+is : (g : S) → closure (start g .args .table .now) (words g) (start g .args .d ∷ [])
+    ≡ sheet (start g .args .n) (start g .args .table .now) (start g .args .d)
 unfolding sheet
 is g =
     let p = start g in
     let b = g .before .before .before .links-but in
-    closure-same (p .args .table .now) _ _ _ _ (sheet-same (b .result) (p .args .n) (p .pre .dim) (b .ensures)) (same-refl (p .args .d ∷ []))
-
-links-but-requires : tie.Need-links-but-requires
-links-but-requires c κs = search needs
-
-gather-requires : tie.Need-gather-requires
-gather-requires c κs = ready (c .before .before .before .before .before .before)
+    closure-words (p .args .table .now) (p .args .d ∷ []) (sheet-same (b .result) (p .args .n) (p .pre .dim) (b .ensures))
 
 shl-links-but : tie.Need-shl-links-but
 shl-links-but c =
@@ -57,7 +53,9 @@ shl-links-but c =
     omega arith
 
 links-but-requires-2 : tie.Need-links-but-requires-2
-links-but-requires-2 c κs = let p = start (c .before .before .before .before) in (p .pre .dim, top-small (p .args .n) (p .pre .dim))
+links-but-requires-2 c κs =
+    let p = start (c .before .before .before .before) in
+    (p .pre .dim, top-small (p .args .n) (p .pre .dim))
 
 cast-flood : tie.Need-cast-flood
 cast-flood c = search needs
@@ -66,12 +64,11 @@ flood-requires : tie.Need-flood-requires
 flood-requires c κs =
     let g = c .before .before .before .before .before .before .before in
     let p = start g in
-    let t = p .args .table .now in (
-      ready p .linked,
-      gathered-seeds t (words g) (p .args .d) (g .gather .last .1 .0) (g .gather .last .1 .1 .0) (g .gather .result) (g .gather .ensures) (room g)
-          (closure-live t (ready p .linked) (g .before .before .before .links-but .result) true (p .args .d ∷ []) (λ x i. rw (sole i) (p .pre .start))),
-      omega arith,
-    )
+    let t = p .args .table .now in
+    let l = given-ready (p .pre) .linked in
+    let m = g .before .before .before .links-but .result in
+    let lives = closure-live t l m true (p .args .d ∷ []) (λ x i. rw (sole i) (p .pre .start)) in
+    (l, gathered-seeds t (words g) (room g) (g .gather .ensures) lives, omega arith)
 
 same-length : tie.Need-same-length
 same-length c = search needs
@@ -87,13 +84,10 @@ returns c =
     let p = start g in
     let n = p .args .n in
     let t = p .args .table .now in
-    let m = g .gather .last .1 .0 in
-    let o = overlaid t (words g) (p .args .d) m (g .gather .last .1 .1 .0) (g .gather .result) (g .gather .ensures) (room g)
-    (floodWords (b .links-but2 .result) false) (cellWords n) (f .flood .last .1 .0) (f .flood .last .1 .1 .0) (f .flood .result)
-    (cell-same (b .links-but2 .result) n (p .pre .dim) (b .links-but2 .ensures)) (f .flood .ensures) in (
-      sheet-marks n t (sheet n t (p .args .d)) m (f .flood .last .1 .0) (g .gather .ensures .marks ∙ is g) o,
-      g .gather .ensures .size ∙ ap (count 1) (is g),
-    )
+    let r = gathered-as (is g) (g .gather .ensures) in
+    let w = cell-same (b .links-but2 .result) n (p .pre .dim) (b .links-but2 .ensures) in
+    let o = overlaid t (words g) (room g) (g .gather .ensures) w (f .flood .ensures) in
+    (sheet-marks n t (r .marks) o, r .size)
 
 pub sheet-spec : {M : Type 1} → statement M
 sheet-spec =

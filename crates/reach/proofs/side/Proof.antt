@@ -9,7 +9,7 @@ use Rattle.model.specs.Reach.{closure}
 use Rattle.model.specs.Sew.{side}
 use Rattle.model.proofs.Maps.Dim.{dim-small}
 use Rattle.reach.specs.Search.{floodWords}
-use Rattle.reach.proofs.Words.{closure-same, same-refl}
+use Rattle.reach.proofs.Words.{closure-words}
 use Rattle.reach.proofs.Masks.{near-small, side-same}
 use Rattle.reach.proofs.Gathering.{given-ready, gathered-as}
 use Rattle.reach.proofs.side.Statement.{statement}
@@ -25,9 +25,7 @@ links-but-requires : tie.Need-links-but-requires
 links-but-requires c κs = let p = c .before .before .before in (p .pre .0 .dim, near-small (p .args .i) (i-low p))
 
 gather-requires : tie.Need-gather-requires
-gather-requires c κs =
-    let p = c .before .before .before .before .before .before in
-    given-ready (p .args .n) (p .args .table .now) (p .args .marks .now) (p .args .queue .now) (p .args .d) (p .pre .0)
+gather-requires c κs = given-ready (c .before .before .before .before .before .before .pre .0)
 
 same-length : tie.Need-same-length
 same-length c = search needs
@@ -35,18 +33,22 @@ same-length c = search needs
 same-length-2 : tie.Need-same-length-2
 same-length-2 c = search needs
 
+-- the function's entry, from where the mask is known
+abbrev start : tie.After-links-but → tie.Start
+start b = b .before .before .before .before
+
+-- the set flooded is the side
 is : (b : tie.After-links-but)
-    → let p = b .before .before .before .before in
-    closure (p .args .table .now) (floodWords (b .links-but .result) false) (p .args .d ∷ []) ≡ side (p .args .n) (p .args .table .now) (p .args .i) (p .args .d)
+    → closure (start b .args .table .now) (floodWords (b .links-but .result) false) (start b .args .d ∷ [])
+    ≡ side (start b .args .n) (start b .args .table .now) (start b .args .i) (start b .args .d)
 unfolding side
 is b =
-    let p = b .before .before .before .before in
-    closure-same (p .args .table .now) _ _ _ _ (side-same (b .links-but .result) (p .args .n) (p .args .i) (p .pre .0 .dim) (p .pre .1) (b .links-but .ensures)) (same-refl (p .args .d ∷ []))
+    let p = start b in
+    closure-words (p .args .table .now) (p .args .d ∷ [])
+    (side-same (b .links-but .result) (p .args .n) (p .args .i) (p .pre .0 .dim) (i-low p) (b .links-but .ensures))
 
 returns : tie.Need-returns
-returns c =
-    let g = c .before .before .before .before in
-    gathered-as (is (g .before .before .before)) (g .gather .ensures)
+returns c = let g = c .before .before .before .before in gathered-as (is (g .before .before .before)) (g .gather .ensures)
 
 pub side-spec : {M : Type 1} → statement M
 side-spec = tie.close (tie.spec shl-links-but links-but-requires gather-requires same-length same-length-2 returns)
