@@ -113,8 +113,8 @@ below-four P a b c d (suc (suc (suc (suc i)))) l = absurd (omega arith)
 abbrev pub near : ℕ → ℕ
 near i = 7 * 2 ^ i % 4294967296 / 2
 
-pub near-small : (i : ℕ) → i < 4 → near i < 64
-near-small = below-four (λ i. near i < 64) (lit< tt) (lit< tt) (lit< tt) (lit< tt)
+pub near-small : (c i : ℕ) → c < 8 → i < 4 → c * 2 ^ i % 4294967296 / 2 < 64
+near-small c i h = below-four (λ i. c * 2 ^ i % 4294967296 / 2 < 64) (omega arith) (omega arith) (omega arith) (omega arith) i
 
 abbrev Far : ℕ → ℕ → Type 0
 Far n i = links n (λ j. not (bit (near i) j)) ≡ sideWords n i

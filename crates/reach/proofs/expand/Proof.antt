@@ -1,6 +1,7 @@
 -- `reach::expand` meets its contract. The loop's invariant is `Going`: the links below i have been followed.
 use mathlib.Core.Path.{_≡_, sym, _∙_}
 use Prim.Native.Nat.{_-_}
+use native.Mathlib.Omega.{arith}
 use borrow.Author.Needs.{needs}
 use lib.ListN.{length}
 use Rattle.reach.specs.Search.{Search, searchOf}
@@ -41,7 +42,8 @@ follow-requires : tie.Need-follow-requires Inv-loop μ-loop
 follow-requires c κs =
     let i = c .before .before in
     let a = i .before in
-    (going-stepping (start a .pre) (a .loop .inv), i .loop-test .taken)
+    let l = i .loop-test .taken in
+    (going-stepping (start a .pre) (a .loop .inv), omega arith)
 
 add-i : tie.Need-add-i Inv-loop μ-loop
 add-i c = search needs
@@ -54,8 +56,9 @@ loop-again c =
     let f = c .before .before .before .before in
     let i = f .before .before .before in
     let a = i .before in
+    let l = i .loop-test .taken in
     going-on (start a .pre) (a .loop .inv) (searchOf (f .follow .last .1 .0) (f .follow .last .1 .1 .0) (f .follow .result))
-    (i .loop-test .taken) (f .follow .ensures)
+    (omega arith) (f .follow .ensures)
 
 opposite-edge-requires : tie.Need-opposite-edge-requires Inv-loop μ-loop
 opposite-edge-requires c κs = let p = start (c .before .before) in (p .pre .linked, p .pre .lives)

@@ -3,6 +3,7 @@ use mathlib.Core.Path.{_≡_, ap, _∙_}
 use mathlib.Core.Bool.{true}
 use native.Mathlib.Omega.{arith}
 use borrow.Author.Needs.{needs}
+use lib.Dec.{lit<}
 use Rattle.model.specs.Table.{link, live, walk}
 use Rattle.reach.proofs.opposite_edge.Statement.{statement}
 use Rattle.reach.proofs.opposite_edge.Tie as tie
@@ -11,7 +12,7 @@ link-requires : tie.Need-link-requires
 link-requires c κs = search needs
 
 y-live : (c : tie.After-link) → live (c .before .before .args .table .now) (c .link .result) ≡ true
-y-live c = let a = c .before .before in rw (c .link .ensures) (a .pre .0 .goes (a .args .x) 1 (a .pre .1) (omega arith))
+y-live c = let a = c .before .before in rw (c .link .ensures) (a .pre .0 .goes _ _ (a .pre .1) (lit< tt))
 
 link-requires-2 : tie.Need-link-requires-2
 link-requires-2 c κs = (c .before .before .pre .0, omega arith, y-live c)
@@ -19,7 +20,7 @@ link-requires-2 c κs = (c .before .before .pre .0, omega arith, y-live c)
 z-live : (c : tie.After-link2) → live (c .before .before .before .args .table .now) (c .link2 .result) ≡ true
 z-live c =
     let a = c .before .before .before in
-    rw (c .link2 .ensures) (a .pre .0 .goes (c .before .link .result) 0 (y-live (c .before)) (omega arith))
+    rw (c .link2 .ensures) (a .pre .0 .goes _ _ (y-live (c .before)) (lit< tt))
 
 link-requires-3 : tie.Need-link-requires-3
 link-requires-3 c κs = (c .before .before .before .pre .0, omega arith, z-live c)

@@ -5,6 +5,7 @@ use mathlib.Core.List.{[], _∷_}
 use Prim.Native.Nat.{_<_}
 use native.Mathlib.Omega.{arith}
 use borrow.Author.Needs.{needs}
+use lib.Dec.{lit<}
 use Rattle.model.specs.Reach.{closure}
 use Rattle.model.specs.Sew.{side}
 use Rattle.model.proofs.Maps.Dim.{dim-small}
@@ -22,7 +23,7 @@ shl-links-but : tie.Need-shl-links-but
 shl-links-but c = let l = i-low (c .before .before .before) in omega arith
 
 links-but-requires : tie.Need-links-but-requires
-links-but-requires c κs = let p = c .before .before .before in (p .pre .0 .dim, near-small (p .args .i) (i-low p))
+links-but-requires c κs = let p = c .before .before .before in (p .pre .0 .dim, near-small _ (p .args .i) (lit< tt) (i-low p))
 
 gather-requires : tie.Need-gather-requires
 gather-requires c κs = given-ready (c .before .before .before .before .before .before .pre .0)
