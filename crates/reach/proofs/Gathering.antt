@@ -43,19 +43,20 @@ take-first : (q : List ℕ) (d : ℕ) → 0 < length q → take 1 (set q 0 d) �
 take-first [] d h = absurd (omega arith)
 take-first (x ∷ q) d h = refl
 
-module _ {t m q : List ℕ} {d : ℕ} (R : Ready t m q d) where
+module _ {t m q : List ℕ} {d : ℕ} (ready : Ready t m q d) where
   d-in : d < slots t
-  d-in = live-in t d (R .linked .fits) (R .start)
+  d-in = live-in t d (ready .linked .fits) (ready .start)
 
   q-some : 0 < length q
-  q-some = let l = d-in in let r = R .room in omega arith
+  q-some = let l = d-in in let r = ready .room in omega arith
 
-  -- what `begin` asks, and its marks
+  -- what `begin` asks
   pub begin-asks : (d < length m) × (0 < length q)
-  begin-asks = (rw (R .long) d-in, q-some)
+  begin-asks = (rw (ready .long) d-in, q-some)
 
-  pub begun-marks : set (replicate (length m) 0) d 1 ≡ alone (slots t) d
-  begun-marks = ap (λ (n : ℕ). alone n d) (R .long)
+  -- and the marks that it leaves
+  begun-marks : set (replicate (length m) 0) d 1 ≡ alone (slots t) d
+  begun-marks = ap (λ (n : ℕ). alone n d) (ready .long)
 
   queued : getD (set q 0 d) 0 0 ≡ d
   queued = getD-set-same q 0 d 0 q-some
@@ -63,7 +64,7 @@ module _ {t m q : List ℕ} {d : ℕ} (R : Ready t m q d) where
   seed : Seeds t (alone (slots t) d) (set q 0 d) 1
   seed = record {
     long = length-set (replicate (slots t) 0) d 1 ∙ length-replicate (slots t) 0;
-    room = rw length-set (R .room);
+    room = rw length-set (ready .room);
     listed = record {
       number = alone-count (slots t) d d-in;
       inside = λ j b.
@@ -72,7 +73,7 @@ module _ {t m q : List ℕ} {d : ℕ} (R : Ready t m q d) where
       all = λ x f. (0, omega arith, queued ∙ sym (alone-only (slots t) d d-in x f));
       once = λ i j a b. absurd (omega arith);
     };
-    lives = λ x f. rw (alone-only (slots t) d d-in x f) (R .start);
+    lives = λ x f. rw (alone-only (slots t) d d-in x f) (ready .start);
   }
 
   -- m₁ and q₁ are what `begin` leaves

@@ -1,11 +1,11 @@
 -- Lists of marks: how many are 0 or 1, a store in them, and what a flood lays over them.
 use Prim.Native.Nat.{ℕ, zero, suc, _+_, _<_}
 use mathlib.Core.Path.{_≡_, refl, sym, ap, _∙_}
-use mathlib.Core.Logic.{⊎-elim, _≢_}
+use mathlib.Core.Logic.{inl, inr, ⊎-elim, _≢_}
 use mathlib.Core.Bool.{true, false}
-use mathlib.Core.List.{List, [], _∷_}
+use mathlib.Core.List.{List, [], _∷_, List·Memᴰ·not-nil as not-nil, List·Memᴰ·head as here, List·Memᴰ·eq-of-singleton as sole}
 use native.Mathlib.Omega.{arith}
-use lib.ListN.{length, getD, set, replicate, length-set, length-replicate, List·getD-eq-default}
+use lib.ListN.{length, getD, set, replicate, length-set, length-replicate, getD-replicate, List·getD-eq-default}
 use lib.Seq.{getD-set-same, getD-set-other, ext-getD}
 use lib.Dec.{eqb}
 use borrow.Author.Tests.{eq-eqb, ne-eqb}
@@ -15,9 +15,10 @@ use Rattle.model.specs.Sheet.{overlay}
 use Rattle.model.specs.Meaning.Sets.{Bits, Marked}
 use Rattle.model.proofs.Lists.Scan.{if-eq, if-lt, length-tab, getD-tab}
 use Rattle.model.proofs.Sets.Closure.{marked-in}
+use Rattle.model.proofs.Sets.Pigeon.{cover, distinct-le, more, none}
 use Rattle.reach.specs.Search.{Found, laid, lay}
 
-pub found-in : (m : List ℕ) (x : ℕ) → Found m x → x < length m
+found-in : (m : List ℕ) (x : ℕ) → Found m x → x < length m
 found-in [] x h = absurd (h refl)
 found-in (y ∷ m) zero h = omega arith
 found-in (y ∷ m) (suc x) h = let r = found-in m x h in omega arith
@@ -31,11 +32,11 @@ found-marked m x b h = ⊎-elim (λ e. absurd (h e)) (λ e. e) (b x)
 -- ---- counts
 
 module _ (v y : ℕ) (l : List ℕ) where
-  pub count-one : y ≡ v → count v (y ∷ l) ≡ suc (count v l)
+  count-one : y ≡ v → count v (y ∷ l) ≡ suc (count v l)
   unfolding count
   count-one e = rw (eq-eqb y v e, count)
 
-  pub count-other : y ≢ v → count v (y ∷ l) ≡ count v l
+  count-other : y ≢ v → count v (y ∷ l) ≡ count v l
   unfolding count
   count-other e = rw (ne-eqb y v e, count)
 
@@ -55,15 +56,8 @@ count-bits (y ∷ m) b =
     ⊎-elim (λ (e : y ≡ 0). let p = count-one 0 y m e in let q = count-other 1 y m (λ f. omega arith) in omega arith)
     (λ (e : y ≡ 1). let p = count-one 1 y m e in let q = count-other 0 y m (λ f. omega arith) in omega arith) (b 0)
 
-count-zeros : (n : ℕ) → count 0 (replicate n 0) ≡ n
-unfolding count
-count-zeros zero = refl
-count-zeros (suc n) = ap suc (count-zeros n)
-
 zeros : (n x : ℕ) → getD (replicate {A = ℕ} n 0) x 0 ≡ 0
-zeros zero x = refl
-zeros (suc n) zero = refl
-zeros (suc n) (suc x) = zeros n x
+zeros n x = if-lt x n (getD-replicate n x 0 0) (λ l. List·getD-eq-default (replicate n 0) 0 (rw length-replicate l))
 
 -- ---- d alone has a mark
 
@@ -77,17 +71,20 @@ module _ (n d : ℕ) (h : d < n) where
   pub alone-own : getD (alone n d) d 0 ≡ 1
   alone-own = getD-set-same (replicate n 0) d 1 0 inside
 
-  pub alone-other : (x : ℕ) → x ≢ d → getD (alone n d) x 0 ≡ 0
+  alone-other : (x : ℕ) → x ≢ d → getD (alone n d) x 0 ≡ 0
   alone-other x e = getD-set-other (replicate n 0) d x 1 0 e ∙ zeros n x
 
   pub alone-only : (x : ℕ) → Found (alone n d) x → x ≡ d
   alone-only x f = if-eq x d (λ e. e) (λ e. absurd (f (alone-other x e)))
 
+  alone-bits : Bits (alone n d)
+  alone-bits x = if-eq x d (λ e. inr (rw e alone-own)) (λ e. inl (alone-other x e))
+
   pub alone-count : 1 + count 0 (alone n d) ≡ length (alone n d)
   alone-count =
-      let c = count-store (replicate n 0) d 1 inside (zeros n d) (omega arith) in
-      let z = count-zeros n in
-      let l : length (alone n d) ≡ n = length-set (replicate n 0) d 1 ∙ length-replicate n 0 in
+      let all = count-bits (alone n d) alone-bits in
+      let most = cover (d ∷ []) (alone n d) (λ x m. here (alone-only x (marked-found (alone n d) x m))) in
+      let some = distinct-le (d ∷ []) (alone n d) (more not-nil none) (λ x i. rw (sole i) alone-own) in
       omega arith
 
 -- ---- what a flood lays over marks

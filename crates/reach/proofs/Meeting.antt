@@ -40,7 +40,7 @@ module _ (k y : ℕ) (s : Search) where
   meet-wide : length (meet k y s .queue) ≡ length (s .queue)
   meet-wide = if-eq (getD (s .marks) y 0) 0 (λ e. rw (meet-new e) (length-set (s .queue) (s .found) y)) (λ e. rw (meet-old e))
 
-module _ (m : List ℕ) (y k : ℕ) (l : y < length m) (k0 : 0 < k) where
+module _ (m : List ℕ) (y k : ℕ) (l : y < length m) (some : 0 < k) where
   pub store-own : Found (set m y k) y
   store-own e = let q = getD-set-same m y k 0 l in omega arith
 
@@ -51,7 +51,7 @@ module _ (m : List ℕ) (y k : ℕ) (l : y < length m) (k0 : 0 < k) where
   store-only x f = if-eq x y (λ e. inl e) (λ e. inr (rw (getD-set-other m y x k 0 e) at f))
 
   -- a dart without a mark, marked and put behind the queue's words
-  module _ (q : List ℕ) (r : ℕ) (e : getD m y 0 ≡ 0) (b : r < length q) (L : Listed m q r) where
+  module _ (q : List ℕ) (r : ℕ) (e : getD m y 0 ≡ 0) (b : r < length q) (listed : Listed m q r) where
     before : (j : ℕ) → j < r → getD (set q r y) j 0 ≡ getD q j 0
     before j h = getD-set-other q r j y 0 (λ p. omega arith)
 
@@ -60,55 +60,57 @@ module _ (m : List ℕ) (y k : ℕ) (l : y < length m) (k0 : 0 < k) where
 
     pub listed-more : Listed (set m y k) (set q r y) (r + 1)
     listed-more = record {
-      number = let c = count-store m y k l e k0 in let n = L .number in let z = length-set m y k in omega arith;
+      number = let c = count-store m y k l e some in let n = listed .number in let z = length-set m y k in omega arith;
       inside = λ j h. if-eq j r (λ p. rw (p, last) store-own)
-          (λ p. rw (before j (omega arith)) (store-keeps _ (L .inside j (omega arith))));
-      all = λ x f. ⊎-elim (λ p. (r, omega arith, last ∙ sym p))
-          (λ p. let w = L .all x p in let h : w .0 < r = w .1 in (w .0, omega arith, before (w .0) h ∙ w .2)) (store-only x f);
+          (λ p. rw (before j (omega arith)) (store-keeps _ (listed .inside j (omega arith))));
+      all = λ x f. ⊎-elim (λ p. (r, omega arith, last ∙ sym p)) (λ p. old x (listed .all x p)) (store-only x f);
       once = λ i j h u. if-eq j r (λ p c. new i (omega arith) (c ∙ ap (λ (z : ℕ). getD (set q r y) z 0) p ∙ last))
-          (λ p c. L .once i j h (omega arith) (sym (before i (omega arith)) ∙ c ∙ before j (omega arith)));
+          (λ p c. listed .once i j h (omega arith) (sym (before i (omega arith)) ∙ c ∙ before j (omega arith)));
     }
       where
+        old : (x : ℕ) → (j : ℕ) × (j < r) × (getD q j 0 ≡ x) → (j : ℕ) × (j < r + 1) × (getD (set q r y) j 0 ≡ x)
+        old x w = let h : w .0 < r = w .1 in (w .0, omega arith, before (w .0) h ∙ w .2)
+
         new : (i : ℕ) → i < r → getD (set q r y) i 0 ≡ y → ⊥
-        new i h c = L .inside i h (ap (λ (z : ℕ). getD m z 0) (sym (before i h) ∙ c) ∙ e)
+        new i h c = listed .inside i h (ap (λ (z : ℕ). getD m z 0) (sym (before i h) ∙ c) ∙ e)
 
 -- ---- room in the queue
 
-module _ (t : List ℕ) (s : Search) (y : ℕ) (b : y < slots t) (R : Room t (s .marks) (s .queue) (s .found)) where
+module _ (t : List ℕ) (s : Search) (y : ℕ) (b : y < slots t) (space : Room t (s .marks) (s .queue) (s .found)) where
   -- for a dart without a mark
   pub room-left : getD (s .marks) y 0 ≡ 0 → s .found < length (s .queue)
   room-left e =
-      let c = count-store (s .marks) y 1 (rw (R .long) b) e (omega arith) in
-      let n = R .number in
-      let r = R .room in
+      let c = count-store (s .marks) y 1 (rw (space .long) b) e (omega arith) in
+      let n = space .number in
+      let r = space .room in
       omega arith
 
   -- what `meet` asks
   pub meet-asks : (y < length (s .marks)) × (getD (s .marks) y 0 ≡ 0 → s .found < length (s .queue))
-  meet-asks = (rw (R .long) b, room-left)
+  meet-asks = (rw (space .long) b, room-left)
 
   room-meet : (k : ℕ) → 0 < k → Room t (meet k y s .marks) (meet k y s .queue) (meet k y s .found)
-  room-meet k k0 = if-eq (getD (s .marks) y 0) 0 (λ e. rw (meet-new k y s e) (new e)) (λ e. rw (meet-old k y s e) R)
+  room-meet k some = if-eq (getD (s .marks) y 0) 0 (λ e. rw (meet-new k y s e) (new e)) (λ e. rw (meet-old k y s e) space)
     where
       new : getD (s .marks) y 0 ≡ 0 → Room t (set (s .marks) y k) (set (s .queue) (s .found) y) (s .found + 1)
       new e = record {
-        long = length-set (s .marks) y k ∙ R .long;
-        room = rw length-set (R .room);
-        number = let c = count-store (s .marks) y k (rw (R .long) b) e k0 in let n = R .number in omega arith;
+        long = length-set (s .marks) y k ∙ space .long;
+        room = rw length-set (space .room);
+        number = let c = count-store (s .marks) y k (rw (space .long) b) e some in let n = space .number in omega arith;
       }
 
 -- ---- the darts that the steps lead to
 
-module _ (t : List ℕ) (L : Linked t) (x : ℕ) (h : live t x ≡ true) where
+module _ (t : List ℕ) (linked : Linked t) (x : ℕ) (h : live t x ≡ true) where
   pub link-in : (i : ℕ) → i < 4 → link t i x < slots t
-  link-in i l = live-in t (link t i x) (L .fits) (L .goes x i h l)
+  link-in i l = live-in t (link t i x) (linked .fits) (linked .goes x i h l)
 
   pub opposite-live : live t (walk t (1 ∷ 0 ∷ 1 ∷ []) x) ≡ true
   unfolding walk
-  opposite-live = L .goes _ 1 (L .goes _ 0 (L .goes x 1 h (omega arith)) (omega arith)) (omega arith)
+  opposite-live = linked .goes _ 1 (linked .goes _ 0 (linked .goes x 1 h (omega arith)) (omega arith)) (omega arith)
 
   pub opposite-in : walk t (1 ∷ 0 ∷ 1 ∷ []) x < slots t
-  opposite-in = live-in t _ (L .fits) opposite-live
+  opposite-in = live-in t _ (linked .fits) opposite-live
 
 -- ---- the steps
 
@@ -150,30 +152,30 @@ pub record Going (t : List ℕ) (mask k x : ℕ) (a s : Search) (i : ℕ) : Type
 pub going-from : {t : List ℕ} {mask k x : ℕ} (a : Search)
     → Stepping t (a .marks) (a .queue) (a .found) k x → Going t mask k x a a 0
 unfolding followBelow
-going-from a S = record { few = omega arith; gone = refl; space = S .space; wide = refl }
+going-from a stepping = record { few = omega arith; gone = refl; space = stepping .space; wide = refl }
 
 module _ {t : List ℕ} {mask k x : ℕ} {a s : Search} {i : ℕ}
-    (S : Stepping t (a .marks) (a .queue) (a .found) k x) (g : Going t mask k x a s i) where
+    (stepping : Stepping t (a .marks) (a .queue) (a .found) k x) (going : Going t mask k x a s i) where
   pub going-stepping : Stepping t (s .marks) (s .queue) (s .found) k x
-  going-stepping = record { linked = S .linked; space = g .space; some = S .some; lives = S .lives }
+  going-stepping = record { linked = stepping .linked; space = going .space; some = stepping .some; lives = stepping .lives }
 
   pub going-on : (s′ : Search) → i < 4 → s′ ≡ follow t mask k x i s → Going t mask k x a s′ (i + 1)
   unfolding followBelow
   going-on s′ l q = rw (q, add-one) (record {
     few = l;
-    gone = ap (follow t mask k x i) (g .gone);
+    gone = ap (follow t mask k x i) (going .gone);
     space = test (bit mask i)
         (λ e.
-        let b = link-in t (S .linked) x (S .lives) i l in
-        rw (follow-takes t mask k x s i e) (room-meet t s (link t i x) b (g .space) k (S .some)))
-        (λ e. rw (follow-skips t mask k x s i e) (g .space));
-    wide = test (bit mask i) (λ e. rw (follow-takes t mask k x s i e) (meet-wide k (link t i x) s ∙ g .wide))
-        (λ e. rw (follow-skips t mask k x s i e) (g .wide));
+        let b = link-in t (stepping .linked) x (stepping .lives) i l in
+        rw (follow-takes t mask k x s i e) (room-meet t s (link t i x) b (going .space) k (stepping .some)))
+        (λ e. rw (follow-skips t mask k x s i e) (going .space));
+    wide = test (bit mask i) (λ e. rw (follow-takes t mask k x s i e) (meet-wide k (link t i x) s ∙ going .wide))
+        (λ e. rw (follow-skips t mask k x s i e) (going .wide));
   })
 
   -- all links
   pub going-all : 4 ≤ i → s ≡ followBelow t mask k x 4 a
-  going-all h = let f = g .few in let e : i ≡ 4 = omega arith in rw e at (g .gone)
+  going-all h = let f = going .few in let e : i ≡ 4 = omega arith in rw e at (going .gone)
 
   pub going-long : length (s .marks) ≡ length (a .marks)
-  going-long = g .space .long ∙ sym (S .space .long)
+  going-long = going .space .long ∙ sym (stepping .space .long)

@@ -24,21 +24,18 @@ links-but-requires c κs = search needs
 gather-requires : tie.Need-gather-requires
 gather-requires c κs = given-ready (c .before .before .before .before .before .before .pre)
 
--- where S has been gathered: the function's entry, and the words of S
-abbrev S : Type 0
-S = tie.After-gather
-
-abbrev start : S → tie.Start
+-- from where the sheet has been gathered: the function's entry, and the sheet's words
+abbrev start : tie.After-gather → tie.Start
 start g = g .before .before .before .before .before .before .before
 
-abbrev words : S → List (List ℕ)
+abbrev words : tie.After-gather → List (List ℕ)
 words g = floodWords (g .before .before .before .links-but .result) true
 
-room : (g : S) → slots (start g .args .table .now) ≤ length (g .gather .last .1 .1 .0)
+room : (g : tie.After-gather) → slots (start g .args .table .now) ≤ length (g .gather .last .1 .1 .0)
 room g = let k = g .gather .kept .1 .1 .0 in let r = start g .pre .room in omega arith
 
 -- the set flooded is the sheet
-is : (g : S) → closure (start g .args .table .now) (words g) (start g .args .d ∷ [])
+is : (g : tie.After-gather) → closure (start g .args .table .now) (words g) (start g .args .d ∷ [])
     ≡ sheet (start g .args .n) (start g .args .table .now) (start g .args .d)
 unfolding sheet
 is g =
