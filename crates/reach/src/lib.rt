@@ -1,0 +1,196 @@
+// What is reached from a dart: orbit, side and sheet, by one flood over a queue that the caller lends.
+ghost use mathlib.Core.Path.{_≡_};
+ghost use mathlib.Core.Bool.{true, false, not};
+ghost use mathlib.Core.List.{[], _∷_};
+ghost use Prim.Native.Nat.{_+_, _^_, _<_, _≤_};
+ghost use lib.ListN.{length, getD, set, replicate};
+ghost use Rattle.model.specs.Lists.{count};
+ghost use Rattle.model.specs.Table.{link, live, walk};
+ghost use Rattle.model.specs.Reach.{closure};
+ghost use Rattle.model.specs.Orbit.{bit, orbit};
+ghost use Rattle.model.specs.Sew.{side};
+ghost use Rattle.model.specs.Sheet.{sheet, sheetMarks};
+ghost use Rattle.model.specs.Meaning.Maps.{Dim};
+ghost use Rattle.reach.specs.Search.{floodWords, Permits, searchOf, meet, follow, expand, Flooded, Gathered};
+ghost use Rattle.reach.specs.Given.{Given, Linked, Ready, Seeds, Stepping};
+
+// Link i of the dart x.
+fn link(table: &[u32], i: u32, x: u32) -> u32
+    requires { ⌜ (Linked (now table)) × (i < 4) × (live (now table) x ≡ true) ⌝ }
+    ensures { λ r. ⌜ r ≡ link (now (table .entry)) i x ⌝ }
+{
+    table[(4 * x + i) as usize]
+}
+
+// The opposite edge of x: 1.0.1.
+fn opposite_edge(table: &[u32], x: u32) -> u32
+    requires { ⌜ (Linked (now table)) × (live (now table) x ≡ true) ⌝ }
+    ensures { λ r. ⌜ r ≡ walk (now (table .entry)) (1 ∷ 0 ∷ 1 ∷ []) x ⌝ }
+{
+    let y = link(table, 1, x);
+    let z = link(table, 0, y);
+    link(table, 1, z)
+}
+
+// The dart y, if it has no mark yet, gets the mark and goes behind the queue's words.
+fn meet(marks: &mut [u8], queue: &mut [u32], tail: usize, mark: u8, y: u32) -> usize
+    requires { ⌜ (y < length (now marks)) × (getD (now marks) y 0 ≡ 0 → tail < length (now queue)) ⌝ }
+    ensures { λ r. ⌜ searchOf (now (marks .exit)) (now (queue .exit)) r
+        ≡ meet mark y (searchOf (now (marks .entry)) (now (queue .entry)) tail) ⌝ }
+{
+    if marks[y as usize] == 0 {
+        marks[y as usize] = mark;
+        queue[tail] = y;
+        tail + 1
+    } else {
+        tail
+    }
+}
+
+// Link i of x is met, if bit i of the mask permits it.
+fn follow(
+    table: &[u32],
+    marks: &mut [u8],
+    queue: &mut [u32],
+    tail: usize,
+    mark: u8,
+    mask: u32,
+    i: u32,
+    x: u32,
+) -> usize
+    requires { ⌜ (Stepping (now table) (now marks) (now queue) tail mark x) × (i < 4) ⌝ }
+    ensures { λ r. ⌜ searchOf (now (marks .exit)) (now (queue .exit)) r
+        ≡ follow (now (table .entry)) mask mark x i (searchOf (now (marks .entry)) (now (queue .entry)) tail) ⌝ }
+{
+    if (mask >> i) % 2 == 1 {
+        let y = link(table, i, x);
+        meet(marks, queue, tail, mark, y)
+    } else {
+        tail
+    }
+}
+
+// The steps of x: its links, and, if `across`, its opposite edge.
+fn expand(
+    table: &[u32],
+    marks: &mut [u8],
+    queue: &mut [u32],
+    from: usize,
+    mark: u8,
+    mask: u32,
+    across: bool,
+    x: u32,
+) -> usize
+    requires { ⌜ Stepping (now table) (now marks) (now queue) from mark x ⌝ }
+    ensures { λ r. ⌜ searchOf (now (marks .exit)) (now (queue .exit)) r
+        ≡ expand (now (table .entry)) mask across mark x (searchOf (now (marks .entry)) (now (queue .entry)) from) ⌝ }
+{
+    let mut tail = from;
+    let mut i = 0;
+    while i < 4 {
+        tail = follow(table, marks, queue, tail, mark, mask, i, x);
+        i += 1;
+    }
+    if across {
+        let y = opposite_edge(table, x);
+        meet(marks, queue, tail, mark, y)
+    } else {
+        tail
+    }
+}
+
+// The flood from the queue's first words, the seeds: each dart found gets the mark, goes into the queue and is expanded once.
+fn flood(
+    table: &[u32],
+    marks: &mut [u8],
+    queue: &mut [u32],
+    mask: u32,
+    across: bool,
+    mark: u8,
+    seeds: usize,
+) -> usize
+    requires { ⌜ (Linked (now table)) × (Seeds (now table) (now marks) (now queue) seeds) × (0 < mark) ⌝ }
+    ensures { λ r. ⌜ Flooded (now (table .entry)) (floodWords mask across) mark
+        (now (marks .entry)) (now (queue .entry)) seeds (now (marks .exit)) (now (queue .exit)) r ⌝ }
+{
+    let mut head = 0;
+    let mut tail = seeds;
+    while head < tail {
+        let x = queue[head];
+        tail = expand(table, marks, queue, tail, mark, mask, across, x);
+        head += 1;
+    }
+    tail
+}
+
+// All marks 0 but for d's, and d first in the queue.
+fn begin(marks: &mut [u8], queue: &mut [u32], d: u32)
+    requires { ⌜ (d < length (now marks)) × (0 < length (now queue)) ⌝ }
+    ensures { λ _. ⌜ (now (marks .exit) ≡ set (replicate (length (now (marks .entry))) 0) d 1)
+        × (now (queue .exit) ≡ set (now (queue .entry)) 0 d) ⌝ }
+{
+    let mut i = 0;
+    while i < marks.len() {
+        marks[i] = 0;
+        i += 1;
+    }
+    marks[d as usize] = 1;
+    queue[0] = d;
+}
+
+// The flood from d alone, with the mark 1.
+fn gather(
+    table: &[u32],
+    marks: &mut [u8],
+    queue: &mut [u32],
+    mask: u32,
+    across: bool,
+    d: u32,
+) -> u32
+    requires { ⌜ Ready (now table) (now marks) (now queue) d ⌝ }
+    ensures { λ r. ⌜ Gathered (closure (now (table .entry)) (floodWords mask across) (d ∷ [])) d
+        (now (marks .exit)) (now (queue .exit)) r ⌝ }
+{
+    begin(marks, queue, d);
+    flood(table, marks, queue, mask, across, 1, 1) as u32
+}
+
+// The mask of the links 0..n but those of the mask `out`.
+fn links_but(n: u32, out: u32) -> u32
+    requires { ⌜ (Dim n) × (out < 64) ⌝ }
+    ensures { λ r. ⌜ Permits r n (λ j. not (bit out j)) ⌝ }
+{
+    ((2 << n) - 1) & !out
+}
+
+// orbit (mask, d): marks 1 at the darts reached by the links that the mask permits, 0 elsewhere; the count of them.
+pub fn orbit(n: u32, table: &[u32], marks: &mut [u8], queue: &mut [u32], mask: u32, d: u32) -> u32
+    requires { ⌜ (Given n (now table) (now marks) (now queue) d) × (mask < 2 ^ (n + 1)) ⌝ }
+    ensures { λ r. ⌜ (now (marks .exit) ≡ orbit n (now (table .entry)) mask d)
+        × (r ≡ count 1 (orbit n (now (table .entry)) mask d)) ⌝ }
+{
+    gather(table, marks, queue, mask, false, d)
+}
+
+// The side of d, by the links but i-1, i and i+1: marks 1 at its darts, 0 elsewhere; the count of them. The queue lists them.
+pub fn side(n: u32, table: &[u32], marks: &mut [u8], queue: &mut [u32], i: u32, d: u32) -> u32
+    requires { ⌜ (Given n (now table) (now marks) (now queue) d) × (i ≤ n) ⌝ }
+    ensures { λ r. ⌜ Gathered (side n (now (table .entry)) i d) d (now (marks .exit)) (now (queue .exit)) r ⌝ }
+{
+    let mask = links_but(n, (7 << i) >> 1);
+    gather(table, marks, queue, mask, false, d)
+}
+
+// sheet d: S by the links but 1, and 1.0.1; then, from S, its cells by the links but n.
+// Marks 1 in S, 2 at the other darts of these cells, 0 elsewhere; the size of S.
+pub fn sheet(n: u32, table: &[u32], marks: &mut [u8], queue: &mut [u32], d: u32) -> u32
+    requires { ⌜ Given n (now table) (now marks) (now queue) d ⌝ }
+    ensures { λ r. ⌜ (now (marks .exit) ≡ sheetMarks n (now (table .entry)) (sheet n (now (table .entry)) d))
+        × (r ≡ count 1 (sheet n (now (table .entry)) d)) ⌝ }
+{
+    let along = links_but(n, 2);
+    let size = gather(table, marks, queue, along, true, d);
+    let within = links_but(n, 1 << n);
+    flood(table, marks, queue, within, false, 2, size as usize);
+    size
+}
