@@ -1,0 +1,147 @@
+-- Putting the values of a record: one change after another (`read-next`, `put-next`, `sound-next`); an unbroken record lies
+-- within the journal and the table (`unbroken-parts`, `sound-within`); what is put can be taken back (`put-back`).
+use Prim.Native.Nat.{ℕ, zero, suc, _+_, _*_, _-_, _≤_, _<_}
+use mathlib.Core.Path.{_≡_, refl, sym, ap, _∙_}
+use mathlib.Core.Bool.{Bool, true, false, not, _&&_}
+use mathlib.Core.List.{List, [], _∷_}
+use native.Mathlib.Omega.{arith}
+use lib.ListN.{length, getD, set, drop, length-set}
+use lib.Seq.{getD-drop, drop-drop, set-comm, set-set, set-getD}
+use lib.Dec.{leb, ltb, eqb}
+use borrow.Author.Tests.{leb-true, ltb-true, eqb-true, lt-ltb}
+use Rattle.model.specs.Journal.{Change, end, readChanges, changesAt, putNew, putOld, put, sound, unbroken}
+use Rattle.model.proofs.Lists.Scan.{and-l, and-r, and-i}
+use Rattle.journal.specs.Records.{changeAt, valuePut, within}
+
+-- ---- one change after another
+
+pub read-next : (j : List ℕ) (w k : ℕ) → zero < k → readChanges k (drop w j) ≡ changeAt j w ∷ readChanges (k - 1) (drop (w + 3) j)
+unfolding readChanges changeAt
+read-next j w zero h = absurd (omega arith)
+read-next j w (suc k) h =
+    let p : w + 0 ≡ w = omega arith in
+    let q : suc k - 1 ≡ k = omega arith in
+    rw (getD-drop w j 0 0, getD-drop w j 1 0, getD-drop w j 2 0, drop-drop 3 w j, p, q)
+
+pub put-none : (redo : Bool) (t : List ℕ) → put redo [] t ≡ t
+unfolding put putNew putOld
+put-none true t = refl
+put-none false t = refl
+
+pub put-next : (redo : Bool) (c : Change) (cs : List Change) (t : List ℕ)
+    → put redo (c ∷ cs) t ≡ put redo cs (set t (c .entry) (valuePut redo c))
+unfolding put putNew putOld valuePut
+put-next true c cs t = refl
+put-next false c cs t = refl
+
+pub within-next : (n : ℕ) (c : Change) (cs : List Change) → within n (c ∷ cs) ≡ true → (c .entry < n) × (within n cs ≡ true)
+unfolding within
+within-next n c cs h = let i = ltb (c .entry) n in let r = within n cs in (ltb-true _ _ (and-l i r h), and-r i r h)
+
+-- the tests of a change, and of those behind it
+pub sound-tests : (redo : Bool) (t : List ℕ) (e : ℕ) (c : Change) (cs : List Change) → sound redo t e (c ∷ cs)
+    ≡ (leb e (c .entry) && ltb (c .entry) (length t) && not (eqb (c .old) (c .new))
+    && eqb (getD t (c .entry) 0) (valuePut (not redo) c) && sound redo t (suc (c .entry)) cs)
+unfolding sound valuePut
+sound-tests true t e c cs = refl
+sound-tests false t e c cs = refl
+
+pub and-true : (a : Bool) → (a && true) ≡ a
+and-true true = refl
+and-true false = refl
+
+pub sound-next : (redo : Bool) (t : List ℕ) (e : ℕ) (c : Change) (cs : List Change)
+    → sound redo t e (c ∷ cs) ≡ (sound redo t e (c ∷ []) && sound redo t (suc (c .entry)) cs)
+unfolding sound
+sound-next redo t e c cs = rw and-true
+
+-- ---- what the tests say where all are passed
+
+record Passed (a b c d e : Bool) : Type 0 where
+  first : a ≡ true
+  second : b ≡ true
+  third : c ≡ true
+  fourth : d ≡ true
+  fifth : e ≡ true
+
+passed : (a b c d e : Bool) → (a && b && c && d && e) ≡ true → Passed a b c d e
+passed a b c d e h =
+    let abcd = and-l (a && b && c && d) e h in
+    let abc = and-l (a && b && c) d abcd in
+    let ab = and-l (a && b) c abc in
+    record {
+      first = and-l a b ab;
+      second = and-r a b ab;
+      third = and-r (a && b) c abc;
+      fourth = and-r (a && b && c) d abcd;
+      fifth = and-r (a && b && c && d) e h;
+    }
+
+record Sound (redo : Bool) (t : List ℕ) (e : ℕ) (c : Change) (cs : List Change) : Type 0 where
+  rising : e ≤ c .entry
+  inside : c .entry < length t
+  held : getD t (c .entry) 0 ≡ valuePut (not redo) c
+  rest : sound redo t (suc (c .entry)) cs ≡ true
+
+sound-parts : (redo : Bool) (t : List ℕ) (e : ℕ) (c : Change) (cs : List Change) → sound redo t e (c ∷ cs) ≡ true → Sound redo t e c cs
+sound-parts redo t e c cs h =
+    let p = passed _ _ _ _ _ (sym (sound-tests redo t e c cs) ∙ h) in
+    record { rising = leb-true _ _ (p .first); inside = ltb-true _ _ (p .second); held = eqb-true _ _ (p .fourth); rest = p .fifth }
+
+-- an unbroken record ends within the words that stand, and is sound
+pub record Unbroken (redo : Bool) (t j : List ℕ) (a k : ℕ) : Type 0 where
+  pub fits : a + (3 * k + 2) ≤ end j
+  pub sounds : sound redo t 0 (changesAt j a k) ≡ true
+
+pub unbroken-parts : (redo : Bool) (t j : List ℕ) (a k : ℕ) → unbroken redo t j a k ≡ true → Unbroken redo t j a k
+unfolding unbroken
+unbroken-parts redo t j a k h =
+    let counts = eqb (getD j a 0) (getD j (a + (3 * k + 1)) 0) in
+    let p = passed (not (eqb k 0)) (leb 2 a) (leb (a + (3 * k + 2)) (end j)) counts (sound redo t 0 (changesAt j a k)) h in
+    record { fits = leb-true _ _ (p .third); sounds = p .fifth }
+
+-- the entries of a sound record lie in the table
+pub sound-within : (redo : Bool) (t : List ℕ) (e : ℕ) (cs : List Change) → sound redo t e cs ≡ true → within (length t) cs ≡ true
+unfolding within
+sound-within redo t e [] h = refl
+sound-within redo t e (c ∷ cs) h =
+    let s = sound-parts redo t e c cs h in
+    and-i (lt-ltb _ _ (s .inside)) (sound-within redo t (suc (c .entry)) cs (s .rest))
+
+pub put-length : (redo : Bool) (cs : List Change) (t : List ℕ) → length (put redo cs t) ≡ length t
+put-length redo [] t = ap length (put-none redo t)
+put-length redo (c ∷ cs) t = ap length (put-next redo c cs t) ∙ put-length redo cs (set t (c .entry) (valuePut redo c)) ∙ length-set t (c .entry) (valuePut redo c)
+
+-- ---- taking back
+
+module _ (redo : Bool) (t : List ℕ) where
+  -- a value before the entries of a sound record can be set before or after
+  put-set : (ways : Bool) (cs : List Change) (e x v : ℕ) (u : List ℕ) → sound redo t e cs ≡ true → x < e
+      → put ways cs (set u x v) ≡ set (put ways cs u) x v
+  put-set ways [] e x v u h l = put-none ways (set u x v) ∙ ap (λ (r : List ℕ). set r x v) (sym (put-none ways u))
+  put-set ways (c ∷ cs) e x v u h l =
+      let s = sound-parts redo t e c cs h in
+      let low = s .rising in
+      let y = c .entry in
+      let z = valuePut ways c in
+      put-next ways c cs (set u x v)
+      ∙ ap (put ways cs) (set-comm u x y v z (λ q. omega arith))
+      ∙ put-set ways cs (suc y) x v (set u y z) (s .rest) (omega arith)
+      ∙ ap (λ (r : List ℕ). set r x v) (sym (put-next ways c cs u))
+
+  -- the values of a sound record put into a table, and then those that they replaced, give the table back
+  back-from : (cs : List Change) (e : ℕ) → sound redo t e cs ≡ true → put (not redo) cs (put redo cs t) ≡ t
+  back-from [] e h = put-none (not redo) _ ∙ put-none redo t
+  back-from (c ∷ cs) e h =
+      let s = sound-parts redo t e c cs h in
+      let x = c .entry in
+      let v = valuePut redo c in
+      let w = valuePut (not redo) c in
+      let same : set (set t x v) x w ≡ t = set-set t x v w ∙ ap (set t x) (sym (s .held)) ∙ set-getD t x 0 in
+      put-next (not redo) c cs _
+      ∙ ap (put (not redo) cs)
+      (ap (λ (r : List ℕ). set r x w) (put-next redo c cs t) ∙ sym (put-set redo cs (suc x) x w (set t x v) (s .rest) (omega arith)) ∙ ap (put redo cs) same)
+      ∙ back-from cs (suc x) (s .rest)
+
+  pub put-back : (cs : List Change) → sound redo t 0 cs ≡ true → put (not redo) cs (put redo cs t) ≡ t
+  put-back cs h = back-from cs 0 h
