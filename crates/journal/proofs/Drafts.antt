@@ -58,11 +58,11 @@ module _ (j : List ℕ) (cs : List Change) where
   unfolding drafted
   draft-length h = let f = front-length h in rw (length-append front, length-drop) (omega arith)
 
-  -- three stores behind the last triple make a draft of one change more
-  pub draft-more : (c : Change) → suc (cursor j) + 3 * length cs + 3 ≤ length j
+  -- three stores behind the last triple
+  added : (c : Change) → suc (cursor j) + 3 * length cs + 3 ≤ length j
       → sets (drafted j cs) (suc (cursor j) + 3 * length cs) (c .entry ∷ c .old ∷ c .new ∷ []) ≡ drafted j (cs ++ c ∷ [])
   unfolding drafted triples
-  draft-more c h =
+  added c h =
       let l = draft-length (omega arith) in
       let f = front-length (omega arith) in
       let n = length-append cs (c ∷ []) in
@@ -96,15 +96,6 @@ module _ (j : List ℕ) (cs : List Change) where
       ∙ set-at (take c j ++ n ∷ triples cs) y behind n (c + (3 * n + 1)) (omega arith)
       ∙ rw q (simp append-assoc)
 
-  -- the two counts, the cursor and the end make it the record
-  pub draft-closed : (e : ℕ) → e ≡ cursor j + (3 * length cs + 2) → e ≤ length j
-      → set (set (set (set (drafted j cs) (cursor j) (length cs)) (cursor j + (3 * length cs + 1)) (length cs)) 0 e) 1 e
-      ≡ written j (recordOf cs)
-  unfolding written
-  draft-closed e p h =
-      let r : length (recordOf cs) ≡ 3 * length cs + 2 = length-record cs in
-      rw (counted (omega arith), r, ← p)
-
   -- the record that is written gives its changes back
   pub written-read : 2 ≤ cursor j → cursor j + (3 * length cs + 2) ≤ length j
       → changesAt (written j (recordOf cs)) (cursor j) (length cs) ≡ cs
@@ -123,3 +114,29 @@ module _ (j : List ℕ) (cs : List Change) where
       ∙ ap (drop 1) (drop-at (take c j) (recordOf cs ++ drop e j) c l)
       ∙ append-assoc (triples cs) (n ∷ []) (drop e j))
       ∙ changes-flat cs _
+
+-- ---- what the code stores, in a draft w of k changes
+
+module _ (w j : List ℕ) (cs : List Change) (k : ℕ) (draft : w ≡ drafted j cs) (count : k ≡ length cs) where
+  -- a triple behind the last one: a draft of one change more
+  pub draft-more : (c : Change) → cursor w + (3 * k + 5) ≤ length w
+      → set (set (set w (cursor w + 3 * k + 1) (c .entry)) (cursor w + 3 * k + 1 + 1) (c .old)) (cursor w + 3 * k + 1 + 2) (c .new)
+      ≡ drafted j (cs ++ c ∷ [])
+  draft-more c h =
+      let r = draft-room j cs 5 (omega arith) (rw (draft, count) at h) in
+      let room = r .1 in
+      let x : cursor j + 3 * length cs + 1 ≡ suc (cursor j) + 3 * length cs = omega arith in
+      let y : suc (cursor j) + 3 * length cs + 1 ≡ suc (suc (cursor j) + 3 * length cs) = omega arith in
+      let z : suc (cursor j) + 3 * length cs + 2 ≡ suc (suc (suc (cursor j) + 3 * length cs)) = omega arith in
+      rw (draft, count, r .0, x, y, z) (added j cs c (omega arith))
+
+  -- the two counts, the cursor and the end: the record is written
+  pub draft-closed : cursor w + (3 * k + 2) ≤ length w
+      → set (set (set (set w (cursor w) k) (cursor w + 3 * k + 1) k) 0 (cursor w + 3 * k + 1 + 1)) 1 (cursor w + 3 * k + 1 + 1)
+      ≡ written j (recordOf cs)
+  unfolding written
+  draft-closed h =
+      let r = draft-room j cs 2 (omega arith) (rw (draft, count) at h) in
+      let x : cursor j + 3 * length cs + 1 ≡ cursor j + (3 * length cs + 1) = omega arith in
+      let y : cursor j + (3 * length cs + 1) + 1 ≡ cursor j + (3 * length cs + 2) = omega arith in
+      rw (draft, count, r .0, x, y, counted j cs (r .1), length-record cs)

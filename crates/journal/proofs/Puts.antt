@@ -4,11 +4,12 @@ use Prim.Native.Nat.{ℕ, zero, suc, _+_, _*_, _-_, _≤_, _<_}
 use mathlib.Core.Path.{_≡_, refl, sym, ap, _∙_}
 use mathlib.Core.Bool.{Bool, true, false, not, _&&_}
 use mathlib.Core.List.{List, [], _∷_}
+use native.Mathlib.Numerals.{add-one}
 use native.Mathlib.Omega.{arith}
 use lib.ListN.{length, getD, set, drop, length-set}
 use lib.Seq.{getD-drop, drop-drop, set-comm, set-set, set-getD}
 use lib.Dec.{leb, ltb, eqb}
-use borrow.Author.Tests.{leb-true, ltb-true, eqb-true, lt-ltb}
+use borrow.Author.Tests.{leb-true, ltb-true, eqb-true, le-leb, lt-leb, lt-ltb, le-ltb, eq-eqb, ne-eqb}
 use Rattle.model.specs.Journal.{Change, end, readChanges, changesAt, putNew, putOld, put, sound, unbroken}
 use Rattle.model.proofs.Lists.Scan.{and-l, and-r, and-i}
 use Rattle.journal.specs.Records.{changeAt, valuePut, within}
@@ -46,14 +47,94 @@ unfolding sound valuePut
 sound-tests true t e c cs = refl
 sound-tests false t e c cs = refl
 
-pub and-true : (a : Bool) → (a && true) ≡ a
+and-true : (a : Bool) → (a && true) ≡ a
 and-true true = refl
 and-true false = refl
+
+and-false : (a : Bool) → (a && false) ≡ false
+and-false true = refl
+and-false false = refl
 
 pub sound-next : (redo : Bool) (t : List ℕ) (e : ℕ) (c : Change) (cs : List Change)
     → sound redo t e (c ∷ cs) ≡ (sound redo t e (c ∷ []) && sound redo t (suc (c .entry)) cs)
 unfolding sound
 sound-next redo t e c cs = rw and-true
+
+-- ---- the tests of the change at the word w
+
+module _ (redo : Bool) (t j : List ℕ) (e w : ℕ) where
+  abbrev here : Change
+  here = changeAt j w
+
+  pub sound-low : getD j w 0 < e → sound redo t e (changeAt j w ∷ []) ≡ false
+  unfolding changeAt
+  sound-low h = sound-tests redo t e here [] ∙ rw (lt-leb e (here .entry) h)
+
+  pub sound-past : length t ≤ getD j w 0 → sound redo t e (changeAt j w ∷ []) ≡ false
+  unfolding changeAt
+  sound-past h = sound-tests redo t e here [] ∙ rw (le-ltb (here .entry) (length t) h, and-false)
+
+  pub sound-alike : getD j (w + 1) 0 ≡ getD j (w + 2) 0 → sound redo t e (changeAt j w ∷ []) ≡ false
+  unfolding changeAt
+  sound-alike h = sound-tests redo t e here [] ∙ rw (eq-eqb (here .old) (here .new) h, and-false)
+
+  pub sound-differs : e ≤ getD j w 0 → getD j w 0 < length t → (getD j (w + 1) 0 ≡ getD j (w + 2) 0 → ⊥)
+      → sound redo t e (changeAt j w ∷ []) ≡ eqb (getD t (getD j w 0) 0) (valuePut (not redo) (changeAt j w))
+  unfolding sound changeAt
+  sound-differs low inside h =
+      sound-tests redo t e here []
+      ∙ rw (le-leb e (here .entry) low, lt-ltb (here .entry) (length t) inside, ne-eqb (here .old) (here .new) h) (and-true _)
+
+-- ---- the tests of the record of k changes at the word a
+
+module _ (redo : Bool) (t j : List ℕ) (a k : ℕ) where
+  pub broken-empty : k ≡ 0 → unbroken redo t j a k ≡ false
+  unfolding unbroken
+  broken-empty h = rw (eq-eqb k 0 h)
+
+  pub broken-low : a < 2 → unbroken redo t j a k ≡ false
+  unfolding unbroken
+  broken-low h = rw (lt-leb 2 a h, and-false)
+
+  pub broken-long : end j < a + (3 * k + 2) → unbroken redo t j a k ≡ false
+  unfolding unbroken
+  broken-long h = rw (lt-leb (a + (3 * k + 2)) (end j) h, and-false)
+
+  pub broken-counts : (getD j a 0 ≡ getD j (a + (3 * k + 1)) 0 → ⊥) → unbroken redo t j a k ≡ false
+  unfolding unbroken
+  broken-counts h = rw (ne-eqb (getD j a 0) (getD j (a + (3 * k + 1)) 0) h, and-false)
+
+  pub unbroken-rest : (k ≡ 0 → ⊥) → 2 ≤ a → a + (3 * k + 2) ≤ end j → getD j a 0 ≡ getD j (a + (3 * k + 1)) 0
+      → unbroken redo t j a k ≡ sound redo t 0 (changesAt j a k)
+  unfolding unbroken
+  unbroken-rest some low fits counts = rw (ne-eqb k 0 some, le-leb 2 a low, le-leb (a + (3 * k + 2)) (end j) fits, eq-eqb _ _ counts)
+
+-- ---- a turn of a loop over the triples: the one at the word w, of as many as are left
+
+module _ (j : List ℕ) (w left : ℕ) (some : zero < left) where
+  pub put-turn : (redo : Bool) (t : List ℕ) (v : ℕ) → v ≡ valuePut redo (changeAt j w)
+      → put redo (readChanges (left - 1) (drop (w + 3) j)) (set t (getD j w 0) v) ≡ put redo (readChanges left (drop w j)) t
+  unfolding changeAt
+  put-turn redo t v h = rw (h, read-next j w left some) (sym (put-next redo (changeAt j w) _ t))
+
+  pub within-turn : (n : ℕ) → within n (readChanges left (drop w j)) ≡ true
+      → (getD j w 0 < n) × (within n (readChanges (left - 1) (drop (w + 3) j)) ≡ true)
+  unfolding changeAt
+  within-turn n h = within-next n (changeAt j w) _ (rw (read-next j w left some) at h)
+
+  sound-turn : (redo : Bool) (t : List ℕ) (e : ℕ) → sound redo t e (readChanges left (drop w j))
+      ≡ (sound redo t e (changeAt j w ∷ []) && sound redo t (suc (getD j w 0)) (readChanges (left - 1) (drop (w + 3) j)))
+  unfolding changeAt
+  sound-turn redo t e = rw (read-next j w left some) (sound-next redo t e (changeAt j w) _)
+
+  -- r is what the test of the change gave
+  module _ (redo : Bool) (t : List ℕ) (e : ℕ) (r : Bool) (tested : r ≡ sound redo t e (changeAt j w ∷ [])) where
+    pub sound-stops : r ≡ false → sound redo t e (readChanges left (drop w j)) ≡ false
+    sound-stops h = sound-turn redo t e ∙ rw (← tested, h)
+
+    pub sound-goes : r ≡ true
+        → sound redo t e (readChanges left (drop w j)) ≡ sound redo t (getD j w 0 + 1) (readChanges (left - 1) (drop (w + 3) j))
+    sound-goes h = sound-turn redo t e ∙ rw (← tested, h, add-one)
 
 -- ---- what the tests say where all are passed
 

@@ -111,7 +111,7 @@ pub fn unbroken(redo: bool, table: &[u32], journal: &[u32], a: usize, k: u32) ->
     requires { ⌜ (2 ≤ length (now journal)) × (end (now journal) ≤ length (now journal)) ⌝ }
     ensures { λ r. ⌜ r ≡ unbroken redo (now (table .entry)) (now (journal .entry)) a k ⌝ }
 {
-    let size = 3 * (k as usize) + 2;
+    let last = 3 * (k as usize) + 1;
     let end = journal[1] as usize;
     if k == 0 {
         return false;
@@ -122,10 +122,10 @@ pub fn unbroken(redo: bool, table: &[u32], journal: &[u32], a: usize, k: u32) ->
     if end < a {
         return false;
     }
-    if end - a < size {
+    if end - a <= last {
         return false;
     }
-    if journal[a] != journal[a + (size - 1)] {
+    if journal[a] != journal[a + last] {
         return false;
     }
     sound_changes(redo, table, journal, a, k as usize)
