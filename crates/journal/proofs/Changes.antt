@@ -5,7 +5,7 @@ use mathlib.Core.Path.{_≡_, refl, sym, ap, _∙_}
 use mathlib.Core.List.{List, [], _∷_, _++_, append-nil}
 use native.Mathlib.Nat.{suc-inj, add-zero}
 use native.Mathlib.Omega.{arith}
-use lib.ListN.{length, getD, take}
+use lib.ListN.{length, getD, take, drop, length-append, take-append-drop}
 use lib.Seq.{length-take-le, take-suc, take-length}
 use lib.Dec.{eqb}
 use borrow.Author.Tests.{eq-eqb, ne-eqb}
@@ -36,6 +36,17 @@ module _ (t u : List ℕ) (long : length t ≡ length u) where
   pub below-all : changesBelow (length t) t u ≡ changesFrom 0 t u
   unfolding changesBelow
   below-all = rw (take-length t, long, take-length u)
+
+  -- those below an entry are no more than all
+  pub below-most : (e : ℕ) → e ≤ length t → length (changesBelow e t u) ≤ length (changesFrom 0 t u)
+  unfolding changesBelow
+  below-most e h =
+      let lt = length-take-le e t h in
+      let lu = length-take-le e u (omega arith) in
+      let p = changes-append (take e t) (take e u) (drop e t) (drop e u) 0 (omega arith) in
+      let q = length-append (changesFrom 0 (take e t) (take e u)) (changesFrom (0 + length (take e t)) (drop e t) (drop e u)) in
+      let r = ap length (rw (take-append-drop e t, take-append-drop e u) at p) in
+      omega arith
 
   module _ (e : ℕ) (inside : e < length t) (d : ℕ) where
     below-step : changesBelow (suc e) t u ≡ changesBelow e t u ++ changesFrom e (getD t e d ∷ []) (getD u e d ∷ [])

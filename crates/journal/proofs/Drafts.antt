@@ -4,7 +4,7 @@ use Prim.Native.Nat.{ℕ, zero, suc, _+_, _*_, _-_, min, _≤_, _<_}
 use mathlib.Core.Path.{_≡_, refl, sym, ap, _∙_}
 use mathlib.Core.List.{List, [], _∷_, _++_, append-assoc, append-nil}
 use native.Mathlib.Omega.{arith}
-use lib.ListN.{length, getD, set, take, drop, length-append, length-take, length-drop, take-append-drop}
+use lib.ListN.{length, getD, set, take, drop, length-append, length-set, length-take, length-drop, take-append-drop}
 use lib.Seq.{sets, sets-eq, take-at, drop-at, drop-drop, set-at, take-suc, drop-cons, length-take-le, append-snoc, drop-set-lt}
 use Rattle.model.specs.Journal.{Change, cursor, triples, recordOf, written, readChanges, changesAt}
 use Rattle.model.proofs.History.Record.{length-flat, length-record, changes-flat}
@@ -22,14 +22,13 @@ draft-none j =
     let q : suc (cursor j) + 3 * 0 ≡ suc (cursor j) = omega arith in
     rw (q, append-nil (take (suc (cursor j)) j)) (take-append-drop (suc (cursor j)) j)
 
--- the cursor stays
-pub draft-cursor : (j : List ℕ) (cs : List Change) → zero < length j → cursor (drafted j cs) ≡ cursor j
+draft-cursor : (j : List ℕ) (cs : List Change) → zero < length j → cursor (drafted j cs) ≡ cursor j
 unfolding cursor drafted
 draft-cursor [] cs h = absurd (omega arith)
 draft-cursor (x ∷ xs) cs h = refl
 
 -- where there is room behind a draft, there is as much in the journal that it was begun in
-pub draft-room : (j : List ℕ) (cs : List Change) (m : ℕ) → 1 < m
+draft-room : (j : List ℕ) (cs : List Change) (m : ℕ) → 1 < m
     → cursor (drafted j cs) + (3 * length cs + m) ≤ length (drafted j cs)
     → (cursor (drafted j cs) ≡ cursor j) × (cursor j + (3 * length cs + m) ≤ length j)
 draft-room j cs m some h =
@@ -54,9 +53,14 @@ module _ (j : List ℕ) (cs : List Change) where
       let f = length-flat cs in
       rw length-append (omega arith)
 
-  pub draft-length : suc (cursor j) + 3 * length cs ≤ length j → length (drafted j cs) ≡ length j
+  draft-length : stop ≤ length j → length (drafted j cs) ≡ length j
   unfolding drafted
   draft-length h = let f = front-length h in rw (length-append front, length-drop) (omega arith)
+
+  -- where the record has room, its draft leaves the cursor and the length
+  pub draft-keeps : cursor j + (3 * length cs + 2) ≤ length j
+      → (cursor (drafted j cs) ≡ cursor j) × (length (drafted j cs) ≡ length j)
+  draft-keeps h = (draft-cursor j cs (omega arith), draft-length (omega arith))
 
   -- three stores behind the last triple
   added : (c : Change) → suc (cursor j) + 3 * length cs + 3 ≤ length j
@@ -96,7 +100,14 @@ module _ (j : List ℕ) (cs : List Change) where
       ∙ set-at (take c j ++ n ∷ triples cs) y behind n (c + (3 * n + 1)) (omega arith)
       ∙ rw q (simp append-assoc)
 
-  -- the record that is written gives its changes back
+  -- a record that is written leaves the length, and gives its changes back
+  pub written-length : cursor j + (3 * length cs + 2) ≤ length j → length (written j (recordOf cs)) ≡ length j
+  unfolding written
+  written-length h =
+      let r = length-record cs in
+      let l = length-take-le (cursor j) j (omega arith) in
+      simp (length-set, length-append, length-drop) (omega arith)
+
   pub written-read : 2 ≤ cursor j → cursor j + (3 * length cs + 2) ≤ length j
       → changesAt (written j (recordOf cs)) (cursor j) (length cs) ≡ cs
   unfolding changesAt written recordOf

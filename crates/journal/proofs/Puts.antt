@@ -1,20 +1,17 @@
--- Putting the values of a record: one change after another (`read-next`, `put-next`, `sound-next`); an unbroken record lies
--- within the journal and the table (`unbroken-parts`, `sound-within`); what is put can be taken back (`put-back`).
-use Prim.Native.Nat.{ℕ, zero, suc, _+_, _*_, _-_, _≤_, _<_}
+-- Putting the values of a record, one change after another: `read-next` takes the first of those that are left, `put-turn` and
+-- `within-turn` are a turn of the loop.
+use Prim.Native.Nat.{ℕ, zero, suc, _+_, _-_, _<_}
 use mathlib.Core.Path.{_≡_, refl, sym, ap, _∙_}
-use mathlib.Core.Bool.{Bool, true, false, not, _&&_}
+use mathlib.Core.Bool.{Bool, true, false}
 use mathlib.Core.List.{List, [], _∷_}
-use native.Mathlib.Numerals.{add-one}
 use native.Mathlib.Omega.{arith}
 use lib.ListN.{length, getD, set, drop, length-set}
-use lib.Seq.{getD-drop, drop-drop, set-comm, set-set, set-getD}
-use lib.Dec.{leb, ltb, eqb}
-use borrow.Author.Tests.{leb-true, ltb-true, eqb-true, le-leb, lt-leb, lt-ltb, le-ltb, eq-eqb, ne-eqb}
-use Rattle.model.specs.Journal.{Change, end, readChanges, changesAt, putNew, putOld, put, sound, unbroken}
-use Rattle.model.proofs.Lists.Scan.{and-l, and-r, and-i}
+use lib.Seq.{getD-drop, drop-drop}
+use lib.Dec.{ltb}
+use borrow.Author.Tests.{ltb-true}
+use Rattle.model.specs.Journal.{Change, readChanges, putNew, putOld, put}
+use Rattle.model.proofs.Lists.Scan.{and-l, and-r}
 use Rattle.journal.specs.Records.{changeAt, valuePut, within}
-
--- ---- one change after another
 
 pub read-next : (j : List ℕ) (w k : ℕ) → zero < k → readChanges k (drop w j) ≡ changeAt j w ∷ readChanges (k - 1) (drop (w + 3) j)
 unfolding readChanges changeAt
@@ -39,75 +36,9 @@ pub within-next : (n : ℕ) (c : Change) (cs : List Change) → within n (c ∷ 
 unfolding within
 within-next n c cs h = let i = ltb (c .entry) n in let r = within n cs in (ltb-true _ _ (and-l i r h), and-r i r h)
 
--- the tests of a change, and of those behind it
-pub sound-tests : (redo : Bool) (t : List ℕ) (e : ℕ) (c : Change) (cs : List Change) → sound redo t e (c ∷ cs)
-    ≡ (leb e (c .entry) && ltb (c .entry) (length t) && not (eqb (c .old) (c .new))
-    && eqb (getD t (c .entry) 0) (valuePut (not redo) c) && sound redo t (suc (c .entry)) cs)
-unfolding sound valuePut
-sound-tests true t e c cs = refl
-sound-tests false t e c cs = refl
-
-and-true : (a : Bool) → (a && true) ≡ a
-and-true true = refl
-and-true false = refl
-
-and-false : (a : Bool) → (a && false) ≡ false
-and-false true = refl
-and-false false = refl
-
-pub sound-next : (redo : Bool) (t : List ℕ) (e : ℕ) (c : Change) (cs : List Change)
-    → sound redo t e (c ∷ cs) ≡ (sound redo t e (c ∷ []) && sound redo t (suc (c .entry)) cs)
-unfolding sound
-sound-next redo t e c cs = rw and-true
-
--- ---- the tests of the change at the word w
-
-module _ (redo : Bool) (t j : List ℕ) (e w : ℕ) where
-  abbrev here : Change
-  here = changeAt j w
-
-  pub sound-low : getD j w 0 < e → sound redo t e (changeAt j w ∷ []) ≡ false
-  unfolding changeAt
-  sound-low h = sound-tests redo t e here [] ∙ rw (lt-leb e (here .entry) h)
-
-  pub sound-past : length t ≤ getD j w 0 → sound redo t e (changeAt j w ∷ []) ≡ false
-  unfolding changeAt
-  sound-past h = sound-tests redo t e here [] ∙ rw (le-ltb (here .entry) (length t) h, and-false)
-
-  pub sound-alike : getD j (w + 1) 0 ≡ getD j (w + 2) 0 → sound redo t e (changeAt j w ∷ []) ≡ false
-  unfolding changeAt
-  sound-alike h = sound-tests redo t e here [] ∙ rw (eq-eqb (here .old) (here .new) h, and-false)
-
-  pub sound-differs : e ≤ getD j w 0 → getD j w 0 < length t → (getD j (w + 1) 0 ≡ getD j (w + 2) 0 → ⊥)
-      → sound redo t e (changeAt j w ∷ []) ≡ eqb (getD t (getD j w 0) 0) (valuePut (not redo) (changeAt j w))
-  unfolding sound changeAt
-  sound-differs low inside h =
-      sound-tests redo t e here []
-      ∙ rw (le-leb e (here .entry) low, lt-ltb (here .entry) (length t) inside, ne-eqb (here .old) (here .new) h) (and-true _)
-
--- ---- the tests of the record of k changes at the word a
-
-module _ (redo : Bool) (t j : List ℕ) (a k : ℕ) where
-  pub broken-empty : k ≡ 0 → unbroken redo t j a k ≡ false
-  unfolding unbroken
-  broken-empty h = rw (eq-eqb k 0 h)
-
-  pub broken-low : a < 2 → unbroken redo t j a k ≡ false
-  unfolding unbroken
-  broken-low h = rw (lt-leb 2 a h, and-false)
-
-  pub broken-long : end j < a + (3 * k + 2) → unbroken redo t j a k ≡ false
-  unfolding unbroken
-  broken-long h = rw (lt-leb (a + (3 * k + 2)) (end j) h, and-false)
-
-  pub broken-counts : (getD j a 0 ≡ getD j (a + (3 * k + 1)) 0 → ⊥) → unbroken redo t j a k ≡ false
-  unfolding unbroken
-  broken-counts h = rw (ne-eqb (getD j a 0) (getD j (a + (3 * k + 1)) 0) h, and-false)
-
-  pub unbroken-rest : (k ≡ 0 → ⊥) → 2 ≤ a → a + (3 * k + 2) ≤ end j → getD j a 0 ≡ getD j (a + (3 * k + 1)) 0
-      → unbroken redo t j a k ≡ sound redo t 0 (changesAt j a k)
-  unfolding unbroken
-  unbroken-rest some low fits counts = rw (ne-eqb k 0 some, le-leb 2 a low, le-leb (a + (3 * k + 2)) (end j) fits, eq-eqb _ _ counts)
+pub put-length : (redo : Bool) (cs : List Change) (t : List ℕ) → length (put redo cs t) ≡ length t
+put-length redo [] t = ap length (put-none redo t)
+put-length redo (c ∷ cs) t = ap length (put-next redo c cs t) ∙ put-length redo cs (set t (c .entry) (valuePut redo c)) ∙ length-set t (c .entry) (valuePut redo c)
 
 -- ---- a turn of a loop over the triples: the one at the word w, of as many as are left
 
@@ -121,108 +52,3 @@ module _ (j : List ℕ) (w left : ℕ) (some : zero < left) where
       → (getD j w 0 < n) × (within n (readChanges (left - 1) (drop (w + 3) j)) ≡ true)
   unfolding changeAt
   within-turn n h = within-next n (changeAt j w) _ (rw (read-next j w left some) at h)
-
-  sound-turn : (redo : Bool) (t : List ℕ) (e : ℕ) → sound redo t e (readChanges left (drop w j))
-      ≡ (sound redo t e (changeAt j w ∷ []) && sound redo t (suc (getD j w 0)) (readChanges (left - 1) (drop (w + 3) j)))
-  unfolding changeAt
-  sound-turn redo t e = rw (read-next j w left some) (sound-next redo t e (changeAt j w) _)
-
-  -- r is what the test of the change gave
-  module _ (redo : Bool) (t : List ℕ) (e : ℕ) (r : Bool) (tested : r ≡ sound redo t e (changeAt j w ∷ [])) where
-    pub sound-stops : r ≡ false → sound redo t e (readChanges left (drop w j)) ≡ false
-    sound-stops h = sound-turn redo t e ∙ rw (← tested, h)
-
-    pub sound-goes : r ≡ true
-        → sound redo t e (readChanges left (drop w j)) ≡ sound redo t (getD j w 0 + 1) (readChanges (left - 1) (drop (w + 3) j))
-    sound-goes h = sound-turn redo t e ∙ rw (← tested, h, add-one)
-
--- ---- what the tests say where all are passed
-
-record Passed (a b c d e : Bool) : Type 0 where
-  first : a ≡ true
-  second : b ≡ true
-  third : c ≡ true
-  fourth : d ≡ true
-  fifth : e ≡ true
-
-passed : (a b c d e : Bool) → (a && b && c && d && e) ≡ true → Passed a b c d e
-passed a b c d e h =
-    let abcd = and-l (a && b && c && d) e h in
-    let abc = and-l (a && b && c) d abcd in
-    let ab = and-l (a && b) c abc in
-    record {
-      first = and-l a b ab;
-      second = and-r a b ab;
-      third = and-r (a && b) c abc;
-      fourth = and-r (a && b && c) d abcd;
-      fifth = and-r (a && b && c && d) e h;
-    }
-
-record Sound (redo : Bool) (t : List ℕ) (e : ℕ) (c : Change) (cs : List Change) : Type 0 where
-  rising : e ≤ c .entry
-  inside : c .entry < length t
-  held : getD t (c .entry) 0 ≡ valuePut (not redo) c
-  rest : sound redo t (suc (c .entry)) cs ≡ true
-
-sound-parts : (redo : Bool) (t : List ℕ) (e : ℕ) (c : Change) (cs : List Change) → sound redo t e (c ∷ cs) ≡ true → Sound redo t e c cs
-sound-parts redo t e c cs h =
-    let p = passed _ _ _ _ _ (sym (sound-tests redo t e c cs) ∙ h) in
-    record { rising = leb-true _ _ (p .first); inside = ltb-true _ _ (p .second); held = eqb-true _ _ (p .fourth); rest = p .fifth }
-
--- an unbroken record ends within the words that stand, and is sound
-pub record Unbroken (redo : Bool) (t j : List ℕ) (a k : ℕ) : Type 0 where
-  pub fits : a + (3 * k + 2) ≤ end j
-  pub sounds : sound redo t 0 (changesAt j a k) ≡ true
-
-pub unbroken-parts : (redo : Bool) (t j : List ℕ) (a k : ℕ) → unbroken redo t j a k ≡ true → Unbroken redo t j a k
-unfolding unbroken
-unbroken-parts redo t j a k h =
-    let counts = eqb (getD j a 0) (getD j (a + (3 * k + 1)) 0) in
-    let p = passed (not (eqb k 0)) (leb 2 a) (leb (a + (3 * k + 2)) (end j)) counts (sound redo t 0 (changesAt j a k)) h in
-    record { fits = leb-true _ _ (p .third); sounds = p .fifth }
-
--- the entries of a sound record lie in the table
-pub sound-within : (redo : Bool) (t : List ℕ) (e : ℕ) (cs : List Change) → sound redo t e cs ≡ true → within (length t) cs ≡ true
-unfolding within
-sound-within redo t e [] h = refl
-sound-within redo t e (c ∷ cs) h =
-    let s = sound-parts redo t e c cs h in
-    and-i (lt-ltb _ _ (s .inside)) (sound-within redo t (suc (c .entry)) cs (s .rest))
-
-pub put-length : (redo : Bool) (cs : List Change) (t : List ℕ) → length (put redo cs t) ≡ length t
-put-length redo [] t = ap length (put-none redo t)
-put-length redo (c ∷ cs) t = ap length (put-next redo c cs t) ∙ put-length redo cs (set t (c .entry) (valuePut redo c)) ∙ length-set t (c .entry) (valuePut redo c)
-
--- ---- taking back
-
-module _ (redo : Bool) (t : List ℕ) where
-  -- a value before the entries of a sound record can be set before or after
-  put-set : (ways : Bool) (cs : List Change) (e x v : ℕ) (u : List ℕ) → sound redo t e cs ≡ true → x < e
-      → put ways cs (set u x v) ≡ set (put ways cs u) x v
-  put-set ways [] e x v u h l = put-none ways (set u x v) ∙ ap (λ (r : List ℕ). set r x v) (sym (put-none ways u))
-  put-set ways (c ∷ cs) e x v u h l =
-      let s = sound-parts redo t e c cs h in
-      let low = s .rising in
-      let y = c .entry in
-      let z = valuePut ways c in
-      put-next ways c cs (set u x v)
-      ∙ ap (put ways cs) (set-comm u x y v z (λ q. omega arith))
-      ∙ put-set ways cs (suc y) x v (set u y z) (s .rest) (omega arith)
-      ∙ ap (λ (r : List ℕ). set r x v) (sym (put-next ways c cs u))
-
-  -- the values of a sound record put into a table, and then those that they replaced, give the table back
-  back-from : (cs : List Change) (e : ℕ) → sound redo t e cs ≡ true → put (not redo) cs (put redo cs t) ≡ t
-  back-from [] e h = put-none (not redo) _ ∙ put-none redo t
-  back-from (c ∷ cs) e h =
-      let s = sound-parts redo t e c cs h in
-      let x = c .entry in
-      let v = valuePut redo c in
-      let w = valuePut (not redo) c in
-      let same : set (set t x v) x w ≡ t = set-set t x v w ∙ ap (set t x) (sym (s .held)) ∙ set-getD t x 0 in
-      put-next (not redo) c cs _
-      ∙ ap (put (not redo) cs)
-      (ap (λ (r : List ℕ). set r x w) (put-next redo c cs t) ∙ sym (put-set redo cs (suc x) x w (set t x v) (s .rest) (omega arith)) ∙ ap (put redo cs) same)
-      ∙ back-from cs (suc x) (s .rest)
-
-  pub put-back : (cs : List Change) → sound redo t 0 cs ≡ true → put (not redo) cs (put redo cs t) ≡ t
-  put-back cs h = back-from cs 0 h

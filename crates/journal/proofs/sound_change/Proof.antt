@@ -5,7 +5,7 @@ use native.Mathlib.Omega.{arith}
 use lib.ListN.{length, getD}
 use lib.Dec.{eqb}
 use borrow.Author.Needs.{needs}
-use Rattle.journal.proofs.Puts.{sound-low, sound-past, sound-alike, sound-differs}
+use Rattle.journal.proofs.Breaks.{sound-low, sound-past, sound-alike, sound-differs}
 use Rattle.journal.proofs.sound_change.Statement.{statement}
 use Rattle.journal.proofs.sound_change.Tie as tie
 use Rattle.journal.proofs.sound_change.Reads as reads

@@ -8,7 +8,7 @@ use lib.ListN.{length, drop}
 use borrow.Author.Needs.{needs}
 use borrow.Author.Tests.{not-true, not-false}
 use Rattle.model.specs.Journal.{changesAt, readChanges, sound}
-use Rattle.journal.proofs.Puts.{sound-stops, sound-goes}
+use Rattle.journal.proofs.Breaks.{sound-stops, sound-goes}
 use Rattle.journal.proofs.sound_changes.Statement.{statement}
 use Rattle.journal.proofs.sound_changes.Tie as tie
 use Rattle.journal.proofs.sound_changes.Reads as reads

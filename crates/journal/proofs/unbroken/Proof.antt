@@ -1,9 +1,9 @@
 -- `unbroken` meets its contract: each `return false` by the test that fails.
-use mathlib.Core.Path.{sym, _∙_}
+use mathlib.Core.Path.{sym}
 use native.Mathlib.Omega.{arith}
 use borrow.Author.Needs.{needs}
 use Rattle.model.specs.Journal.{end}
-use Rattle.journal.proofs.Puts.{broken-empty, broken-low, broken-long, broken-counts, unbroken-rest}
+use Rattle.journal.proofs.Breaks.{broken-empty, broken-low, broken-long, broken-counts, unbroken-tested}
 use Rattle.journal.proofs.unbroken.Statement.{statement}
 use Rattle.journal.proofs.unbroken.Tie as tie
 use Rattle.journal.proofs.unbroken.Reads as reads
@@ -66,9 +66,8 @@ sound-changes-requires c κs = omega arith
 returns-6 : tie.Need-returns-6
 unfolding end
 returns-6 c =
-    let s = c .before .before .before .before in
-    let low = s .before .before in
-    c .sound-changes .ensures ∙ sym (unbroken-rest _ _ _ _ _ (low .before .if1 .left) (low .if2 .left) (omega arith) (c .before .if5 .left))
+    let low = c .before .before .before .before .before .before in
+    unbroken-tested _ _ _ _ _ (low .before .if1 .left) (low .if2 .left) (omega arith) (c .before .if5 .left) _ (c .sound-changes .ensures)
 
 pub unbroken-spec : {M : Type 1} → statement M
 unbroken-spec =
