@@ -26,7 +26,7 @@ and-true : (a : Bool) → (a && true) ≡ a
 and-true true = refl
 and-true false = refl
 
-pub and-false : (a : Bool) → (a && false) ≡ false
+and-false : (a : Bool) → (a && false) ≡ false
 and-false true = refl
 and-false false = refl
 
@@ -131,10 +131,16 @@ pub record Sound (redo : Bool) (t : List ℕ) (e : ℕ) (c : Change) (cs : List 
   pub held : getD t (c .entry) 0 ≡ valuePut (not redo) c
   pub rest : sound redo t (suc (c .entry)) cs ≡ true
 
-pub sound-parts : (redo : Bool) (t : List ℕ) (e : ℕ) (c : Change) (cs : List Change) → sound redo t e (c ∷ cs) ≡ true → Sound redo t e c cs
+pub sound-parts : (redo : Bool) (t : List ℕ) (e : ℕ) (c : Change) (cs : List Change)
+    → sound redo t e (c ∷ cs) ≡ true → Sound redo t e c cs
 sound-parts redo t e c cs h =
     let p = passed _ _ _ _ _ (sym (sound-tests redo t e c cs) ∙ h) in
-    record { rising = leb-true _ _ (p .first); inside = ltb-true _ _ (p .second); held = eqb-true _ _ (p .fourth); rest = p .fifth }
+    record {
+      rising = leb-true _ _ (p .first);
+      inside = ltb-true _ _ (p .second);
+      held = eqb-true _ _ (p .fourth);
+      rest = p .fifth;
+    }
 
 -- an unbroken record ends within the words that stand, and is sound
 pub record Unbroken (redo : Bool) (t j : List ℕ) (a k : ℕ) : Type 0 where

@@ -5,7 +5,7 @@ use mathlib.Core.Path.{_≡_, refl, sym, ap, _∙_}
 use mathlib.Core.List.{List, [], _∷_, _++_, append-assoc, append-nil}
 use native.Mathlib.Omega.{arith}
 use lib.ListN.{length, getD, set, take, drop, length-append, length-set, length-take, length-drop, take-append-drop}
-use lib.Seq.{sets, sets-eq, take-at, drop-at, drop-drop, set-at, take-suc, drop-cons, length-take-le, append-snoc, drop-set-lt}
+use lib.Seq.{sets, sets-eq, take-at, drop-at, drop-drop, set-at, take-suc, drop-cons, length-take-le, drop-set-lt}
 use Rattle.model.specs.Journal.{Change, cursor, triples, recordOf, written, readChanges, changesAt}
 use Rattle.model.proofs.History.Record.{length-flat, length-record, changes-flat}
 use Rattle.journal.specs.Records.{drafted}
@@ -32,13 +32,14 @@ draft-room : (j : List ℕ) (cs : List Change) (m : ℕ) → 1 < m
     → cursor (drafted j cs) + (3 * length cs + m) ≤ length (drafted j cs)
     → (cursor (drafted j cs) ≡ cursor j) × (cursor j + (3 * length cs + m) ≤ length j)
 draft-room j cs m some h =
-    let l = length-drafted in
+    let l = long in
     let p : zero < length j = omega arith in
     let q = draft-cursor j cs p in
     (q, omega arith)
   where
-    length-drafted : length (drafted j cs) ≡ min (suc (cursor j)) (length j) + 3 * length cs + (length j - (suc (cursor j) + 3 * length cs))
-    length-drafted = unfold drafted in simp (length-append, length-flat, length-take, length-drop)
+    long : length (drafted j cs)
+        ≡ min (suc (cursor j)) (length j) + 3 * length cs + (length j - (suc (cursor j) + 3 * length cs))
+    long = unfold drafted in simp (length-append, length-flat, length-take, length-drop)
 
 module _ (j : List ℕ) (cs : List Change) where
   abbrev front : List ℕ
@@ -93,7 +94,8 @@ module _ (j : List ℕ) (cs : List Change) where
       let f = length-flat cs in
       let a = length-append (take c j) (n ∷ triples cs) in
       let q : c + (3 * n + 2) ≡ suc stop = omega arith in
-      let words : drafted j cs ≡ take c j ++ (x ∷ (triples cs ++ y ∷ behind)) = rw (take-suc j c 0 (omega arith), drop-cons j stop 0 (omega arith)) (simp append-assoc) in
+      let words : drafted j cs ≡ take c j ++ (x ∷ (triples cs ++ y ∷ behind)) =
+      rw (take-suc j c 0 (omega arith), drop-cons j stop 0 (omega arith)) (simp append-assoc) in
       ap (λ (r : List ℕ). set (set r c n) (c + (3 * n + 1)) n) words
       ∙ ap (λ (r : List ℕ). set r (c + (3 * n + 1)) n)
       (set-at (take c j) x (triples cs ++ y ∷ behind) n c l ∙ sym (append-assoc (take c j) (n ∷ triples cs) (y ∷ behind)))
@@ -131,8 +133,8 @@ module _ (j : List ℕ) (cs : List Change) where
 module _ (w j : List ℕ) (cs : List Change) (k : ℕ) (draft : w ≡ drafted j cs) (count : k ≡ length cs) where
   -- a triple behind the last one: a draft of one change more
   pub draft-more : (c : Change) → cursor w + (3 * k + 5) ≤ length w
-      → set (set (set w (cursor w + 3 * k + 1) (c .entry)) (cursor w + 3 * k + 1 + 1) (c .old)) (cursor w + 3 * k + 1 + 2) (c .new)
-      ≡ drafted j (cs ++ c ∷ [])
+      → let i = cursor w + 3 * k + 1 in
+      set (set (set w i (c .entry)) (i + 1) (c .old)) (i + 2) (c .new) ≡ drafted j (cs ++ c ∷ [])
   draft-more c h =
       let r = draft-room j cs 5 (omega arith) (rw (draft, count) at h) in
       let room = r .1 in
@@ -143,8 +145,8 @@ module _ (w j : List ℕ) (cs : List Change) (k : ℕ) (draft : w ≡ drafted j 
 
   -- the two counts, the cursor and the end: the record is written
   pub draft-closed : cursor w + (3 * k + 2) ≤ length w
-      → set (set (set (set w (cursor w) k) (cursor w + 3 * k + 1) k) 0 (cursor w + 3 * k + 1 + 1)) 1 (cursor w + 3 * k + 1 + 1)
-      ≡ written j (recordOf cs)
+      → let i = cursor w + 3 * k + 1 in
+      set (set (set (set w (cursor w) k) i k) 0 (i + 1)) 1 (i + 1) ≡ written j (recordOf cs)
   unfolding written
   draft-closed h =
       let r = draft-room j cs 2 (omega arith) (rw (draft, count) at h) in

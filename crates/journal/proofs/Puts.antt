@@ -38,7 +38,9 @@ within-next n c cs h = let i = ltb (c .entry) n in let r = within n cs in (ltb-t
 
 pub put-length : (redo : Bool) (cs : List Change) (t : List ℕ) → length (put redo cs t) ≡ length t
 put-length redo [] t = ap length (put-none redo t)
-put-length redo (c ∷ cs) t = ap length (put-next redo c cs t) ∙ put-length redo cs (set t (c .entry) (valuePut redo c)) ∙ length-set t (c .entry) (valuePut redo c)
+put-length redo (c ∷ cs) t =
+    let v = valuePut redo c in
+    ap length (put-next redo c cs t) ∙ put-length redo cs (set t (c .entry) v) ∙ length-set t (c .entry) v
 
 -- ---- a turn of a loop over the triples: the one at the word w, of as many as are left
 

@@ -1,14 +1,14 @@
 -- The pass that writes a record: it begins with `scan-none`, goes over an entry by `scan-same` or, with a call of `write_change`,
--- by `scan-more`, and has the whole draft by `scan-all`.
+-- by `scan-more`, passes over alike entries by `scan-alike`, and has the whole draft by `scan-all`.
 use Prim.Native.Nat.{ℕ, suc, _+_, _*_, _≤_, _<_}
-use mathlib.Core.Path.{_≡_, refl, sym, ap, _∙_}
+use mathlib.Core.Path.{_≡_, sym, ap, _∙_}
 use mathlib.Core.List.{List, [], _∷_, _++_}
 use native.Mathlib.Numerals.{add-one}
 use native.Mathlib.Omega.{arith}
-use lib.ListN.{length, getD, length-append}
+use lib.ListN.{length, getD}
 use Rattle.model.specs.Journal.{Change, cursor, changesFrom}
 use Rattle.journal.specs.Records.{drafted, changesBelow, Scanned}
-use Rattle.journal.proofs.Changes.{below-none, below-all, below-most, below-same, below-other}
+use Rattle.journal.proofs.Changes.{below-none, below-all, below-most, below-same, below-other, below-count, below-alike}
 use Rattle.journal.proofs.Drafts.{draft-none, draft-keeps}
 
 module _ (t u j : List ℕ) (long : length t ≡ length u) where
@@ -23,6 +23,13 @@ module _ (t u j : List ℕ) (long : length t ≡ length u) where
       let a = below-all t u long in
       (s .draft ∙ ap (drafted j) a, s .count ∙ ap length a)
 
+  -- over entries that are alike in both tables
+  pub scan-alike : (e n d : ℕ) → e + n ≤ length t → ((i : ℕ) → i < n → getD t (e + i) d ≡ getD u (e + i) d)
+      → {k : ℕ} {w : List ℕ} → Scanned t u j e k w → Scanned t u j (e + n) k w
+  scan-alike e n d h same s =
+      let b = below-alike t u long e n d h same in
+      record { draft = s .draft ∙ ap (drafted j) (sym b); count = s .count ∙ ap length (sym b) }
+
   module _ (e k : ℕ) (w : List ℕ) (inside : e < length t) (d : ℕ) (s : Scanned t u j e k w) where
     pub scan-same : getD t e d ≡ getD u e d → Scanned t u j (e + 1) k w
     scan-same h =
@@ -30,15 +37,8 @@ module _ (t u j : List ℕ) (long : length t ≡ length u) where
         rw add-one (record { draft = s .draft ∙ ap (drafted j) (sym b); count = s .count ∙ ap length (sym b) })
 
     module _ (differs : getD t e d ≡ getD u e d → ⊥) where
-      abbrev change : Change
-      change = record { entry = e; old = getD t e d; new = getD u e d }
-
       longer : suc k ≡ length (changesBelow (suc e) t u)
-      longer =
-          let c = s .count in
-          let l = length-append (changesBelow e t u) (change ∷ []) in
-          let b = ap length (below-other t u long e inside d differs) in
-          omega arith
+      longer = let c = s .count in let b = below-count t u long e inside d differs in omega arith
 
       -- what `write_change` requires
       pub scan-room : cursor j + (3 * length (changesFrom 0 t u) + 2) ≤ length j → cursor w + (3 * k + 5) ≤ length w

@@ -1,7 +1,7 @@
 // Records of the journal: room for one, writing one at the cursor, putting its values into a table, and the test whether
 // it is broken. Each word is read and written within the journal and the table, whatever a record says.
 ghost use mathlib.Core.Path.{_≡_};
-ghost use mathlib.Core.Bool.{Bool, true, not};
+ghost use mathlib.Core.Bool.{true};
 ghost use mathlib.Core.List.{List, [], _∷_, _++_};
 ghost use Prim.Native.Nat.{ℕ, _+_, _*_, _-_, _<_, _≤_};
 ghost use lib.ListN.{length, getD};
@@ -20,7 +20,9 @@ pub fn record_fits(journal: &[u32], k: u32) -> bool
 // Writes the triple number `done` of the record at the cursor: a draft of `done` changes has one more.
 pub fn write_change(journal: &mut [u32], done: usize, entry: u32, old: u32, new: u32)
     requires { ⌜ cursor (now journal) + (3 * done + 5) ≤ length (now journal) ⌝ }
-    ensures { λ _. ⌜ ((j : List ℕ) (cs : List Change) → now (journal .entry) ≡ drafted j cs → done ≡ length cs → now (journal .exit) ≡ drafted j (cs ++ (record { entry = entry; old = old; new = new } ∷ []))) ⌝ }
+    ensures { λ _.
+        ⌜ ((j : List ℕ) (cs : List Change) → now (journal .entry) ≡ drafted j cs → done ≡ length cs
+        → now (journal .exit) ≡ drafted j (cs ++ record { entry = entry; old = old; new = new } ∷ [])) ⌝ }
 {
     let w = journal[0] as usize + 3 * done + 1;
     journal[w] = entry;
@@ -31,14 +33,17 @@ pub fn write_change(journal: &mut [u32], done: usize, entry: u32, old: u32, new:
 // Writes k before and behind the k triples of a draft; the cursor and the end go behind it: the record is written.
 pub fn close_record(journal: &mut [u32], k: u32)
     requires { ⌜ (cursor (now journal) + (3 * k + 2) ≤ length (now journal)) × (length (now journal) ≤ 1048576) ⌝ }
-    ensures { λ _. ⌜ ((j : List ℕ) (cs : List Change) → now (journal .entry) ≡ drafted j cs → k ≡ length cs → now (journal .exit) ≡ written j (recordOf cs)) ⌝ }
+    ensures { λ _.
+        ⌜ ((j : List ℕ) (cs : List Change) → now (journal .entry) ≡ drafted j cs → k ≡ length cs
+        → now (journal .exit) ≡ written j (recordOf cs)) ⌝ }
 {
     let start = journal[0] as usize;
     let last = start + 3 * (k as usize) + 1;
     journal[start] = k;
     journal[last] = k;
-    journal[0] = last as u32 + 1;
-    journal[1] = last as u32 + 1;
+    let behind = last as u32 + 1;
+    journal[0] = behind;
+    journal[1] = behind;
 }
 
 // The value that the triple at the word w puts: the new one where redo is true, else the old one.
@@ -46,11 +51,7 @@ fn value_put(redo: bool, journal: &[u32], w: usize) -> u32
     requires { ⌜ w + 3 ≤ length (now journal) ⌝ }
     ensures { λ r. ⌜ r ≡ valuePut redo (changeAt (now (journal .entry)) w) ⌝ }
 {
-    if redo {
-        journal[w + 2]
-    } else {
-        journal[w + 1]
-    }
+    if redo { journal[w + 2] } else { journal[w + 1] }
 }
 
 // Puts the new values (redo), or the old ones, of the k changes of the record at the word a into the table.
@@ -132,23 +133,24 @@ pub fn unbroken(redo: bool, table: &[u32], journal: &[u32], a: usize, k: u32) ->
 }
 
 // A record in the journal: the word where it begins, and how many changes it has.
-pub struct Place {
+pub struct RecordAt {
     pub start: usize,
     pub count: u32,
 }
 
 // The record before the cursor, by its last word; it begins at 0 if it would begin before that.
-pub fn undo_start(journal: &[u32]) -> Place
+pub fn undo_start(journal: &[u32]) -> RecordAt
     requires { ⌜ (2 ≤ cursor (now journal)) × (cursor (now journal) ≤ length (now journal)) ⌝ }
-    ensures { λ r. ⌜ (r .count ≡ getD (now (journal .entry)) (cursor (now (journal .entry)) - 1) 0) × (r .start ≡ cursor (now (journal .entry)) - (3 * r .count + 2)) ⌝ }
+    ensures count { λ r. ⌜ r .count ≡ getD (now (journal .entry)) (cursor (now (journal .entry)) - 1) 0 ⌝ }
+    ensures start { λ r. ⌜ r .start ≡ cursor (now (journal .entry)) - (3 * r .count + 2) ⌝ }
 {
     let cursor = journal[0] as usize;
     let k = journal[cursor - 1];
     let size = 3 * (k as usize) + 2;
     if cursor < size {
-        return Place { start: 0, count: k };
+        return RecordAt { start: 0, count: k };
     }
-    Place {
+    RecordAt {
         start: cursor - size,
         count: k,
     }

@@ -1,15 +1,11 @@
 -- `close_record` meets its contract, by `draft-closed`.
-use Prim.Native.Nat.{suc, _+_, _*_}
-use mathlib.Core.Path.{_≡_, refl, ap, sym, _∙_}
 use native.Mathlib.Omega.{arith}
-use lib.ListN.{length, length-set}
+use lib.ListN.{length-set}
 use borrow.Author.Needs.{needs}
 use Rattle.model.specs.Journal.{cursor}
 use Rattle.journal.proofs.Drafts.{draft-closed}
 use Rattle.journal.proofs.close_record.Statement.{statement}
 use Rattle.journal.proofs.close_record.Tie as tie
-use Rattle.journal.proofs.close_record.Reads as reads
-use Rattle.journal.proofs.close_record.Lts as lts
 
 slice-read-start : tie.Need-slice-read-start
 slice-read-start c = search needs
@@ -44,24 +40,16 @@ slice-write-journal-2 : tie.Need-slice-write-journal-2
 unfolding cursor
 slice-write-journal-2 c = simp length-set (omega arith)
 
-cast-journal : tie.Need-cast-journal
+cast-behind : tie.Need-cast-behind
 unfolding cursor
-cast-journal c = omega arith
+cast-behind c = omega arith
 
-add-journal : tie.Need-add-journal
+add-behind : tie.Need-add-behind
 unfolding cursor
-add-journal c = omega arith
+add-behind c = omega arith
 
 slice-write-journal-3 : tie.Need-slice-write-journal-3
 slice-write-journal-3 c = simp length-set (omega arith)
-
-cast-journal-2 : tie.Need-cast-journal-2
-unfolding cursor
-cast-journal-2 c = omega arith
-
-add-journal-2 : tie.Need-add-journal-2
-unfolding cursor
-add-journal-2 c = omega arith
 
 slice-write-journal-4 : tie.Need-slice-write-journal-4
 slice-write-journal-4 c = simp length-set (omega arith)
@@ -86,11 +74,9 @@ close-record-spec =
     slice-write-journal
     mul-journal-2
     slice-write-journal-2
-    cast-journal
-    add-journal
+    cast-behind
+    add-behind
     slice-write-journal-3
-    cast-journal-2
-    add-journal-2
     slice-write-journal-4
     same-length
     returns)

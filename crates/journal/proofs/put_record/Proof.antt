@@ -12,9 +12,6 @@ use Rattle.journal.specs.Records.{within}
 use Rattle.journal.proofs.Puts.{put-turn, within-turn, put-length, put-none}
 use Rattle.journal.proofs.put_record.Statement.{statement}
 use Rattle.journal.proofs.put_record.Tie as tie
-use Rattle.journal.proofs.put_record.Reads as reads
-use Rattle.journal.proofs.put_record.Lts as lts
-use Rattle.journal.proofs.value_put.Reads as value-put-reads
 
 abbrev Inv-loop : tie.InvT-loop
 Inv-loop redo table₀ journal a k w₀ left₀ table w left =
@@ -33,16 +30,21 @@ unfolding changesAt
 loop-holds c =
     let s = c .before .before in
     let a = s .args in
-    let first = add-one (a .a) in
-    (ap (λ (w : ℕ). put (a .redo) (readChanges (a .k) (drop w (a .journal .now))) (a .table .now)) first,
-    ap (λ (w : ℕ). within (length (a .table .now)) (readChanges (a .k) (drop w (a .journal .now)))) first ∙ s .pre .1,
-    omega arith)
+    let first = add-one (a .a) in (
+      ap (λ (w : ℕ). put (a .redo) (readChanges (a .k) (drop w (a .journal .now))) (a .table .now)) first,
+      ap (λ (w : ℕ). within (length (a .table .now)) (readChanges (a .k) (drop w (a .journal .now)))) first ∙ s .pre .1,
+      omega arith,
+    )
 
 -- in a turn the entry lies in the table, and so do those behind it
 inside : (c : tie.In-loop Inv-loop μ-loop)
-    → (getD (c .before .before .before .before .args .journal .now) (c .before .loop .w) 0 < length (c .before .loop .table))
-    × (within (length (c .before .loop .table)) (readChanges (c .before .loop .left - 1) (drop (c .before .loop .w + 3) (c .before .before .before .before .args .journal .now))) ≡ true)
-inside c = within-turn (c .before .before .before .before .args .journal .now) (c .before .loop .w) _ (c .loop-test .taken) _ (c .before .loop .inv .1)
+    → let j = c .before .before .before .before .args .journal .now in
+    let l = c .before .loop in
+    (getD j (l .w) 0 < length (l .table)) × (within (length (l .table)) (readChanges (l .left - 1) (drop (l .w + 3) j)) ≡ true)
+inside c =
+    let j = c .before .before .before .before .args .journal .now in
+    let l = c .before .loop in
+    within-turn j (l .w) _ (c .loop-test .taken) _ (l .inv .1)
 
 mul-e : tie.Need-mul-e Inv-loop μ-loop
 mul-e c = search needs
@@ -74,10 +76,11 @@ loop-less c = search needs
 loop-again : tie.Need-loop-again Inv-loop μ-loop
 loop-again c =
     let i = c .before .before in
-    let l = i .before .loop in
-    (put-turn _ (l .w) (l .left) (i .loop-test .taken) _ (l .table) _ (c .value-put .ensures) ∙ l .inv .0,
-    rw length-set (inside i .1),
-    omega arith)
+    let l = i .before .loop in (
+      put-turn _ (l .w) (l .left) (i .loop-test .taken) _ (l .table) _ (c .value-put .ensures) ∙ l .inv .0,
+      rw length-set (inside i .1),
+      omega arith,
+    )
 
 same-length : tie.Need-same-length Inv-loop μ-loop
 same-length c = sym (put-length _ _ (c .before .loop .table)) ∙ ap length (c .before .loop .inv .0) ∙ put-length _ _ _

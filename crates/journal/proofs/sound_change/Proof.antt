@@ -1,16 +1,11 @@
 -- `sound_change` meets its contract.
-use Prim.Native.Nat.{suc, _+_, _*_, _-_, _<_}
-use mathlib.Core.Path.{_≡_, refl, ap, sym, _∙_}
+use mathlib.Core.Path.{ap, sym, _∙_}
 use native.Mathlib.Omega.{arith}
-use lib.ListN.{length, getD}
 use lib.Dec.{eqb}
 use borrow.Author.Needs.{needs}
 use Rattle.journal.proofs.Breaks.{sound-low, sound-past, sound-alike, sound-differs}
 use Rattle.journal.proofs.sound_change.Statement.{statement}
 use Rattle.journal.proofs.sound_change.Tie as tie
-use Rattle.journal.proofs.sound_change.Reads as reads
-use Rattle.journal.proofs.sound_change.Lts as lts
-use Rattle.journal.proofs.value_put.Reads as value-put-reads
 
 mul-e : tie.Need-mul-e
 mul-e c = search needs
@@ -61,7 +56,8 @@ returns-4 : tie.Need-returns-4
 returns-4 c =
     let differs = c .before .before in
     let inside = differs .before .before .before in
-    ap (eqb _) (c .value-put .ensures) ∙ sym (sound-differs _ _ _ _ _ (inside .before .if1 .left) (inside .if2 .left) (differs .if3 .left))
+    ap (eqb _) (c .value-put .ensures)
+    ∙ sym (sound-differs _ _ _ _ _ (inside .before .if1 .left) (inside .if2 .left) (differs .if3 .left))
 
 pub sound-change-spec : {M : Type 1} → statement M
 sound-change-spec =

@@ -1,7 +1,6 @@
 -- `sound_changes` meets its contract. The loop's invariant: the tests of the changes that are left decide.
 use Prim.Native.Nat.{ℕ, _+_, _*_, _<_}
-use mathlib.Core.Path.{_≡_, refl, ap, sym, _∙_}
-use mathlib.Core.Bool.{Bool, true, _&&_}
+use mathlib.Core.Path.{_≡_, ap, sym, _∙_}
 use native.Mathlib.Numerals.{add-one}
 use native.Mathlib.Omega.{arith}
 use lib.ListN.{length, drop}
@@ -11,9 +10,6 @@ use Rattle.model.specs.Journal.{changesAt, readChanges, sound}
 use Rattle.journal.proofs.Breaks.{sound-stops, sound-goes}
 use Rattle.journal.proofs.sound_changes.Statement.{statement}
 use Rattle.journal.proofs.sound_changes.Tie as tie
-use Rattle.journal.proofs.sound_changes.Reads as reads
-use Rattle.journal.proofs.sound_changes.Lts as lts
-use Rattle.journal.proofs.sound_change.Reads as sound-change-reads
 
 abbrev Inv-loop : tie.InvT-loop
 Inv-loop redo table journal a k w₀ left₀ least₀ w left least =
@@ -30,7 +26,8 @@ loop-holds : tie.Need-loop-holds Inv-loop μ-loop
 unfolding changesAt
 loop-holds c =
     let a = c .before .before .args in
-    (ap (λ (w : ℕ). sound (a .redo) (a .table .now) 0 (readChanges (a .k) (drop w (a .journal .now)))) (sym (add-one (a .a))), omega arith)
+    let first = sym (add-one (a .a)) in
+    (ap (λ (w : ℕ). sound (a .redo) (a .table .now) 0 (readChanges (a .k) (drop w (a .journal .now)))) first, omega arith)
 
 sound-change-requires : tie.Need-sound-change-requires Inv-loop μ-loop
 sound-change-requires c κs = search needs
@@ -68,7 +65,8 @@ loop-again c =
     let i = c .before .before .before in
     let l = i .before .loop in
     let change = c .before .before .sound-change in
-    (l .inv .0 ∙ sound-goes _ (l .w) _ (i .loop-test .taken) _ _ _ _ (change .ensures) (not-false _ (c .before .if1 .left)), omega arith)
+    let passed = not-false _ (c .before .if1 .left) in
+    (l .inv .0 ∙ sound-goes _ (l .w) _ (i .loop-test .taken) _ _ _ _ (change .ensures) passed, omega arith)
 
 returns-2 : tie.Need-returns-2 Inv-loop μ-loop
 unfolding readChanges sound

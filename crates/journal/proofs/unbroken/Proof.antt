@@ -6,9 +6,6 @@ use Rattle.model.specs.Journal.{end}
 use Rattle.journal.proofs.Breaks.{broken-empty, broken-low, broken-long, broken-counts, unbroken-tested}
 use Rattle.journal.proofs.unbroken.Statement.{statement}
 use Rattle.journal.proofs.unbroken.Tie as tie
-use Rattle.journal.proofs.unbroken.Reads as reads
-use Rattle.journal.proofs.unbroken.Lts as lts
-use Rattle.journal.proofs.sound_changes.Reads as sound-changes-reads
 
 mul-last : tie.Need-mul-last
 mul-last c = search needs
@@ -67,7 +64,8 @@ returns-6 : tie.Need-returns-6
 unfolding end
 returns-6 c =
     let low = c .before .before .before .before .before .before in
-    unbroken-tested _ _ _ _ _ (low .before .if1 .left) (low .if2 .left) (omega arith) (c .before .if5 .left) _ (c .sound-changes .ensures)
+    let counts = c .before .if5 .left in
+    unbroken-tested _ _ _ _ _ (low .before .if1 .left) (low .if2 .left) (omega arith) counts _ (c .sound-changes .ensures)
 
 pub unbroken-spec : {M : Type 1} → statement M
 unbroken-spec =

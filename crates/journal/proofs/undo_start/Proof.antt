@@ -7,8 +7,6 @@ use borrow.Author.Needs.{needs}
 use Rattle.model.specs.Journal.{cursor}
 use Rattle.journal.proofs.undo_start.Statement.{statement}
 use Rattle.journal.proofs.undo_start.Tie as tie
-use Rattle.journal.proofs.undo_start.Reads as reads
-use Rattle.journal.proofs.undo_start.Lts as lts
 
 shared-slice-read-cursor : tie.Need-shared-slice-read-cursor
 shared-slice-read-cursor c = search needs
@@ -29,7 +27,9 @@ unfolding cursor
 shared-slice-read-k c = search needs
 
 -- the count is a word
-count-fits : (c : tie.After-shared-slice-known2) → getD (c .before .before .args .journal .now) (getD (c .before .before .args .journal .now) 0 0 - 1) 0 < 2 ^ 32
+count-fits : (c : tie.After-shared-slice-known2)
+    → let j = c .before .before .args .journal .now in
+    getD j (getD j 0 0 - 1) 0 < 2 ^ 32
 count-fits c = c .shared-slice-known2 .given _ .fits
 
 cast-size : tie.Need-cast-size

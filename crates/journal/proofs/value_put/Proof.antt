@@ -1,8 +1,5 @@
 -- `value_put` meets its contract.
-use mathlib.Core.Path.{_≡_, refl, ap}
-use mathlib.Core.Bool.{Bool}
 use borrow.Author.Needs.{needs}
-use Rattle.model.specs.Journal.{Change}
 use Rattle.journal.specs.Records.{changeAt, valuePut}
 use Rattle.journal.proofs.value_put.Statement.{statement}
 use Rattle.journal.proofs.value_put.Tie as tie

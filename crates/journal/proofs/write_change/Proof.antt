@@ -1,15 +1,11 @@
 -- `write_change` meets its contract, by `draft-more`.
-use Prim.Native.Nat.{suc, _+_, _*_}
-use mathlib.Core.Path.{_≡_, refl, ap, sym, _∙_}
 use native.Mathlib.Omega.{arith}
-use lib.ListN.{length, length-set}
+use lib.ListN.{length-set}
 use borrow.Author.Needs.{needs}
 use Rattle.model.specs.Journal.{cursor}
 use Rattle.journal.proofs.Drafts.{draft-more}
 use Rattle.journal.proofs.write_change.Statement.{statement}
 use Rattle.journal.proofs.write_change.Tie as tie
-use Rattle.journal.proofs.write_change.Reads as reads
-use Rattle.journal.proofs.write_change.Lts as lts
 
 slice-read-w : tie.Need-slice-read-w
 slice-read-w c = search needs
