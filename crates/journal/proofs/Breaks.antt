@@ -1,0 +1,163 @@
+-- The tests by which a record is broken: of a change (`sound-low` to `sound-differs`), of the changes one after another
+-- (`sound-stops`, `sound-goes`), of a record (`broken-empty` to `unbroken-tested`), and what they say where all are passed
+-- (`sound-parts`, `unbroken-parts`, `sound-within`).
+use Prim.Native.Nat.{ℕ, zero, suc, _+_, _*_, _-_, _≤_, _<_}
+use mathlib.Core.Path.{_≡_, refl, sym, _∙_}
+use mathlib.Core.Bool.{Bool, true, false, not, _&&_}
+use mathlib.Core.List.{List, [], _∷_}
+use native.Mathlib.Numerals.{add-one}
+use lib.ListN.{length, getD, drop}
+use lib.Dec.{leb, ltb, eqb}
+use borrow.Author.Tests.{leb-true, ltb-true, eqb-true, le-leb, lt-leb, lt-ltb, le-ltb, eq-eqb, ne-eqb}
+use Rattle.model.specs.Journal.{Change, end, readChanges, changesAt, sound, unbroken}
+use Rattle.model.proofs.Lists.Scan.{and-l, and-r, and-i}
+use Rattle.journal.specs.Records.{changeAt, valuePut, within}
+use Rattle.journal.proofs.Puts.{read-next}
+
+-- the tests of a change, and of those behind it
+sound-tests : (redo : Bool) (t : List ℕ) (e : ℕ) (c : Change) (cs : List Change) → sound redo t e (c ∷ cs)
+    ≡ (leb e (c .entry) && ltb (c .entry) (length t) && not (eqb (c .old) (c .new))
+    && eqb (getD t (c .entry) 0) (valuePut (not redo) c) && sound redo t (suc (c .entry)) cs)
+unfolding sound valuePut
+sound-tests true t e c cs = refl
+sound-tests false t e c cs = refl
+
+and-true : (a : Bool) → (a && true) ≡ a
+and-true true = refl
+and-true false = refl
+
+and-false : (a : Bool) → (a && false) ≡ false
+and-false true = refl
+and-false false = refl
+
+sound-next : (redo : Bool) (t : List ℕ) (e : ℕ) (c : Change) (cs : List Change)
+    → sound redo t e (c ∷ cs) ≡ (sound redo t e (c ∷ []) && sound redo t (suc (c .entry)) cs)
+unfolding sound
+sound-next redo t e c cs = rw and-true
+
+-- ---- the tests of the change at the word w
+
+module _ (redo : Bool) (t j : List ℕ) (e w : ℕ) where
+  abbrev here : Change
+  here = changeAt j w
+
+  pub sound-low : getD j w 0 < e → sound redo t e (changeAt j w ∷ []) ≡ false
+  unfolding changeAt
+  sound-low h = sound-tests redo t e here [] ∙ rw (lt-leb e (here .entry) h)
+
+  pub sound-past : length t ≤ getD j w 0 → sound redo t e (changeAt j w ∷ []) ≡ false
+  unfolding changeAt
+  sound-past h = sound-tests redo t e here [] ∙ rw (le-ltb (here .entry) (length t) h, and-false)
+
+  pub sound-alike : getD j (w + 1) 0 ≡ getD j (w + 2) 0 → sound redo t e (changeAt j w ∷ []) ≡ false
+  unfolding changeAt
+  sound-alike h = sound-tests redo t e here [] ∙ rw (eq-eqb (here .old) (here .new) h, and-false)
+
+  pub sound-differs : e ≤ getD j w 0 → getD j w 0 < length t → (getD j (w + 1) 0 ≡ getD j (w + 2) 0 → ⊥)
+      → sound redo t e (changeAt j w ∷ []) ≡ eqb (getD t (getD j w 0) 0) (valuePut (not redo) (changeAt j w))
+  unfolding sound changeAt
+  sound-differs low inside h =
+      sound-tests redo t e here []
+      ∙ rw (le-leb e (here .entry) low, lt-ltb (here .entry) (length t) inside, ne-eqb (here .old) (here .new) h) (and-true _)
+
+-- ---- the tests of the record of k changes at the word a
+
+module _ (redo : Bool) (t j : List ℕ) (a k : ℕ) where
+  pub broken-empty : k ≡ 0 → unbroken redo t j a k ≡ false
+  unfolding unbroken
+  broken-empty h = rw (eq-eqb k 0 h)
+
+  pub broken-low : a < 2 → unbroken redo t j a k ≡ false
+  unfolding unbroken
+  broken-low h = rw (lt-leb 2 a h, and-false)
+
+  pub broken-long : end j < a + (3 * k + 2) → unbroken redo t j a k ≡ false
+  unfolding unbroken
+  broken-long h = rw (lt-leb (a + (3 * k + 2)) (end j) h, and-false)
+
+  pub broken-counts : (getD j a 0 ≡ getD j (a + (3 * k + 1)) 0 → ⊥) → unbroken redo t j a k ≡ false
+  unfolding unbroken
+  broken-counts h = rw (ne-eqb (getD j a 0) (getD j (a + (3 * k + 1)) 0) h, and-false)
+
+  -- r is what the test of the changes gave
+  pub unbroken-tested : (k ≡ 0 → ⊥) → 2 ≤ a → a + (3 * k + 2) ≤ end j → getD j a 0 ≡ getD j (a + (3 * k + 1)) 0
+      → (r : Bool) → r ≡ sound redo t 0 (changesAt j a k) → r ≡ unbroken redo t j a k
+  unfolding unbroken
+  unbroken-tested some low fits counts r h =
+      rw (h, ne-eqb k 0 some, le-leb 2 a low, le-leb (a + (3 * k + 2)) (end j) fits, eq-eqb _ _ counts)
+
+-- ---- a turn of the loop over the triples: the one at the word w, of as many as are left
+
+module _ (j : List ℕ) (w left : ℕ) (some : zero < left) where
+  sound-turn : (redo : Bool) (t : List ℕ) (e : ℕ) → sound redo t e (readChanges left (drop w j))
+      ≡ (sound redo t e (changeAt j w ∷ []) && sound redo t (suc (getD j w 0)) (readChanges (left - 1) (drop (w + 3) j)))
+  unfolding changeAt
+  sound-turn redo t e = rw (read-next j w left some) (sound-next redo t e (changeAt j w) _)
+
+  -- r is what the test of the change gave
+  module _ (redo : Bool) (t : List ℕ) (e : ℕ) (r : Bool) (tested : r ≡ sound redo t e (changeAt j w ∷ [])) where
+    pub sound-stops : r ≡ false → sound redo t e (readChanges left (drop w j)) ≡ false
+    sound-stops h = sound-turn redo t e ∙ rw (← tested, h)
+
+    pub sound-goes : r ≡ true
+        → sound redo t e (readChanges left (drop w j)) ≡ sound redo t (getD j w 0 + 1) (readChanges (left - 1) (drop (w + 3) j))
+    sound-goes h = sound-turn redo t e ∙ rw (← tested, h, add-one)
+
+-- ---- what the tests say where all are passed
+
+record Passed (a b c d e : Bool) : Type 0 where
+  first : a ≡ true
+  second : b ≡ true
+  third : c ≡ true
+  fourth : d ≡ true
+  fifth : e ≡ true
+
+passed : (a b c d e : Bool) → (a && b && c && d && e) ≡ true → Passed a b c d e
+passed a b c d e h =
+    let abcd = and-l (a && b && c && d) e h in
+    let abc = and-l (a && b && c) d abcd in
+    let ab = and-l (a && b) c abc in
+    record {
+      first = and-l a b ab;
+      second = and-r a b ab;
+      third = and-r (a && b) c abc;
+      fourth = and-r (a && b && c) d abcd;
+      fifth = and-r (a && b && c && d) e h;
+    }
+
+pub record Sound (redo : Bool) (t : List ℕ) (e : ℕ) (c : Change) (cs : List Change) : Type 0 where
+  pub rising : e ≤ c .entry
+  pub inside : c .entry < length t
+  pub held : getD t (c .entry) 0 ≡ valuePut (not redo) c
+  pub rest : sound redo t (suc (c .entry)) cs ≡ true
+
+pub sound-parts : (redo : Bool) (t : List ℕ) (e : ℕ) (c : Change) (cs : List Change)
+    → sound redo t e (c ∷ cs) ≡ true → Sound redo t e c cs
+sound-parts redo t e c cs h =
+    let p = passed _ _ _ _ _ (sym (sound-tests redo t e c cs) ∙ h) in
+    record {
+      rising = leb-true _ _ (p .first);
+      inside = ltb-true _ _ (p .second);
+      held = eqb-true _ _ (p .fourth);
+      rest = p .fifth;
+    }
+
+-- an unbroken record ends within the words that stand, and is sound
+pub record Unbroken (redo : Bool) (t j : List ℕ) (a k : ℕ) : Type 0 where
+  pub fits : a + (3 * k + 2) ≤ end j
+  pub sounds : sound redo t 0 (changesAt j a k) ≡ true
+
+pub unbroken-parts : (redo : Bool) (t j : List ℕ) (a k : ℕ) → unbroken redo t j a k ≡ true → Unbroken redo t j a k
+unfolding unbroken
+unbroken-parts redo t j a k h =
+    let counts = eqb (getD j a 0) (getD j (a + (3 * k + 1)) 0) in
+    let p = passed (not (eqb k 0)) (leb 2 a) (leb (a + (3 * k + 2)) (end j)) counts (sound redo t 0 (changesAt j a k)) h in
+    record { fits = leb-true _ _ (p .third); sounds = p .fifth }
+
+-- the entries of a sound record lie in the table
+pub sound-within : (redo : Bool) (t : List ℕ) (e : ℕ) (cs : List Change) → sound redo t e cs ≡ true → within (length t) cs ≡ true
+unfolding within
+sound-within redo t e [] h = refl
+sound-within redo t e (c ∷ cs) h =
+    let s = sound-parts redo t e c cs h in
+    and-i (lt-ltb _ _ (s .inside)) (sound-within redo t (suc (c .entry)) cs (s .rest))
