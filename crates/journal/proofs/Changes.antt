@@ -11,7 +11,7 @@ use lib.Dec.{eqb}
 use borrow.Author.Tests.{eq-eqb, ne-eqb}
 use Rattle.model.specs.Journal.{Change, changesFrom}
 use Rattle.model.proofs.Lists.Scan.{test}
-use Rattle.model.proofs.History.Record.{diff-same, diff-other}
+use Rattle.model.proofs.History.Record.{changes-same, changes-other}
 use Rattle.journal.specs.Records.{changesBelow}
 
 changes-append : (xs ys xs′ ys′ : List ℕ) (e : ℕ) → length xs ≡ length ys
@@ -25,10 +25,10 @@ changes-append (x ∷ xs) (y ∷ ys) xs′ ys′ e l =
     let q : suc e + length xs ≡ e + suc (length xs) = omega arith in
     let next = rw q at rec in
     test (eqb x y)
-    (λ p. diff-same e x y (xs ++ xs′) (ys ++ ys′) p ∙ next ∙ sym (rw (diff-same e x y xs ys p)))
+    (λ p. changes-same e x y (xs ++ xs′) (ys ++ ys′) p ∙ next ∙ sym (rw (changes-same e x y xs ys p)))
     (λ p.
-    diff-other e x y (xs ++ xs′) (ys ++ ys′) p
-    ∙ ap (λ (r : List Change). record { entry = e; old = x; new = y } ∷ r) next ∙ sym (rw (diff-other e x y xs ys p)))
+    changes-other e x y (xs ++ xs′) (ys ++ ys′) p
+    ∙ ap (λ (r : List Change). record { entry = e; old = x; new = y } ∷ r) next ∙ sym (rw (changes-other e x y xs ys p)))
 
 module _ (t u : List ℕ) (long : length t ≡ length u) where
   pub below-none : changesBelow 0 t u ≡ []
@@ -71,12 +71,12 @@ module _ (t u : List ℕ) (long : length t ≡ length u) where
 
     pub below-same : getD t e d ≡ getD u e d → changesBelow (suc e) t u ≡ changesBelow e t u
     unfolding changesFrom
-    below-same h = more [] (diff-same e x y [] [] (eq-eqb x y h)) ∙ append-nil _
+    below-same h = more [] (changes-same e x y [] [] (eq-eqb x y h)) ∙ append-nil _
 
     pub below-other : (getD t e d ≡ getD u e d → ⊥)
         → changesBelow (suc e) t u ≡ changesBelow e t u ++ record { entry = e; old = getD t e d; new = getD u e d } ∷ []
     unfolding changesFrom
-    below-other h = more _ (diff-other e x y [] [] (ne-eqb x y h))
+    below-other h = more _ (changes-other e x y [] [] (ne-eqb x y h))
 
     pub below-count : (getD t e d ≡ getD u e d → ⊥) → length (changesBelow (suc e) t u) ≡ suc (length (changesBelow e t u))
     below-count h = rw (below-other h, length-append) (omega arith)

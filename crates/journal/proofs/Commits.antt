@@ -10,7 +10,8 @@ use lib.Dec.{leb}
 use borrow.Author.Tests.{leb-true}
 use Rattle.model.specs.Journal.{Change, cursor, changesFrom, changesAt, put, recordOf, written}
 use Rattle.model.specs.Calls.{commit, refused}
-use Rattle.model.proofs.History.Record.{length-record, forward-diff, sound-ahead}
+use Rattle.model.proofs.History.Record.{length-record, put-new-changes}
+use Rattle.model.proofs.History.Sound.{sound-redo}
 use Rattle.journal.specs.Records.{within}
 use Rattle.journal.proofs.Drafts.{written-length, written-read}
 use Rattle.journal.proofs.Breaks.{sound-within}
@@ -56,9 +57,9 @@ module _ (t u j : List ℕ) (long : length t ≡ length u) (low : 2 ≤ cursor j
     pub written-fits : (a + (3 * k + 2) ≤ length v) × (within (length t) (changesAt v a k) ≡ true)
     written-fits =
         let l = ap length closed ∙ written-length j (changesFrom 0 t u) room in
-        (omega arith, rw read (sound-within true t 0 (changesFrom 0 t u) (sound-ahead t u long)))
+        (omega arith, rw read (sound-within true t 0 (changesFrom 0 t u) (sound-redo t u long)))
 
     -- by what it ensures: the table is the new one
     pub written-put : (t′ : List ℕ) → t′ ≡ put true (changesAt v a k) t → t′ ≡ u
     unfolding put
-    written-put t′ h = h ∙ rw read (forward-diff t u long)
+    written-put t′ h = h ∙ rw read (put-new-changes t u long)

@@ -7,7 +7,7 @@ use native.Mathlib.Omega.{arith}
 use lib.ListN.{length, getD, set, take, drop, length-append, length-set, length-take, length-drop, take-append-drop}
 use lib.Seq.{sets, sets-eq, take-at, drop-at, drop-drop, set-at, take-suc, drop-cons, length-take-le, drop-set-lt}
 use Rattle.model.specs.Journal.{Change, cursor, triples, recordOf, written, readChanges, changesAt}
-use Rattle.model.proofs.History.Record.{length-flat, length-record, changes-flat}
+use Rattle.model.proofs.History.Record.{length-triples, length-record, read-triples}
 use Rattle.journal.specs.Records.{drafted}
 
 triples-append : (cs ds : List Change) → triples (cs ++ ds) ≡ triples cs ++ triples ds
@@ -39,7 +39,7 @@ draft-room j cs m some h =
   where
     long : length (drafted j cs)
         ≡ min (suc (cursor j)) (length j) + 3 * length cs + (length j - (suc (cursor j) + 3 * length cs))
-    long = unfold drafted in simp (length-append, length-flat, length-take, length-drop)
+    long = unfold drafted in simp (length-append, length-triples, length-take, length-drop)
 
 module _ (j : List ℕ) (cs : List Change) where
   abbrev front : List ℕ
@@ -51,7 +51,7 @@ module _ (j : List ℕ) (cs : List Change) where
   front-length : stop ≤ length j → length front ≡ stop
   front-length h =
       let l = length-take-le (suc (cursor j)) j (omega arith) in
-      let f = length-flat cs in
+      let f = length-triples cs in
       rw length-append (omega arith)
 
   draft-length : stop ≤ length j → length (drafted j cs) ≡ length j
@@ -91,7 +91,7 @@ module _ (j : List ℕ) (cs : List Change) where
       let y = getD j stop 0 in
       let behind = drop (suc stop) j in
       let l = length-take-le c j (omega arith) in
-      let f = length-flat cs in
+      let f = length-triples cs in
       let a = length-append (take c j) (n ∷ triples cs) in
       let q : c + (3 * n + 2) ≡ suc stop = omega arith in
       let words : drafted j cs ≡ take c j ++ (x ∷ (triples cs ++ y ∷ behind)) =
@@ -126,7 +126,7 @@ module _ (j : List ℕ) (cs : List Change) where
       ∙ ap (λ (r : List ℕ). drop 1 (drop c r)) (append-assoc (take c j) (recordOf cs) (drop e j))
       ∙ ap (drop 1) (drop-at (take c j) (recordOf cs ++ drop e j) c l)
       ∙ append-assoc (triples cs) (n ∷ []) (drop e j))
-      ∙ changes-flat cs _
+      ∙ read-triples cs _
 
 -- ---- what the code stores, in a draft w of k changes
 
