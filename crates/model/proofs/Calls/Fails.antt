@@ -128,7 +128,7 @@ dart-fails t d = must-fails _ 7 Iff·rfl
 
 pub block-fails : (n : ℕ) (t : List ℕ) → MapTable n t → (blockOk n t ≢ pass) ↔ (BlockTable n t → ⊥)
 unfolding blockOk isBlock
-block-fails n t T = mustAt-fails _ 8 _ (test-fails (isBlock n t) (block-of n t T, of-block n t))
+block-fails n t table = mustAt-fails _ 8 _ (test-fails (isBlock n t) (block-of n t table, of-block n t))
 
 pub apart-fails : (n : ℕ) (t : List ℕ) (i d e : ℕ) → (apartOk n t i d e ≢ pass) ↔ Marked (side n t i d) e
 unfolding apartOk inSet
@@ -147,10 +147,10 @@ sewn-fails t i d = must-fails _ 11 (Iff·trans (not-fails _) (eqb-holds _ _))
 module _ (n : ℕ) (t : List ℕ) (i d e : ℕ) (passed : SidesPassed n t i d e) where
   paired-exactly : (isPaired n t i d e ≡ true) ↔ Pairing n t i d e
   paired-exactly =
-      let T = passed .table in
-      let there′ = pairing-there n t i (T .dim .1) (passed .index) (T .whole) (T .few) (T .map) d e in
-      let back = pairing-back n t i (T .dim .1) (passed .index) (T .whole) (T .few) (T .map) d e in
-      let pairing = mates-pairing n t i (T .dim .1) (passed .index) (T .whole) (T .few) (T .map) d e in
+      let table = passed .table in
+      let there′ = pairing-there n t i (table .dim .1) (passed .index) (table .whole) (table .few) (table .map) d e in
+      let back = pairing-back n t i (table .dim .1) (passed .index) (table .whole) (table .few) (table .map) d e in
+      let pairing = mates-pairing n t i (table .dim .1) (passed .index) (table .whole) (table .few) (table .map) d e in
       let l = passed .lives-d in
       let k = passed .lives-e in (
         λ h. let found = paired-found n t i d e h in pairing l k (found .p) (found .q) (found .there) (found .back),

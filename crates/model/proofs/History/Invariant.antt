@@ -19,7 +19,7 @@ use Rattle.model.proofs.Calls.Untouched.{call-untouched, reading-untouc
 use Rattle.model.proofs.History.Record.{put-new-changes, put-old-changes, changes-some}
 use Rattle.model.proofs.History.Sound.{sound-undo, sound-redo}
 use Rattle.model.proofs.History.Log.{journalOf, journal-ok, journal-written, written-length, journal-same, InRule}
-use Rattle.model.proofs.History.Log.{Leads, stepsTo, undo-steps, redo-steps, undo-none, redo-none}
+use Rattle.model.proofs.History.Log.{StepMakes, stepsTo, undo-steps, redo-steps, undo-none, redo-none}
 use Rattle.model.proofs.History.Ops.{effect-length, op-changes, op-map}
 
 -- ---- the records of the operations
@@ -83,7 +83,7 @@ rule-along : {n : ℕ} {t u : List ℕ} → length t ≡ length u → InRule n t
 unfolding tableOk
 rule-along long rule map = record { dim = rule .dim; size = rw (← long) (rule .size); map = map }
 
-edit-back : {n : ℕ} {t u : List ℕ} → Edit n t u → InRule n u → Leads false n u t (changesFrom 0 t u)
+edit-back : {n : ℕ} {t u : List ℕ} → Edit n t u → InRule n u → StepMakes false n u t (changesFrom 0 t u)
 unfolding put
 edit-back {n} {t} {u} edit rule = record {
   rule = rule;
@@ -93,7 +93,7 @@ edit-back {n} {t} {u} edit rule = record {
   map = edit .from;
 }
 
-edit-forward : {n : ℕ} {t u : List ℕ} → Edit n t u → InRule n t → Leads true n t u (changesFrom 0 t u)
+edit-forward : {n : ℕ} {t u : List ℕ} → Edit n t u → InRule n t → StepMakes true n t u (changesFrom 0 t u)
 unfolding put
 edit-forward {n} {t} {u} edit rule = record {
   rule = rule;
