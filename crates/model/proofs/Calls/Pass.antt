@@ -27,9 +27,9 @@ use Rattle.model.specs.Meaning.Numbers.{JournalRule}
 use Rattle.model.specs.Meaning.Maps.{Dim, Map, MapTable, BlockTable}
 use Rattle.model.specs.Meaning.Sets.{Marked}
 use Rattle.model.proofs.Lists.Scan.{clash, and-l, and-r}
-use Rattle.model.proofs.Cells.Places.{or-cases}
 use Rattle.model.proofs.Maps.Rules.{map-of}
 use Rattle.model.proofs.Cells.Chart.{block-of}
+use Rattle.model.proofs.Calls.Tests.{or-holds}
 use Rattle.model.proofs.Calls.Checks.{not-pass, passed-at, passed-number, passed-append}
 
 pub must-pass : (b : Bool) (k : ℕ) → must b k ≡ pass → b ≡ true
@@ -48,7 +48,7 @@ pub dim-pass : (n : ℕ) → dimOk n ≡ pass → Dim n
 unfolding dimOk
 dim-pass n h =
     ⊎-elim (λ e. let q = eqb-true n 2 e in (omega arith, omega arith)) (λ e. let q = eqb-true n 3 e in (omega arith, omega arith))
-    (or-cases (eqb n 2) (eqb n 3) (must-pass _ 1 h))
+    (or-holds (eqb n 2) (eqb n 3) .0 (must-pass _ 1 h))
 
 pub table-pass : (t : List ℕ) → tableOk t ≡ pass → (length t ≡ 4 * slots t) × (slots t ≤ 65536)
 unfolding tableOk slots

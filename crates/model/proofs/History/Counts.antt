@@ -12,7 +12,7 @@ use lib.Dec.{eqb, leb}
 use borrow.Author.Tests.{eqb-false, not-true}
 use Rattle.model.specs.Lists.{count, onesFrom, ones}
 use Rattle.model.specs.Table.{slots}
-use Rattle.model.specs.Cell.{cellSize, cellWords}
+use Rattle.model.specs.Cell.{cellSize, cellWords, isBlock}
 use Rattle.model.specs.Reach.{closure}
 use Rattle.model.specs.Orbit.{orbit}
 use Rattle.model.specs.Sheet.{sheet, overlay, sheetMarks, sheetWords}
@@ -158,6 +158,15 @@ removed-count n t d =
     omega arith
 
 module _ (n : ℕ) (o : Outcome) where
+  -- "count 1 for a map, 2 for a block map"
+  pub check-count : doCall n o Call.check .number ≡ 0
+      → (isBlock n (o .table) ≡ true → doCall n o Call.check .count ≡ 2)
+      × (isBlock n (o .table) ≡ false → doCall n o Call.check .count ≡ 1)
+  unfolding doneOf
+  check-count h =
+      let is = ap (λ (r : Outcome). r .count) (call-done n o Call.check h) in
+      (λ b. is ∙ rw b, λ b. is ∙ rw b)
+
   -- "Count: darts reached"
   pub orbit-count : (mask d : ℕ) → doCall n o (Call.orbit mask d) .number ≡ 0
       → doCall n o (Call.orbit mask d) .count ≡ count 1 (orbit n (o .table) mask d)
