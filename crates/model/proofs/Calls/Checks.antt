@@ -89,15 +89,19 @@ not-in zs z h k i e = clash (in-member zs z (in-cast (sym e) i)) h
 pub same-refusal : {A : Type 0} (f : ℕ → ℕ → A) {k p z q : ℕ} → refuse k p ≡ refuse z q → f k p ≡ f z q
 same-refusal f e = cc
 
-must-refused : (b : Bool) {z k p : ℕ} → must b z ≡ refuse k p → (k ≡ z) × (p ≡ 0)
-unfolding must
-must-refused true e = not-pass (sym e)
-must-refused false e = (cc, cc)
+-- a check with the place 0
+pub must-at-0 : (b : Bool) (z : ℕ) → must b z ≡ mustAt b z 0
+unfolding must mustAt
+must-at-0 true z = refl
+must-at-0 false z = refl
 
 mustAt-refused : (b : Bool) {z q k p : ℕ} → mustAt b z q ≡ refuse k p → (k ≡ z) × (p ≡ q)
 unfolding mustAt
 mustAt-refused true e = not-pass (sym e)
 mustAt-refused false e = (cc, cc)
+
+must-refused : (b : Bool) {z k p : ℕ} → must b z ≡ refuse k p → (k ≡ z) × (p ≡ 0)
+must-refused b {z} e = mustAt-refused b (sym (must-at-0 b z) ∙ e)
 
 pub place-other : (n : ℕ) (t : List ℕ) (k : ℕ) → k ≢ 5 → k ≢ 8 → refusalPlace n t k ≡ 0
 unfolding refusalPlace

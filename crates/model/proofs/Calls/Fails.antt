@@ -35,20 +35,18 @@ use Rattle.model.proofs.Sewing.Sew.{paired-found, found-paired}
 use Rattle.model.proofs.Sewing.Pairing.{pairing-there, pairing-back, mates-pairing}
 use Rattle.model.proofs.Calls.Tests.{not-fails, and-fails, or-fails, or-holds, leb-fails, ltb-fails, eqb-fails, eqb-holds}
 use Rattle.model.proofs.Calls.Tests.{test-fails, one-of}
-use Rattle.model.proofs.Calls.Checks.{not-pass}
+use Rattle.model.proofs.Calls.Checks.{must-at-0, not-pass}
 use Rattle.model.proofs.Calls.Pass.{journal-pass, SidesPassed}
 
 -- ---- a check that is a test
-
-must-fails : {P : Type 0} (b : Bool) (k : ℕ) → (b ≡ false) ↔ P → (must b k ≢ pass) ↔ P
-unfolding must
-must-fails true k f = (λ h. absurd (h refl), λ p. absurd (clash refl (f .1 p)))
-must-fails false k f = (λ h. f .0 refl, λ p e. not-pass e)
 
 mustAt-fails : {P : Type 0} (b : Bool) (k p : ℕ) → (b ≡ false) ↔ P → (mustAt b k p ≢ pass) ↔ P
 unfolding mustAt
 mustAt-fails true k p f = (λ h. absurd (h refl), λ x. absurd (clash refl (f .1 x)))
 mustAt-fails false k p f = (λ h. f .0 refl, λ x e. not-pass e)
+
+must-fails : {P : Type 0} (b : Bool) (k : ℕ) → (b ≡ false) ↔ P → (must b k ≢ pass) ↔ P
+must-fails b k f = rw (must-at-0 b k) (mustAt-fails b k 0 f)
 
 -- ---- the checks by number
 
