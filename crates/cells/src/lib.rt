@@ -11,8 +11,13 @@ ghost use Rattle.model.specs.Checks.{pass, dimOk, tableOk};
 ghost use Rattle.model.specs.Meaning.Maps.{MapTable};
 ghost use Rattle.cells.specs.Rows.{linkRow, linkRows, stepRows, start, places};
 ghost use Rattle.cells.specs.Good.{MapDart, fitsAt, seenWith, SeenGood};
-use reading::{link_in, live, slots};
-use rows::{LINKS_2D, LINKS_3D, STEPS_2D, STEPS_3D};
+use reading::link_in;
+use reading::live;
+use reading::slots;
+use rows::LINKS_2D;
+use rows::LINKS_3D;
+use rows::STEPS_2D;
+use rows::STEPS_3D;
 
 mod rows;
 

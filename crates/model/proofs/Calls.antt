@@ -1,3 +1,4 @@
+pub mod Tests
 pub mod Checks
 pub mod Pass
 pub mod Fails

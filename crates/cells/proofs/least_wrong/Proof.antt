@@ -76,9 +76,11 @@ loop-less c = omega arith
 loop-again : tie.Need-loop-again Inv-loop μ-loop
 loop-again c =
     let tested = c .before .before .before in
-    let l = tested .before .before .before in
-    (omega arith, tested .in-wrong-cell .kept .1 .1 .0 ∙ l .loop .inv .1,
-    scan-next _ _ _ _ _ (l .loop .inv .2) (sym (tested .in-wrong-cell .ensures .0) ∙ c .if1 .left) (tested .in-wrong-cell .ensures .1))
+    let l = tested .before .before .before in (
+      omega arith,
+      tested .in-wrong-cell .kept .1 .1 .0 ∙ l .loop .inv .1,
+      scan-next _ _ _ _ _ (l .loop .inv .2) (sym (tested .in-wrong-cell .ensures .0) ∙ c .if1 .left) (tested .in-wrong-cell .ensures .1),
+    )
 
 same-length-2 : tie.Need-same-length-2 Inv-loop μ-loop
 same-length-2 c =

@@ -89,15 +89,19 @@ not-in zs z h k i e = clash (in-member zs z (in-cast (sym e) i)) h
 pub same-refusal : {A : Type 0} (f : ℕ → ℕ → A) {k p z q : ℕ} → refuse k p ≡ refuse z q → f k p ≡ f z q
 same-refusal f e = cc
 
-must-refused : (b : Bool) {z k p : ℕ} → must b z ≡ refuse k p → (k ≡ z) × (p ≡ 0)
-unfolding must
-must-refused true e = not-pass (sym e)
-must-refused false e = (cc, cc)
+-- a check with the place 0
+pub must-at-0 : (b : Bool) (z : ℕ) → must b z ≡ mustAt b z 0
+unfolding must mustAt
+must-at-0 true z = refl
+must-at-0 false z = refl
 
 mustAt-refused : (b : Bool) {z q k p : ℕ} → mustAt b z q ≡ refuse k p → (k ≡ z) × (p ≡ q)
 unfolding mustAt
 mustAt-refused true e = not-pass (sym e)
 mustAt-refused false e = (cc, cc)
+
+must-refused : (b : Bool) {z k p : ℕ} → must b z ≡ refuse k p → (k ≡ z) × (p ≡ 0)
+must-refused b {z} e = mustAt-refused b (sym (must-at-0 b z) ∙ e)
 
 pub place-other : (n : ℕ) (t : List ℕ) (k : ℕ) → k ≢ 5 → k ≢ 8 → refusalPlace n t k ≡ 0
 unfolding refusalPlace
@@ -129,17 +133,17 @@ module _ {n : ℕ} {t j : List ℕ} where
       numbered (must b z) z 0 (λ k p. must-refused b) (other 0 (here refl)) (sym (place-other n t z not-5 not-8))
       (λ q. absurd (not-4 q)) (λ q. absurd (not-5 q))
 
-  journal : Numbered n t j 4 (journalOk j)
+  journal-4 : Numbered n t j 4 (journalOk j)
   unfolding journalOk refusalPlace
-  journal = numbered (journalOk j) 4 0 (λ k p. must-refused _) (λ q. omega arith) refl (λ q. refl) (λ q. absurd (omega arith))
+  journal-4 = numbered (journalOk j) 4 0 (λ k p. must-refused _) (λ q. omega arith) refl (λ q. refl) (λ q. absurd (omega arith))
 
-  map : Numbered n t j 5 (mapOk n t)
+  map-5 : Numbered n t j 5 (mapOk n t)
   unfolding mapOk refusalPlace
-  map = numbered (mapOk n t) 5 _ (λ k p. mustAt-refused _) (λ q. omega arith) refl (λ q. absurd (omega arith)) (λ q. refl)
+  map-5 = numbered (mapOk n t) 5 _ (λ k p. mustAt-refused _) (λ q. omega arith) refl (λ q. absurd (omega arith)) (λ q. refl)
 
-  block : Numbered n t j 8 (blockOk n t)
+  block-8 : Numbered n t j 8 (blockOk n t)
   unfolding blockOk refusalPlace
-  block =
+  block-8 =
       numbered (blockOk n t) 8 _ (λ k p. mustAt-refused _) (λ q. omega arith) refl
       (λ q. absurd (omega arith)) (λ q. absurd (omega arith))
 
@@ -164,26 +168,26 @@ module _ {n : ℕ} {t j : List ℕ} where
 
 pub call-numbers : (n : ℕ) (o : Outcome) (c : Call) → Numbers n (o .table) (o .journal) (numbers c) (checks n o c)
 unfolding checksOf checkChecks orbitChecks sheetChecks addChecks sidesChecks unsewChecks layerChecks splitChecks stepChecks dimOk tableOk marksOk indexOk maskOk dartOk apartOk freeOk sewnOk pairingOk crossingOk addRoomOk splitRoomOk undoOk redoOk recordOk stepOk member indexOf
-call-numbers n o Call.check = plain _ 1 refl then plain _ 2 refl then map then last
+call-numbers n o Call.check = plain _ 1 refl then plain _ 2 refl then map-5 then last
 call-numbers n o (Call.orbit mask d) =
-    plain _ 1 refl then plain _ 2 refl then plain _ 3 refl then map then plain _ 6 refl then plain _ 7 refl then last
+    plain _ 1 refl then plain _ 2 refl then plain _ 3 refl then map-5 then plain _ 6 refl then plain _ 7 refl then last
 call-numbers n o (Call.sheet d) =
-    plain _ 1 refl then plain _ 2 refl then plain _ 3 refl then map then plain _ 7 refl then block then last
+    plain _ 1 refl then plain _ 2 refl then plain _ 3 refl then map-5 then plain _ 7 refl then block-8 then last
 call-numbers n o Call.add =
-    plain _ 1 refl then plain _ 2 refl then journal then map then plain _ 14 refl then plain _ 15 refl then last
+    plain _ 1 refl then plain _ 2 refl then journal-4 then map-5 then plain _ 14 refl then plain _ 15 refl then last
 call-numbers n o (Call.sew i d e) =
-    plain _ 1 refl then plain _ 2 refl then journal then map then plain _ 6 refl then plain _ 7 refl then plain _ 7 refl
+    plain _ 1 refl then plain _ 2 refl then journal-4 then map-5 then plain _ 6 refl then plain _ 7 refl then plain _ 7 refl
     then plain _ 9 refl then plain _ 10 refl then plain _ 12 refl then plain _ 15 refl then last
 call-numbers n o (Call.unsew i d) =
-    plain _ 1 refl then plain _ 2 refl then journal then map then plain _ 6 refl then plain _ 7 refl then plain _ 11 refl
+    plain _ 1 refl then plain _ 2 refl then journal-4 then map-5 then plain _ 6 refl then plain _ 7 refl then plain _ 11 refl
     then plain _ 15 refl then last
 call-numbers n o (Call.remove d) =
-    plain _ 1 refl then plain _ 2 refl then plain _ 3 refl then journal then map then plain _ 7 refl then block
+    plain _ 1 refl then plain _ 2 refl then plain _ 3 refl then journal-4 then map-5 then plain _ 7 refl then block-8
     then plain _ 15 refl then last
 call-numbers n o (Call.split d) =
-    plain _ 1 refl then plain _ 2 refl then plain _ 3 refl then journal then map then plain _ 7 refl then block
+    plain _ 1 refl then plain _ 2 refl then plain _ 3 refl then journal-4 then map-5 then plain _ 7 refl then block-8
     then plain _ 13 refl then plain _ 14 refl then plain _ 15 refl then last
 call-numbers n o Call.undo =
-    plain _ 1 refl then plain _ 2 refl then journal then map then plain _ 16 refl then plain _ 17 refl then last
+    plain _ 1 refl then plain _ 2 refl then journal-4 then map-5 then plain _ 16 refl then plain _ 17 refl then last
 call-numbers n o Call.redo =
-    plain _ 1 refl then plain _ 2 refl then journal then map then plain _ 16 refl then plain _ 17 refl then last
+    plain _ 1 refl then plain _ 2 refl then journal-4 then map-5 then plain _ 16 refl then plain _ 17 refl then last

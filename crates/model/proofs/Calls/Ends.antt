@@ -247,3 +247,6 @@ module _ (n : ℕ) (o : Outcome) where
         journal = ap (λ (r : Outcome). r .journal) is ∙ leaves .1;
         room = record-pass _ _ _ (passed .1);
       }
+
+  pub op-effect : (p : Op) → doCall n o (callOf p) .number ≡ 0 → Passed n t m j p × (doCall n o (callOf p) .table ≡ effect n t p)
+  op-effect p h = let r = op-accepted p h in (r .passed, r .table)

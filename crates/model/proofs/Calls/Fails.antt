@@ -1,13 +1,13 @@
 -- When each check fails, in the words of 01's table: `dim-fails` (1) to `step-fails` (17).
 use Prim.Native.Nat.{ℕ, _+_, _*_, _-_, _%_, _^_, _≤_, _<_}
 use mathlib.Core.Path.{_≡_, refl}
-use mathlib.Core.Logic.{_⊎_, inl, inr, _≢_, _↔_, ⊎-elim, Iff·rfl, Iff·trans, Iff·and}
-use mathlib.Core.Bool.{Bool, true, false, not, _&&_, _||_}
+use mathlib.Core.Logic.{_⊎_, _≢_, _↔_, Iff·rfl, Iff·trans, Iff·and}
+use mathlib.Core.Bool.{Bool, true, false}
 use mathlib.Core.List.{List}
 use native.Mathlib.Omega.{arith}
 use lib.ListN.{length, take, length-take}
-use lib.Dec.{leb, ltb, eqb}
-use borrow.Author.Tests.{eqb-true, eqb-false, eq-eqb, ne-eqb, leb-false, le-leb, lt-leb, ltb-false, le-ltb}
+use lib.Dec.{eqb}
+use borrow.Author.Tests.{le-leb}
 use Rattle.model.specs.Lists.{ones}
 use Rattle.model.specs.Table.{slots, link, live, unusedSlots}
 use Rattle.model.specs.Map.{isMap}
@@ -26,56 +26,25 @@ use Rattle.model.specs.Meaning.Numbers.{JournalRule, StepFails}
 use Rattle.model.specs.Meaning.Pairings.{Pairing}
 use Rattle.model.specs.Meaning.Sets.{Marked}
 use Rattle.model.specs.Meaning.Sheets.{Crossing}
-use Rattle.model.proofs.Lists.Scan.{clash, test}
+use Rattle.model.proofs.Lists.Scan.{clash}
 use Rattle.model.proofs.Maps.Rules.{map-of, of-map}
 use Rattle.model.proofs.Cells.Chart.{block-of, of-block}
 use Rattle.model.proofs.Sewing.Pairing.{paired-exactly}
 use Rattle.model.proofs.Layers.Sheet.{crosses-some}
-use Rattle.model.proofs.Calls.Checks.{not-pass}
+use Rattle.model.proofs.Calls.Tests.{not-fails, and-fails, or-fails, leb-fails, ltb-fails, eqb-fails, eqb-holds}
+use Rattle.model.proofs.Calls.Tests.{test-fails, one-of}
+use Rattle.model.proofs.Calls.Checks.{must-at-0, not-pass}
 use Rattle.model.proofs.Calls.Pass.{journal-pass, SidesPassed, left-side, right-side}
 
--- ---- tests that fail
-
-not-fails : (b : Bool) → (not b ≡ false) ↔ (b ≡ true)
-not-fails true = (λ h. refl, λ h. refl)
-not-fails false = (λ h. absurd (clash refl h), λ h. absurd (clash h refl))
-
-and-fails : (a b : Bool) → ((a && b) ≡ false) ↔ ((a ≡ false) ⊎ (b ≡ false))
-and-fails true b = (inr, ⊎-elim (λ q. absurd (clash refl q)) (λ q. q))
-and-fails false b = (inl, λ h. refl)
-
-or-fails : (a b : Bool) → ((a || b) ≡ false) ↔ ((a ≡ false) × (b ≡ false))
-or-fails true b = (λ h. absurd (clash refl h), λ r. r .0)
-or-fails false b = (λ h. (refl, h), λ r. r .1)
-
-leb-fails : (a b : ℕ) → (leb a b ≡ false) ↔ (b < a)
-leb-fails a b = (leb-false a b, lt-leb a b)
-
-ltb-fails : (a b : ℕ) → (ltb a b ≡ false) ↔ (b ≤ a)
-ltb-fails a b = (ltb-false a b, le-ltb a b)
-
-eqb-fails : (a b : ℕ) → (eqb a b ≡ false) ↔ (a ≢ b)
-eqb-fails a b = (eqb-false a b, ne-eqb a b)
-
-eqb-holds : (a b : ℕ) → (eqb a b ≡ true) ↔ (a ≡ b)
-eqb-holds a b = (eqb-true a b, eq-eqb a b)
-
--- a test fails exactly if what it tests does not hold
-test-fails : {P : Type 0} (b : Bool) → (b ≡ true) ↔ P → (b ≡ false) ↔ (P → ⊥)
-test-fails b f = (λ h p. clash (f .1 p) h, λ h. test b (λ e. absurd (h (f .0 e))) (λ e. e))
-
-must-fails : {P : Type 0} (b : Bool) (k : ℕ) → (b ≡ false) ↔ P → (must b k ≢ pass) ↔ P
-unfolding must
-must-fails true k f = (λ h. absurd (h refl), λ p. absurd (clash refl (f .1 p)))
-must-fails false k f = (λ h. f .0 refl, λ p e. not-pass e)
+-- ---- a check that is a test
 
 mustAt-fails : {P : Type 0} (b : Bool) (k p : ℕ) → (b ≡ false) ↔ P → (mustAt b k p ≢ pass) ↔ P
 unfolding mustAt
 mustAt-fails true k p f = (λ h. absurd (h refl), λ x. absurd (clash refl (f .1 x)))
 mustAt-fails false k p f = (λ h. f .0 refl, λ x e. not-pass e)
 
-one-of : {A B C D : Type 0} → A ↔ C → B ↔ D → (A ⊎ B) ↔ (C ⊎ D)
-one-of f g = (⊎-elim (λ a. inl (f .0 a)) (λ b. inr (g .0 b)), ⊎-elim (λ c. inl (f .1 c)) (λ d. inr (g .1 d)))
+must-fails : {P : Type 0} (b : Bool) (k : ℕ) → (b ≡ false) ↔ P → (must b k ≢ pass) ↔ P
+must-fails b k f = rw (must-at-0 b k) (mustAt-fails b k 0 f)
 
 -- ---- the checks by number
 
@@ -122,7 +91,7 @@ dart-fails t d = must-fails _ 7 Iff·rfl
 
 pub block-fails : (n : ℕ) (t : List ℕ) → MapTable n t → (blockOk n t ≢ pass) ↔ (BlockTable n t → ⊥)
 unfolding blockOk isBlock
-block-fails n t T = mustAt-fails _ 8 _ (test-fails (isBlock n t) (block-of n t T, of-block n t))
+block-fails n t table = mustAt-fails _ 8 _ (test-fails (isBlock n t) (block-of n t table, of-block n t))
 
 pub apart-fails : (n : ℕ) (t : List ℕ) (i d e : ℕ) → (apartOk n t i d e ≢ pass) ↔ Marked (side n t i d) e
 unfolding apartOk inSet

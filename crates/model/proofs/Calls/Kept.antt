@@ -28,7 +28,7 @@ use Rattle.model.proofs.Layers.Halves.{split-block}
 use Rattle.model.proofs.Calls.Checks.{passed-at, passed-append}
 use Rattle.model.proofs.Calls.Pass.{step-pass, SidesPassed, unsew-side, sides-sewable}
 use Rattle.model.proofs.Calls.Pass.{add-passed, unsew-passed, sew-passed, layer-passed, split-passed}
-use Rattle.model.proofs.Calls.Ends.{call-passed, call-done, op-accepted}
+use Rattle.model.proofs.Calls.Ends.{call-passed, call-done, op-effect}
 
 -- ---- add
 
@@ -36,11 +36,11 @@ module _ (n : ℕ) (t j : List ℕ) where
   pub add-call : addCall n t j .number ≡ 0 → Keeps n t (addCall n t j .table)
   unfolding doCall callOf keeping effect addTable addSlots
   add-call h =
-      let r = op-accepted n (lent t [] j) Op.add h in
-      let passed = add-passed n t j (r .passed) in
+      let r = op-effect n (lent t [] j) Op.add h in
+      let passed = add-passed n t j (r .0) in
       let T = passed .table in
       let fresh = vacant-frees t (cellSize n) in
-      rw (r .table) (
+      rw (r .1) (
         of-map n (addTable n t) (add-map T fresh (passed .room)),
         λ b. of-block n (addTable n t) (add-block (block-of n t T b) fresh (passed .room)),
       )
@@ -58,10 +58,10 @@ module _ (n : ℕ) (t j : List ℕ) (i d : ℕ) where
   pub unsew-call : unsewCall n t j i d .number ≡ 0 → KeepsAt i n t (unsewCall n t j i d .table)
   unfolding doCall callOf keeping effect
   unsew-call h =
-      let r = op-accepted n (lent t [] j) (Op.unsew i d) h in
-      let passed = unsew-passed n t j i d (r .passed) in
+      let r = op-effect n (lent t [] j) (Op.unsew i d) h in
+      let passed = unsew-passed n t j i d (r .0) in
       let made = unsew-relinked (unsew-side passed) in
-      rw (r .table, made .is) (keeps-at (passed .table) (passed .index) (made .change))
+      rw (r .1, made .is) (keeps-at (passed .table) (passed .index) (made .change))
 
 module _ (n : ℕ) (t j : List ℕ) (i d e : ℕ) where
   sew-keeps : SidesPassed n t i d e → isPaired n t i d e ≡ true → KeepsAt i n t (sewTable n t i d e)
@@ -72,9 +72,9 @@ module _ (n : ℕ) (t j : List ℕ) (i d e : ℕ) where
   pub sew-call : sewCall n t j i d e .number ≡ 0 → KeepsAt i n t (sewCall n t j i d e .table)
   unfolding doCall callOf keeping effect
   sew-call h =
-      let r = op-accepted n (lent t [] j) (Op.sew i d e) h in
-      let passed = sew-passed n t j i d e (r .passed) in
-      rw (r .table) (sew-keeps (passed .0) (passed .1))
+      let r = op-effect n (lent t [] j) (Op.sew i d e) h in
+      let passed = sew-passed n t j i d e (r .0) in
+      rw (r .1) (sew-keeps (passed .0) (passed .1))
 
 -- ---- remove, split
 
@@ -85,19 +85,19 @@ module _ (n : ℕ) (t m j : List ℕ) (d : ℕ) where
   pub remove-call : removeCall n t m j d .number ≡ 0 → BlockMap n (removeCall n t m j d .table)
   unfolding doCall callOf keeping effect
   remove-call h =
-      let r = op-accepted n (lent t m j) (Op.remove d) h in
-      let passed = layer-passed n t j m d (r .passed) in
-      rw (r .table) (block-map _ (remove-block passed))
+      let r = op-effect n (lent t m j) (Op.remove d) h in
+      let passed = layer-passed n t j m d (r .0) in
+      rw (r .1) (block-map _ (remove-block passed))
 
   pub split-call : splitCall n t m j d .number ≡ 0 → BlockMap n (splitCall n t m j d .table)
   unfolding doCall callOf keeping effect splitTable
   split-call h =
-      let r = op-accepted n (lent t m j) (Op.split d) h in
+      let r = op-effect n (lent t m j) (Op.split d) h in
       let gs = ones (sheet n t d) in
-      let passed = layer-passed n t j m d (r .passed .0) in
-      let split = split-passed n t j (sheet n t d) gs (r .passed .1) in
+      let passed = layer-passed n t j m d (r .0 .0) in
+      let split = split-passed n t j (sheet n t d) gs (r .0 .1) in
       let cuts = split-cuts (record { dart = passed; uncrossed = split .uncrossed; room = split .room }) in
-      rw (r .table) (block-map _ (split-block cuts))
+      rw (r .1) (block-map _ (split-block cuts))
 
 -- ---- undo, redo: what is put back is a map, or it is refused
 

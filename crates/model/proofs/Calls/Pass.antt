@@ -1,6 +1,6 @@
 -- What passed checks say: each check by itself (`dim-pass`, ..), and the checks of each call (`add-passed`, ..).
 use Prim.Native.Nat.{ℕ, _*_, _-_, _%_, _≤_}
-use mathlib.Core.Path.{_≡_, refl}
+use mathlib.Core.Path.{_≡_, refl, sym, _∙_}
 use mathlib.Core.Logic.{_≢_, ⊎-elim}
 use mathlib.Core.Bool.{Bool, true, false, _&&_}
 use mathlib.Core.List.{List, [], _∷_}
@@ -28,28 +28,27 @@ use Rattle.model.specs.Meaning.Maps.{Dim, Map, MapTable}
 use Rattle.model.specs.Meaning.Pairings.{OnSide, Sewable}
 use Rattle.model.specs.Meaning.Sets.{Marked}
 use Rattle.model.specs.Meaning.Sheets.{BlockDart}
-use Rattle.model.proofs.Lists.Scan.{clash, and-l, and-r, or-cases}
+use Rattle.model.proofs.Lists.Scan.{clash, and-l, and-r}
 use Rattle.model.proofs.Maps.Rules.{map-of}
 use Rattle.model.proofs.Cells.Chart.{block-of}
-use Rattle.model.proofs.Calls.Checks.{not-pass, passed-at, passed-number, passed-append}
+use Rattle.model.proofs.Calls.Tests.{or-holds}
+use Rattle.model.proofs.Calls.Checks.{must-at-0, not-pass, passed-at, passed-number, passed-append}
 
-pub must-pass : (b : Bool) (k : ℕ) → must b k ≡ pass → b ≡ true
-unfolding must
-must-pass true k h = refl
-must-pass false k h = not-pass h
+-- ---- what a passed check says
 
-pub mustAt-pass : (b : Bool) (k p : ℕ) → mustAt b k p ≡ pass → b ≡ true
+mustAt-pass : (b : Bool) (k p : ℕ) → mustAt b k p ≡ pass → b ≡ true
 unfolding mustAt
 mustAt-pass true k p h = refl
 mustAt-pass false k p h = not-pass h
 
--- ---- what a passed check says
+must-pass : (b : Bool) (k : ℕ) → must b k ≡ pass → b ≡ true
+must-pass b k h = mustAt-pass b k 0 (sym (must-at-0 b k) ∙ h)
 
 pub dim-pass : (n : ℕ) → dimOk n ≡ pass → Dim n
 unfolding dimOk
 dim-pass n h =
     ⊎-elim (λ e. let q = eqb-true n 2 e in (omega arith, omega arith)) (λ e. let q = eqb-true n 3 e in (omega arith, omega arith))
-    (or-cases (eqb n 2) (eqb n 3) (must-pass _ 1 h))
+    (or-holds (eqb n 2) (eqb n 3) .0 (must-pass _ 1 h))
 
 pub table-pass : (t : List ℕ) → tableOk t ≡ pass → (length t ≡ 4 * slots t) × (slots t ≤ 65536)
 unfolding tableOk slots

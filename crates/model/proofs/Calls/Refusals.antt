@@ -29,11 +29,11 @@ use Rattle.model.proofs.Calls.Ends.{call-ends, call-refused}
 
 -- the check `own`, and no other, has the number z
 record Alone (n : ℕ) (t j : List ℕ) (z : ℕ) (before : List Check) (own : Check) (behind : List Check) : Type 0 where
-  numbers : List ℕ
-  numbered : Numbers n t j numbers (before ++ (own ∷ behind))
-  not-before : member (take (length before) numbers) z ≡ false
-  here : take 1 (drop (length before) numbers) ≡ z ∷ []
-  not-behind : member (drop 1 (drop (length before) numbers)) z ≡ false
+  listed : List ℕ
+  numbered : Numbers n t j listed (before ++ (own ∷ behind))
+  not-before : member (take (length before) listed) z ≡ false
+  here : take 1 (drop (length before) listed) ≡ z ∷ []
+  not-behind : member (drop 1 (drop (length before) listed)) z ≡ false
 
 -- a refusal by z is its own: those before pass, and it fails; and back
 module _ {n : ℕ} {t j : List ℕ} {z : ℕ} {before : List Check} {own : Check} {behind : List Check}
@@ -41,8 +41,8 @@ module _ {n : ℕ} {t j : List ℕ} {z : ℕ} {before : List Check} {own : Check
   abbrev Refused : Type 0
   Refused = (p : ℕ) × (inOrder (before ++ (own ∷ behind)) ≡ refuse z p)
 
-  rest : Numbers n t j (drop (length before) (alone .numbers)) (own ∷ behind)
-  rest = numbers-behind before (own ∷ behind) (alone .numbered)
+  from-own : Numbers n t j (drop (length before) (alone .listed)) (own ∷ behind)
+  from-own = numbers-behind before (own ∷ behind) (alone .numbered)
 
   before-passed : Refused → inOrder before ≡ pass
   before-passed r = ⊎-elim (λ e. e) (λ q.
@@ -56,13 +56,13 @@ module _ {n : ℕ} {t j : List ℕ} {z : ℕ} {before : List Check} {own : Check
   own-failed r h =
       let own-passed : inOrder (own ∷ []) ≡ pass = rw h in
       let e = sym (append-passed before (own ∷ behind) (before-passed r) ∙ append-passed (own ∷ []) behind own-passed) ∙ r .1 in
-      not-in _ z (alone .not-behind) z (refusal-says behind (numbers-behind (own ∷ []) behind rest) z (r .0) e .0) refl
+      not-in _ z (alone .not-behind) z (refusal-says behind (numbers-behind (own ∷ []) behind from-own) z (r .0) e .0) refl
 
   own-refuses : inOrder before ≡ pass → own ≢ pass → Refused
   unfolding inOrder andThen
   own-refuses h failed = ⊎-elim (λ e. absurd (failed e)) (λ q.
       let own-refused : inOrder (own ∷ []) ≡ refuse (q .0) (q .1) = rw (q .2) in
-      let i = refusal-says (own ∷ []) (numbers-before (own ∷ []) behind rest) (q .0) (q .1) own-refused .0 in
+      let i = refusal-says (own ∷ []) (numbers-before (own ∷ []) behind from-own) (q .0) (q .1) own-refused .0 in
       let e = append-passed before (own ∷ behind) h ∙ append-refused (own ∷ []) behind own-refused in
       (q .1, e ∙ ap (λ (k : ℕ). refuse k (q .1)) (sole (rw (alone .here) at i))))
       (passed-or-refused own)
@@ -88,7 +88,7 @@ module _ (n : ℕ) (o : Outcome) (c : Call) (z : ℕ) (some-number : z ≢ 0) wh
       → (doCall n o c .number ≡ z) ↔ ((inOrder before ≡ pass) × P)
   given-exactly before own behind is not-before here not-behind says =
       let alone : Alone n (o .table) (o .journal) z before own behind = record {
-        numbers = numbers c;
+        listed = numbers c;
         numbered = rw is at (call-numbers n o c);
         not-before = not-before;
         here = here;
@@ -102,30 +102,30 @@ module _ (n : ℕ) (o : Outcome) (c : Call) (z : ℕ) (some-number : z ≢ 0) wh
 
 -- ---- 12, 13, 17
 
-pub sew-12 : (n : ℕ) (t j : List ℕ) (i d e : ℕ) → (sewCall n t j i d e .number ≡ 12)
+pub sew-12-exactly : (n : ℕ) (t j : List ℕ) (i d e : ℕ) → (sewCall n t j i d e .number ≡ 12)
     ↔ ((inOrder (sidesChecks n t j i d e) ≡ pass) × (Pairing n t i d e → ⊥))
 unfolding doCall keeping checksOf sidesChecks member indexOf
-sew-12 n t j i d e =
+sew-12-exactly n t j i d e =
     given-exactly n (lent t [] j) (Call.sew i d e) 12 (λ q. omega arith) (sidesChecks n t j i d e) _ _ refl refl refl refl
     (λ h. pairing-fails n t i d e (sides-passed n t j i d e h))
 
-pub split-13 : (n : ℕ) (t m j : List ℕ) (d : ℕ) → (splitCall n t m j d .number ≡ 13)
+pub split-13-exactly : (n : ℕ) (t m j : List ℕ) (d : ℕ) → (splitCall n t m j d .number ≡ 13)
     ↔ ((inOrder (layerChecks n t m j d) ≡ pass) × ((g : ℕ) × Marked (sheet n t d) g × Marked (sheet n t d) (link t 1 g)))
 unfolding doCall checksOf layerChecks splitChecks member indexOf
-split-13 n t m j d =
+split-13-exactly n t m j d =
     given-exactly n (lent t m j) (Call.split d) 13 (λ q. omega arith) (layerChecks n t m j d) _ _ refl refl refl refl
     (λ h. crossing-fails t (sheet n t d))
 
-pub undo-17 : (n : ℕ) (t j : List ℕ) → (undoCall n t j .number ≡ 17)
+pub undo-17-exactly : (n : ℕ) (t j : List ℕ) → (undoCall n t j .number ≡ 17)
     ↔ ((inOrder (stepChecks n t j (undoOk j)) ≡ pass) × StepFails false n t j (undoStart j) (undoCount j))
 unfolding doCall keeping checksOf stepChecks member indexOf
-undo-17 n t j =
+undo-17-exactly n t j =
     given-exactly n (lent t [] j) Call.undo 17 (λ q. omega arith) (stepChecks n t j (undoOk j)) _ [] refl refl refl refl
     (λ h. step-fails false n t j _ _ (dim-pass n (passed-at _ h 0)))
 
-pub redo-17 : (n : ℕ) (t j : List ℕ) → (redoCall n t j .number ≡ 17)
+pub redo-17-exactly : (n : ℕ) (t j : List ℕ) → (redoCall n t j .number ≡ 17)
     ↔ ((inOrder (stepChecks n t j (redoOk j)) ≡ pass) × StepFails true n t j (cursor j) (redoCount j))
 unfolding doCall keeping checksOf stepChecks member indexOf
-redo-17 n t j =
+redo-17-exactly n t j =
     given-exactly n (lent t [] j) Call.redo 17 (λ q. omega arith) (stepChecks n t j (redoOk j)) _ [] refl refl refl refl
     (λ h. step-fails true n t j _ _ (dim-pass n (passed-at _ h 0)))

@@ -1,4 +1,4 @@
--- `number-table`: each call gives the number of the first row of 01's table that is given, or 0.
+-- `number-table`: each call gives the number of the first of its rows of 01's table that is given, or 0.
 use Prim.Native.Nat.{ℕ}
 use mathlib.Core.Path.{_≡_, refl, sym, ap, _∙_, subst}
 use mathlib.Core.Logic.{inl, inr, _≢_, _↔_}
@@ -6,15 +6,16 @@ use mathlib.Core.Bool.{Bool, true, false}
 use mathlib.Core.List.{List, [], _∷_, _++_}
 use Rattle.model.specs.Lists.{ones, indexOf}
 use Rattle.model.specs.Sheet.{sheet}
-use Rattle.model.specs.Checks.{Check, pass, refuse, andThen, inOrder, dimOk, tableOk, marksOk, journalOk, mapOk, dartOk}
+use Rattle.model.specs.Checks.{Check, pass, refuse, andThen, inOrder, dimOk, tableOk, marksOk, journalOk, mapOk}
 use Rattle.model.specs.Checks.{checkChecks, orbitChecks, sheetChecks, addChecks, sidesChecks, unsewChecks}
 use Rattle.model.specs.Checks.{layerChecks, splitChecks, stepChecks}
 use Rattle.model.specs.Calls.{Outcome, refused}
 use Rattle.model.specs.Runs.{Call, doCall}
-use Rattle.model.specs.Meaning.Ends.{recordOk, stepOk, checksOf, checks, numbers}
-use Rattle.model.specs.Meaning.Numbers.{Row, First, dimRow, tableRow, marksRow, journalRow, mapRow, dartRow}
-use Rattle.model.specs.Meaning.Numbers.{recordRow, stepRow, rows}
-use Rattle.model.proofs.Calls.Checks.{not-pass, passed-at, passed-number, append-passed, Numbers, _then_, call-numbers}
+use Rattle.model.specs.Meaning.Ends.{stepOk, checksOf, checks, numbers}
+use Rattle.model.specs.Meaning.Numbers.{NumberRow, First, dimRow, tableRow, marksRow, journalRow, mapRow, dartRow}
+use Rattle.model.specs.Meaning.Numbers.{blockRow, stepRow, numberRows}
+use Rattle.model.proofs.Calls.Checks.{not-pass, passed-at, passed-number, append-passed, Numbered, Numbers, _then_}
+use Rattle.model.proofs.Calls.Checks.{call-numbers}
 use Rattle.model.proofs.Calls.Pass.{dim-pass, table-of, sides-passed}
 use Rattle.model.proofs.Calls.Fails.{dim-fails, table-fails, marks-fails, journal-fails, map-fails, index-fails, mask-fails}
 use Rattle.model.proofs.Calls.Fails.{dart-fails, block-fails, apart-fails, free-fails, sewn-fails, pairing-fails}
@@ -23,22 +24,24 @@ use Rattle.model.proofs.Calls.Fails.{step-fails}
 use Rattle.model.proofs.Calls.Ends.{call-ends, done-number}
 
 -- two numbers of the first row that is given are one
-first-once : (rs : List Row) (y z : ℕ) → First rs y → First rs z → y ≡ z
+first-once : (rs : List NumberRow) (y z : ℕ) → First rs y → First rs z → y ≡ z
 first-once [] y z a b = a ∙ sym b
 first-once (r ∷ rs) y z (inl a) (inl b) = a .1 ∙ sym (b .1)
 first-once (r ∷ rs) y z (inl a) (inr b) = absurd (b .0 (a .0))
 first-once (r ∷ rs) y z (inr a) (inl b) = absurd (a .0 (b .0))
 first-once (r ∷ rs) y z (inr a) (inr b) = first-once rs y z (a .1) (b .1)
 
--- each check fails exactly if its row is given, where those before it pass
-infixr 5 _next_
-data Meets : List Check → List Row → List Check → Type 1 where
-  end : {before : List Check} → Meets before [] []
-  _next_ : {before : List Check} {r : Row} {c : Check} {rs : List Row} {cs : List Check}
+-- each check fails exactly if its row is given; some where those before them pass
+infixr 5 _next_ _next-passed_
+data Meets : List Check → List NumberRow → List Check → Type 1 where
+  no-more : {before : List Check} → Meets before [] []
+  _next_ : {before : List Check} {r : NumberRow} {c : Check} {rs : List NumberRow} {cs : List Check}
+      → (c ≢ pass) ↔ r .given → Meets (before ++ (c ∷ [])) rs cs → Meets before (r ∷ rs) (c ∷ cs)
+  _next-passed_ : {before : List Check} {r : NumberRow} {c : Check} {rs : List NumberRow} {cs : List Check}
       → (inOrder before ≡ pass → (c ≢ pass) ↔ r .given) → Meets (before ++ (c ∷ [])) rs cs → Meets before (r ∷ rs) (c ∷ cs)
 
 -- the numbers of the rows
-abbrev numbersOf : List Row → List ℕ
+abbrev numbersOf : List NumberRow → List ℕ
 numbersOf [] = []
 numbersOf (r ∷ rs) = r .number ∷ numbersOf rs
 
@@ -47,13 +50,22 @@ numberIn : Check → ℕ
 numberIn pass = 0
 numberIn (refuse k p) = k
 
-first-number : {n : ℕ} {t j : List ℕ} (before : List Check) (rs : List Row) (cs : List Check) → inOrder before ≡ pass
+-- one check before others
+first-one : {n : ℕ} {t j : List ℕ} (r : NumberRow) (rs : List NumberRow) (c : Check) (cs : List Check)
+    → Numbered n t j (r .number) c → (c ≢ pass) ↔ r .given → (c ≡ pass → First rs (numberIn (inOrder cs)))
+    → First (r ∷ rs) (numberIn (inOrder (c ∷ cs)))
+unfolding inOrder andThen numberIn
+first-one r rs pass cs a f rest = inr (λ g. f .1 g refl, rest refl)
+first-one r rs (refuse k p) cs a f rest = inl (f .0 (λ e. not-pass e), a k p refl .0)
+
+first-number : {n : ℕ} {t j : List ℕ} (before : List Check) (rs : List NumberRow) (cs : List Check) → inOrder before ≡ pass
     → Meets before rs cs → Numbers n t j (numbersOf rs) cs → First rs (numberIn (inOrder cs))
 unfolding inOrder andThen numberIn
-first-number before [] [] h end w = refl
-first-number before (r ∷ rs) (pass ∷ cs) h (f next m) (a then w) =
-    inr (λ g. f h .1 g refl, first-number (before ++ (pass ∷ [])) rs cs (append-passed before (pass ∷ []) h) m w)
-first-number before (r ∷ rs) (refuse k p ∷ cs) h (f next m) (a then w) = inl (f h .0 (λ e. not-pass e), a k p refl .0)
+first-number before [] [] h no-more w = refl
+first-number before (r ∷ rs) (c ∷ cs) h (f next m) (a then w) = first-one r rs c cs a f
+    (λ e. first-number (before ++ (c ∷ [])) rs cs (append-passed before (c ∷ []) h ∙ rw e) m w)
+first-number before (r ∷ rs) (c ∷ cs) h (f next-passed m) (a then w) = first-one r rs c cs a (f h)
+    (λ e. first-number (before ++ (c ∷ [])) rs cs (append-passed before (c ∷ []) h ∙ rw e) m w)
 
 -- ---- each call
 
@@ -69,57 +81,54 @@ module _ (n : ℕ) (o : Outcome) where
   j = o .journal
 
   abbrev MeetsRows : Call → Type 1
-  MeetsRows c = Meets [] (rows n t m j c) (checks n o c)
-
-  -- the rows that many calls have
-  dim : (before : List Check) → inOrder before ≡ pass → (dimOk n ≢ pass) ↔ dimRow n .given
-  dim before h = dim-fails n
-
-  table : (before : List Check) → inOrder before ≡ pass → (tableOk t ≢ pass) ↔ tableRow t .given
-  table before h = table-fails t
-
-  marks : (before : List Check) → inOrder before ≡ pass → (marksOk t m ≢ pass) ↔ marksRow t m .given
-  marks before h = marks-fails t m
-
-  journal : (before : List Check) → inOrder before ≡ pass → (journalOk j ≢ pass) ↔ journalRow j .given
-  journal before h = journal-fails j
+  MeetsRows c = Meets [] (numberRows n t m j c) (checks n o c)
 
   -- n is 2 or 3, where the first check has passed
-  map : (before : List Check) → inOrder (dimOk n ∷ before) ≡ pass → (mapOk n t ≢ pass) ↔ mapRow n t .given
-  map before h = map-fails n t (dim-pass n (passed-at (dimOk n ∷ before) h 0))
+  map-row : (before : List Check) → inOrder (dimOk n ∷ before) ≡ pass → (mapOk n t ≢ pass) ↔ mapRow n t .given
+  map-row before h = map-fails n t (dim-pass n (passed-at (dimOk n ∷ before) h 0))
 
-  dart : (d : ℕ) (before : List Check) → inOrder before ≡ pass → (dartOk t d ≢ pass) ↔ dartRow t d .given
-  dart d before h = dart-fails t d
-
-  written : (u : List ℕ) (before : List Check) → inOrder before ≡ pass → (recordOk t u j ≢ pass) ↔ recordRow t u j .given
-  written u before h = record-fails t u j
-
-  step : (redo : Bool) (a k : ℕ) (before : List Check) → inOrder (dimOk n ∷ before) ≡ pass
+  step-row : (redo : Bool) (a k : ℕ) (before : List Check) → inOrder (dimOk n ∷ before) ≡ pass
       → (stepOk redo n t j a k ≢ pass) ↔ stepRow redo n t j a k .given
-  step redo a k before h = step-fails redo n t j a k (dim-pass n (passed-at (dimOk n ∷ before) h 0))
+  step-row redo a k before h = step-fails redo n t j a k (dim-pass n (passed-at (dimOk n ∷ before) h 0))
+
+  -- the first rows of the calls with marks, with a journal, and with both
+  with-marks : {rs : List NumberRow} {cs : List Check} → Meets (dimOk n ∷ tableOk t ∷ marksOk t m ∷ mapOk n t ∷ []) rs cs
+      → Meets [] (dimRow n ∷ tableRow t ∷ marksRow t m ∷ mapRow n t ∷ rs) (dimOk n ∷ tableOk t ∷ marksOk t m ∷ mapOk n t ∷ cs)
+  with-marks w = dim-fails n next table-fails t next marks-fails t m next map-row _ next-passed w
+
+  with-journal : {rs : List NumberRow} {cs : List Check} → Meets (dimOk n ∷ tableOk t ∷ journalOk j ∷ mapOk n t ∷ []) rs cs
+      → Meets [] (dimRow n ∷ tableRow t ∷ journalRow j ∷ mapRow n t ∷ rs) (dimOk n ∷ tableOk t ∷ journalOk j ∷ mapOk n t ∷ cs)
+  with-journal w = dim-fails n next table-fails t next journal-fails j next map-row _ next-passed w
+
+  with-layer : (d : ℕ) {rs : List NumberRow} {cs : List Check} → Meets (layerChecks n t m j d) rs cs
+      → Meets [] (dimRow n ∷ tableRow t ∷ marksRow t m ∷ journalRow j ∷ mapRow n t ∷ dartRow t d ∷ blockRow n t ∷ rs)
+      (layerChecks n t m j d ++ cs)
+  unfolding layerChecks indexOf
+  with-layer d w =
+      dim-fails n next table-fails t next marks-fails t m next journal-fails j next map-row _ next-passed dart-fails t d
+      next (λ h. let q = passed-number (numbers (Call.remove d)) _ h in block-fails n t (table-of n t (q 1) (q 2) (q 5)))
+      next-passed w
 
   meets : (c : Call) → MeetsRows c
-  unfolding checksOf checkChecks orbitChecks sheetChecks addChecks sidesChecks unsewChecks layerChecks splitChecks stepChecks indexOf
-  meets Call.check = dim _ next table _ next map _ next end
-  meets (Call.orbit mask d) = dim _ next table _ next marks _ next map _ next (λ _. mask-fails n mask) next dart d _ next end
-  meets (Call.sheet d) = dim _ next table _ next marks _ next map _ next dart d _
-      next (λ h. let q = passed-number (numbers (Call.sheet d)) _ h in block-fails n t (table-of n t (q 1) (q 2) (q 5))) next end
-  meets Call.add = dim _ next table _ next journal _ next map _ next (λ _. add-room-fails n t) next written _ _ next end
-  meets (Call.sew i d e) = dim _ next table _ next journal _ next map _ next (λ _. index-fails n i) next dart d _ next dart e _
-      next (λ _. apart-fails n t i d e) next (λ _. free-fails t i d e)
-      next (λ h. pairing-fails n t i d e (sides-passed n t j i d e h)) next written _ _ next end
-  meets (Call.unsew i d) = dim _ next table _ next journal _ next map _ next (λ _. index-fails n i) next dart d _
-      next (λ _. sewn-fails t i d) next written _ _ next end
-  meets (Call.remove d) = dim _ next table _ next marks _ next journal _ next map _ next dart d _
-      next (λ h. let q = passed-number (numbers (Call.remove d)) _ h in block-fails n t (table-of n t (q 1) (q 2) (q 5)))
-      next written _ _ next end
-  meets (Call.split d) = dim _ next table _ next marks _ next journal _ next map _ next dart d _
-      next (λ h. let q = passed-number (numbers (Call.remove d)) _ h in block-fails n t (table-of n t (q 1) (q 2) (q 5)))
-      next (λ _. crossing-fails t (sheet n t d)) next (λ _. split-room-fails n t (ones (sheet n t d))) next written _ _ next end
-  meets Call.undo = dim _ next table _ next journal _ next map _ next (λ _. undo-fails j) next step false _ _ _ next end
-  meets Call.redo = dim _ next table _ next journal _ next map _ next (λ _. redo-fails j) next step true _ _ _ next end
+  unfolding checksOf checkChecks orbitChecks sheetChecks addChecks sidesChecks unsewChecks splitChecks stepChecks indexOf
+  meets Call.check = dim-fails n next table-fails t next map-row _ next-passed no-more
+  meets (Call.orbit mask d) = with-marks (mask-fails n mask next dart-fails t d next no-more)
+  meets (Call.sheet d) = with-marks (dart-fails t d
+      next (λ h. let q = passed-number (numbers (Call.sheet d)) _ h in block-fails n t (table-of n t (q 1) (q 2) (q 5)))
+      next-passed no-more)
+  meets Call.add = with-journal (add-room-fails n t next record-fails t _ j next no-more)
+  meets (Call.sew i d e) = with-journal (index-fails n i next dart-fails t d next dart-fails t e next apart-fails n t i d e
+      next free-fails t i d e next (λ h. pairing-fails n t i d e (sides-passed n t j i d e h))
+      next-passed record-fails t _ j next no-more)
+  meets (Call.unsew i d) = with-journal (index-fails n i next dart-fails t d next sewn-fails t i d
+      next record-fails t _ j next no-more)
+  meets (Call.remove d) = with-layer d (record-fails t _ j next no-more)
+  meets (Call.split d) = with-layer d (crossing-fails t (sheet n t d) next split-room-fails n t (ones (sheet n t d))
+      next record-fails t _ j next no-more)
+  meets Call.undo = with-journal (undo-fails j next step-row false _ _ _ next-passed no-more)
+  meets Call.redo = with-journal (redo-fails j next step-row true _ _ _ next-passed no-more)
 
-  rows-numbers : (c : Call) → numbers c ≡ numbersOf (rows n t m j c)
+  rows-numbers : (c : Call) → numbers c ≡ numbersOf (numberRows n t m j c)
   rows-numbers Call.check = refl
   rows-numbers (Call.orbit mask d) = refl
   rows-numbers (Call.sheet d) = refl
@@ -139,9 +148,9 @@ module _ (n : ℕ) (o : Outcome) where
       go pass e = ap (λ (r : Outcome). r .number) (call-ends n o c .passes e) ∙ done-number n o c
       go (refuse k p) e = ap (λ (r : Outcome). r .number) (call-ends n o c .refuses k p e)
 
-  pub number-table : (c : Call) (z : ℕ) → (doCall n o c .number ≡ z) ↔ First (rows n t m j c) z
+  pub number-table : (c : Call) (z : ℕ) → (doCall n o c .number ≡ z) ↔ First (numberRows n t m j c) z
   unfolding inOrder
   number-table c z =
       let w = rw (rows-numbers c) at (call-numbers n o c) in
-      let first = rw (← number-in-order c) at (first-number [] (rows n t m j c) (checks n o c) refl (meets c) w) in
-      (λ h. subst (First (rows n t m j c)) h first, λ g. first-once (rows n t m j c) _ z first g)
+      let first = rw (← number-in-order c) at (first-number [] (numberRows n t m j c) (checks n o c) refl (meets c) w) in
+      (λ h. subst (First (numberRows n t m j c)) h first, λ g. first-once (numberRows n t m j c) _ z first g)

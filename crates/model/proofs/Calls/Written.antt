@@ -22,8 +22,8 @@ use Rattle.model.proofs.Calls.Untouched.{call-untouched}
 -- ---- words written over others
 
 module _ (j r : List ℕ) (c : ℕ) (fits : c + length r ≤ length j) where
-  abbrev over : List ℕ
-  over = take c j ++ r ++ drop (c + length r) j
+  abbrev overwritten : List ℕ
+  overwritten = take c j ++ r ++ drop (c + length r) j
 
   front-length : length (take c j) ≡ c
   front-length = length-take-le c j (omega arith)
@@ -31,34 +31,34 @@ module _ (j r : List ℕ) (c : ℕ) (fits : c + length r ≤ length j) where
   head-length : length (take c j ++ r) ≡ c + length r
   head-length = let a = length-append (take c j) r in let b = front-length in omega arith
 
-  over-length : length over ≡ length j
-  over-length =
+  overwritten-length : length overwritten ≡ length j
+  overwritten-length =
       let a = length-append (take c j ++ r) (drop (c + length r) j) in
       let b = head-length in
       let d = length-drop (c + length r) j in
       omega arith
 
-  over-before : (x : ℕ) → x < c → getD over x 0 ≡ getD j x 0
-  over-before x h =
+  overwritten-before : (x : ℕ) → x < c → getD overwritten x 0 ≡ getD j x 0
+  overwritten-before x h =
       let a = front-length in
       let b = head-length in
       List·getD-append (take c j ++ r) _ 0 x (omega arith) ∙ List·getD-append (take c j) r 0 x (omega arith) ∙ getD-take c j x 0 h
 
-  over-words : (x : ℕ) → x < length r → getD over (c + x) 0 ≡ getD r x 0
-  over-words x h =
+  overwritten-words : (x : ℕ) → x < length r → getD overwritten (c + x) 0 ≡ getD r x 0
+  overwritten-words x h =
       let a = front-length in
       let b = head-length in
       let at : c + x ≡ length (take c j) + x = omega arith in
       List·getD-append (take c j ++ r) _ 0 (c + x) (omega arith)
       ∙ ap (λ (k : ℕ). getD (take c j ++ r) k 0) at ∙ getD-append-add (take c j) r x 0
 
-  over-behind : (x : ℕ) → c + length r ≤ x → getD over x 0 ≡ getD j x 0
-  over-behind x h =
+  overwritten-behind : (x : ℕ) → c + length r ≤ x → getD overwritten x 0 ≡ getD j x 0
+  overwritten-behind x h =
       let b = head-length in
       let e = c + length r in
       let at : x ≡ length (take c j ++ r) + (x - e) = omega arith in
       let back : e + (x - e) ≡ x = omega arith in
-      ap (λ (k : ℕ). getD over k 0) at ∙ getD-append-add (take c j ++ r) (drop e j) (x - e) 0
+      ap (λ (k : ℕ). getD overwritten k 0) at ∙ getD-append-add (take c j ++ r) (drop e j) (x - e) 0
       ∙ getD-drop e j (x - e) 0 ∙ ap (λ (k : ℕ). getD j k 0) back
 
 -- ---- an operation
@@ -68,27 +68,27 @@ module _ (j r : List ℕ) (rule : JournalRule j) (room : length r ≤ length j -
   fits : cursor j + length r ≤ length j
   fits = let a = rule .ends in let b = rule .within in omega arith
 
-  word-stays : (x : ℕ) → 2 ≤ x → getD (written j r) x 0 ≡ getD (over j r (cursor j) fits) x 0
+  word-stays : (x : ℕ) → 2 ≤ x → getD (written j r) x 0 ≡ getD (overwritten j r (cursor j) fits) x 0
   unfolding written
   word-stays x h =
-      getD-set-other (set (over j r (cursor j) fits) 0 _) 1 x _ 0 (λ q. omega arith)
-      ∙ getD-set-other (over j r (cursor j) fits) 0 x _ 0 (λ q. omega arith)
+      getD-set-other (set (overwritten j r (cursor j) fits) 0 _) 1 x _ 0 (λ q. omega arith)
+      ∙ getD-set-other (overwritten j r (cursor j) fits) 0 x _ 0 (λ q. omega arith)
 
   written-recorded : Recorded r j (written j r)
   unfolding written cursor end
   written-recorded =
       let e = cursor j + length r in
-      let words = over j r (cursor j) fits in
-      let long = over-length j r (cursor j) fits in
+      let words = overwritten j r (cursor j) fits in
+      let long = overwritten-length j r (cursor j) fits in
       let low = rule .low in
       let two = rule .long in
       record {
         long = length-set (set words 0 e) 1 e ∙ length-set words 0 e ∙ long;
         at-cursor = getD-set-other (set words 0 e) 1 0 e 0 (λ q. omega arith) ∙ getD-set-same words 0 e 0 (omega arith);
         at-end = getD-set-same (set words 0 e) 1 e 0 (let l = length-set words 0 e in omega arith);
-        words = λ x h. word-stays (cursor j + x) (omega arith) ∙ over-words j r (cursor j) fits x h;
-        before = λ x h k. word-stays x h ∙ over-before j r (cursor j) fits x k;
-        behind = λ x h. word-stays x (omega arith) ∙ over-behind j r (cursor j) fits x h;
+        words = λ x h. word-stays (cursor j + x) (omega arith) ∙ overwritten-words j r (cursor j) fits x h;
+        before = λ x h k. word-stays x h ∙ overwritten-before j r (cursor j) fits x k;
+        behind = λ x h. word-stays x (omega arith) ∙ overwritten-behind j r (cursor j) fits x h;
       }
 
 -- the check 4 has passed

@@ -12,7 +12,7 @@ use lib.Dec.{eqb, leb}
 use borrow.Author.Tests.{eqb-false, not-true}
 use Rattle.model.specs.Lists.{count, onesFrom, ones}
 use Rattle.model.specs.Table.{slots}
-use Rattle.model.specs.Cell.{cellSize, cellWords}
+use Rattle.model.specs.Cell.{cellSize, cellWords, isBlock}
 use Rattle.model.specs.Reach.{closure}
 use Rattle.model.specs.Orbit.{orbit}
 use Rattle.model.specs.Sheet.{sheet, overlay, sheetMarks, sheetWords}
@@ -36,7 +36,8 @@ pub effect-changes-some : (n : ℕ) (t m j : List ℕ) (p : Op) → Passed n t m
 effect-changes-some n t m j p passed = changes-some t (effect n t p) (sym (effect-length n t p)) (op-changes n t m j p passed)
 
 module _ (n : ℕ) (o : Outcome) where
-  pub op-changes-some : (p : Op) → doCall n o (callOf p) .number ≡ 0 → 0 < length (changesFrom 0 (o .table) (doCall n o (callOf p) .table))
+  pub op-changes-some : (p : Op) → doCall n o (callOf p) .number ≡ 0
+      → 0 < length (changesFrom 0 (o .table) (doCall n o (callOf p) .table))
   op-changes-some p h =
       let r = op-accepted n o p h in
       rw (r .table) (effect-changes-some n (o .table) (o .marks) (o .journal) p (r .passed))
@@ -44,10 +45,12 @@ module _ (n : ℕ) (o : Outcome) where
   abbrev Counted : Call → Type 0
   Counted c = doCall n o c .number ≡ 0 → CountsChanges (o .table) (doCall n o c .table) (doCall n o c .count)
 
-  op-counted : (p : Op) → done n o (callOf p) .count ≡ length (changesFrom 0 (o .table) (done n o (callOf p) .table)) → Counted (callOf p)
+  op-counted : (p : Op) → done n o (callOf p) .count ≡ length (changesFrom 0 (o .table) (done n o (callOf p) .table))
+      → Counted (callOf p)
   op-counted p e h =
       let is = call-done n o (callOf p) h in
-      let size = ap (λ (r : Outcome). r .count) is ∙ e ∙ sym (ap (λ (r : Outcome). length (changesFrom 0 (o .table) (r .table))) is) in
+      let changes : Outcome → ℕ = λ r. length (changesFrom 0 (o .table) (r .table)) in
+      let size = ap (λ (r : Outcome). r .count) is ∙ e ∙ sym (ap changes is) in
       record { size = size; some = rw size (op-changes-some p h) }
 
   pub sew-count : (i d e : ℕ) → Counted (Call.sew i d e)
@@ -128,7 +131,8 @@ length-ones (x ∷ l) a = go (eqb x 1) (length-ones l (suc a))
     go false e = e
 
 -- marks are 0, 1 or 2
-marks-counts : (a b : List ℕ) → length a ≡ length b → count 0 (overlay a b) + count 1 (overlay a b) + count 2 (overlay a b) ≡ length a
+marks-counts : (a b : List ℕ) → length a ≡ length b
+    → count 0 (overlay a b) + count 1 (overlay a b) + count 2 (overlay a b) ≡ length a
 unfolding overlay count
 marks-counts [] [] l = refl
 marks-counts [] (y ∷ b) l = absurd (omega arith)
@@ -154,6 +158,15 @@ removed-count n t d =
     omega arith
 
 module _ (n : ℕ) (o : Outcome) where
+  -- "count 1 for a map, 2 for a block map"
+  pub check-count : doCall n o Call.check .number ≡ 0
+      → (isBlock n (o .table) ≡ true → doCall n o Call.check .count ≡ 2)
+      × (isBlock n (o .table) ≡ false → doCall n o Call.check .count ≡ 1)
+  unfolding doneOf
+  check-count h =
+      let is = ap (λ (r : Outcome). r .count) (call-done n o Call.check h) in
+      (λ b. is ∙ rw b, λ b. is ∙ rw b)
+
   -- "Count: darts reached"
   pub orbit-count : (mask d : ℕ) → doCall n o (Call.orbit mask d) .number ≡ 0
       → doCall n o (Call.orbit mask d) .count ≡ count 1 (orbit n (o .table) mask d)
@@ -161,7 +174,8 @@ module _ (n : ℕ) (o : Outcome) where
   orbit-count mask d h = ap (λ (r : Outcome). r .count) (call-done n o (Call.orbit mask d) h)
 
   -- "Count: size of S"
-  pub sheet-count : (d : ℕ) → doCall n o (Call.sheet d) .number ≡ 0 → doCall n o (Call.sheet d) .count ≡ count 1 (sheet n (o .table) d)
+  pub sheet-count : (d : ℕ) → doCall n o (Call.sheet d) .number ≡ 0
+      → doCall n o (Call.sheet d) .count ≡ count 1 (sheet n (o .table) d)
   unfolding doneOf
   sheet-count d h = ap (λ (r : Outcome). r .count) (call-done n o (Call.sheet d) h)
 
@@ -172,11 +186,13 @@ module _ (n : ℕ) (o : Outcome) where
 
   -- "Count: darts removed": those with marks 1 or 2
   pub remove-count : (d : ℕ) → doCall n o (Call.remove d) .number ≡ 0
-      → doCall n o (Call.remove d) .count ≡ count 1 (doCall n o (Call.remove d) .marks) + count 2 (doCall n o (Call.remove d) .marks)
+      → doCall n o (Call.remove d) .count
+      ≡ count 1 (doCall n o (Call.remove d) .marks) + count 2 (doCall n o (Call.remove d) .marks)
   unfolding doneOf
   remove-count d h = rw (call-done n o (Call.remove d) h) (removed-count n (o .table) d)
 
   -- "Count: darts added": n for each dart of S
-  pub split-count : (d : ℕ) → doCall n o (Call.split d) .number ≡ 0 → doCall n o (Call.split d) .count ≡ n * count 1 (sheet n (o .table) d)
+  pub split-count : (d : ℕ) → doCall n o (Call.split d) .number ≡ 0
+      → doCall n o (Call.split d) .count ≡ n * count 1 (sheet n (o .table) d)
   unfolding doneOf
   split-count d h = rw (call-done n o (Call.split d) h) (ap (λ (k : ℕ). n * k) (length-ones (sheet n (o .table) d) 0))

@@ -46,40 +46,40 @@ step-17 (p ∷ ps) e = omega arith
 
 -- ---- a state where the invariant holds
 
-abbrev Sound : ℕ → List ℕ → State → Type 0
-Sound n first s = Invariant n first (s .history) (s .outcome .table) (s .outcome .journal)
+abbrev InvariantAt : ℕ → List ℕ → State → Type 0
+InvariantAt n first s = Invariant n first (s .history) (s .outcome .table) (s .outcome .journal)
 
-module _ {n : ℕ} {first : List ℕ} (s : State) (I : Sound n first s) where
-  step-sound : (c : Step) → Sound n first (stepped n s c)
+module _ {n : ℕ} {first : List ℕ} (s : State) (inv : InvariantAt n first s) where
+  step-invariant : (c : Step) → InvariantAt n first (stepped n s c)
   unfolding stepped answer keeping
-  step-sound c = call-keeps (keeping (s .outcome) (c .marks) (s .outcome .journal)) I (c .call)
+  step-invariant c = call-keeps (keeping (s .outcome) (c .marks) (s .outcome .journal)) inv (c .call)
 
   undo-gives : (m : List ℕ) → numberOf n s Call.undo m ≡ stepNumber (s .history .standing)
   unfolding numberOf answer doCall keeping
-  undo-gives m = undo-number n first (s .history .standing) (s .history .undone) I
+  undo-gives m = undo-number n first (s .history .standing) (s .history .undone) inv
 
   redo-gives : (m : List ℕ) → numberOf n s Call.redo m ≡ stepNumber (s .history .undone)
   unfolding numberOf answer doCall keeping
-  redo-gives m = redo-number n first (s .history .standing) (s .history .undone) I
+  redo-gives m = redo-number n first (s .history .standing) (s .history .undone) inv
 
   no-4 : (c : Call) (m : List ℕ) → numberOf n s c m ≢ 4
   unfolding numberOf answer keeping
   no-4 c m e =
       let o = keeping (s .outcome) m (s .outcome .journal) in
       let r = call-refused n o c (λ q. omega arith) in
-      call-says n o c _ (r .0) (r .1) .1 .journal e (journal-now o I)
+      call-says n o c _ (r .0) (r .1) .1 .journal e (journal-now o inv)
 
   no-5 : (c : Call) (m : List ℕ) → numberOf n s c m ≢ 5
   unfolding numberOf answer keeping
   no-5 c m e =
       let o = keeping (s .outcome) m (s .outcome .journal) in
       let r = call-refused n o c (λ q. omega arith) in
-      call-says n o c _ (r .0) (r .1) .1 .map e (map-ok n _ (rule-now o I .map))
+      call-says n o c _ (r .0) (r .1) .1 .map e (map-ok n _ (rule-now o inv .map))
 
-  sound-stands : Stands n first s
-  sound-stands = record {
-    table = I .table;
-    map = rule-now (s .outcome) I .map;
+  invariant-stands : Stands n first s
+  invariant-stands = record {
+    table = inv .table;
+    map = rule-now (s .outcome) inv .map;
     undo-16 = λ m. given-16 (undo-gives m);
     redo-16 = λ m. given-16 (redo-gives m);
     undo-0 = λ m h. undo-gives m ∙ step-0 _ h;
@@ -93,10 +93,10 @@ module _ {n : ℕ} {first : List ℕ} (s : State) (I : Sound n first s) where
       given-16 : {k : ℕ} {ps : List Op} → k ≡ stepNumber ps → (k ≡ 16) ↔ (ps ≡ [])
       given-16 {k} {ps} e = (λ q. step-16 ps .0 (sym e ∙ q), λ q. e ∙ step-16 ps .1 q)
 
-run-sound : {n : ℕ} {first : List ℕ} (cs : List Step) (s : State) → Sound n first s → Sound n first (run n s cs)
+run-invariant : {n : ℕ} {first : List ℕ} (cs : List Step) (s : State) → InvariantAt n first s → InvariantAt n first (run n s cs)
 unfolding run
-run-sound [] s I = I
-run-sound (c ∷ cs) s I = run-sound cs (stepped _ s c) (step-sound s I c)
+run-invariant [] s inv = inv
+run-invariant (c ∷ cs) s inv = run-invariant cs (stepped _ s c) (step-invariant s inv c)
 
 -- ---- the start
 
@@ -108,11 +108,11 @@ table-ok : (t : List ℕ) → length t % 4 ≡ 0 → length t ≤ 262144 → tab
 unfolding tableOk must
 table-ok t whole few = rw (whole, le-leb (length t) 262144 few)
 
-start-sound : (n : ℕ) (t j : List ℕ) → FreshStart n t j → Sound n t (start t j)
+start-invariant : (n : ℕ) (t j : List ℕ) → FreshStart n t j → InvariantAt n t (start t j)
 unfolding start replay historyWords journalOf standingWords undoneWords cursor end
-start-sound n t [] fresh = absurd (let l = fresh .low in omega arith)
-start-sound n t (c ∷ []) fresh = absurd (let l = fresh .low in omega arith)
-start-sound n t (c ∷ e ∷ rest) fresh = record {
+start-invariant n t [] fresh = absurd (let l = fresh .low in omega arith)
+start-invariant n t (c ∷ []) fresh = absurd (let l = fresh .low in omega arith)
+start-invariant n t (c ∷ e ∷ rest) fresh = record {
   rest = rest;
   table = refl;
   journal = ap₂ (λ (c e : ℕ). c ∷ e ∷ rest) (fresh .at-cursor) (fresh .at-end);
@@ -128,32 +128,33 @@ abbrev stateOf : Outcome → List Op → List Op → State
 stateOf o ds us = record { outcome = o; history = historyOf ds us }
 
 module _ {n : ℕ} {first : List ℕ} where
-  undo-standing : (m : List ℕ) (s : State) → Sound n first s
+  undo-standing : (m : List ℕ) (s : State) → InvariantAt n first s
       → stepped n s (calling Call.undo m) .history .standing ≡ drop 1 (s .history .standing)
   unfolding stepped answer stepNumber answered accepted afterUndo numberOf
-  undo-standing m s I = go (s .history .standing) (s .history .undone) (undo-gives s I m)
+  undo-standing m s inv = go (s .history .standing) (s .history .undone) (undo-gives s inv m)
     where
       go : {k : ℕ} (ds us : List Op) → k ≡ stepNumber ds → answered k Call.undo (historyOf ds us) .standing ≡ drop 1 ds
       go [] us e = rw e
       go (p ∷ ds) us e = rw e
 
-  undos-standing : (m : List ℕ) (k : ℕ) (s : State) → Sound n first s
+  undos-standing : (m : List ℕ) (k : ℕ) (s : State) → InvariantAt n first s
       → run n s (replicate k (calling Call.undo m)) .history .standing ≡ drop k (s .history .standing)
   unfolding run
-  undos-standing m zero s I = refl
-  undos-standing m (suc k) s I =
+  undos-standing m zero s inv = refl
+  undos-standing m (suc k) s inv =
       let one : 1 + k ≡ suc k = omega arith in
-      undos-standing m k (stepped n s (calling Call.undo m)) (step-sound s I (calling Call.undo m))
-      ∙ ap (drop k) (undo-standing m s I) ∙ drop-drop k 1 (s .history .standing)
+      undos-standing m k (stepped n s (calling Call.undo m)) (step-invariant s inv (calling Call.undo m))
+      ∙ ap (drop k) (undo-standing m s inv) ∙ drop-drop k 1 (s .history .standing)
       ∙ ap (λ (i : ℕ). drop i (s .history .standing)) one
 
-  undo-redo : (o : Outcome) (ds us : List Op) (m m′ : List ℕ) → Sound n first (stateOf o ds us) → numberOf n (stateOf o ds us) Call.undo m ≡ 0
+  undo-redo : (o : Outcome) (ds us : List Op) (m m′ : List ℕ) → InvariantAt n first (stateOf o ds us)
+      → numberOf n (stateOf o ds us) Call.undo m ≡ 0
       → Alike (run n (stateOf o ds us) (calling Call.undo m ∷ calling Call.redo m′ ∷ [])) (stateOf o ds us)
   unfolding stepNumber run stepped answer doCall keeping stepsTo answered accepted afterUndo afterRedo replay
-  undo-redo o [] us m m′ I e = absurd (let q = undo-gives (stateOf o [] us) I m in omega arith)
-  undo-redo o (p ∷ ds) us m m′ I e =
-      rw (undo-moves n first p ds us I, redo-undone n first p ds us I)
-      (record { table = sym (I .table); journal = sym (I .journal); history = refl })
+  undo-redo o [] us m m′ inv e = absurd (let q = undo-gives (stateOf o [] us) inv m in omega arith)
+  undo-redo o (p ∷ ds) us m m′ inv e =
+      rw (undo-moves n first p ds us inv, redo-undone n first p ds us inv)
+      (record { table = sym (inv .table); journal = sym (inv .journal); history = refl })
 
 -- a call adds at most one operation to those that stand
 history-grows : (k : ℕ) (c : Call) (h : History) → length (answered k c h .standing) ≤ suc (length (h .standing))
@@ -178,7 +179,8 @@ history-grows zero Call.redo h = go (h .standing) (h .undone)
     go ds [] = unfold afterRedo in omega arith
     go ds (p ∷ us) = unfold afterRedo in omega arith
 
-run-grows : (n : ℕ) (cs : List Step) (s : State) → length (run n s cs .history .standing) ≤ length cs + length (s .history .standing)
+run-grows : (n : ℕ) (cs : List Step) (s : State)
+    → length (run n s cs .history .standing) ≤ length cs + length (s .history .standing)
 unfolding run stepped
 run-grows n [] s = omega arith
 run-grows n (c ∷ cs) s =
@@ -200,18 +202,18 @@ module _ (n : ℕ) (t j : List ℕ) (fresh : FreshStart n t j) (cs : List Step) 
   abbrev reached : State
   reached = run n (start t j) cs
 
-  reached-sound : Sound n t reached
-  reached-sound = run-sound cs (start t j) (start-sound n t j fresh)
+  reached-invariant : InvariantAt n t reached
+  reached-invariant = run-invariant cs (start t j) (start-invariant n t j fresh)
 
   pub demand-3 : Stands n t reached
-  demand-3 = sound-stands reached reached-sound
+  demand-3 = invariant-stands reached reached-invariant
 
   -- k undos take the k newest operations back ..
   pub undo-newest : (m : List ℕ) (k : ℕ)
       → run n reached (replicate k (calling Call.undo m)) .outcome .table ≡ replay n t (drop k (reached .history .standing))
   undo-newest m k =
-      run-sound (replicate k (calling Call.undo m)) reached reached-sound .table
-      ∙ ap (replay n t) (undos-standing m k reached reached-sound)
+      run-invariant (replicate k (calling Call.undo m)) reached reached-invariant .table
+      ∙ ap (replay n t) (undos-standing m k reached reached-invariant)
 
   -- .. as many as stand, or more, give the first table back ..
   pub undo-everything : (m : List ℕ) (k : ℕ) → length (reached .history .standing) ≤ k
@@ -228,4 +230,4 @@ module _ (n : ℕ) (t j : List ℕ) (fresh : FreshStart n t j) (cs : List Step) 
   pub redo-after-undo : (m m′ : List ℕ) → numberOf n reached Call.undo m ≡ 0
       → Alike (run n reached (calling Call.undo m ∷ calling Call.redo m′ ∷ [])) reached
   redo-after-undo m m′ e =
-      undo-redo (reached .outcome) (reached .history .standing) (reached .history .undone) m m′ reached-sound e
+      undo-redo (reached .outcome) (reached .history .standing) (reached .history .undone) m m′ reached-invariant e

@@ -1,7 +1,7 @@
 -- The invariant of a run: table and journal by the operations that stand and those that were undone. Each call keeps it
 -- (`call-keeps`); by it undo and redo are known (`undo-moves`, `redo-moves`, `undo-number`, `redo-number`).
 use Prim.Native.Nat.{ℕ, zero, suc, _-_, _≤_}
-use mathlib.Core.Path.{_≡_, refl, sym, ap, ap₂, _∙_, subst₂}
+use mathlib.Core.Path.{_≡_, refl, sym, ap, ap₂, _∙_}
 use mathlib.Core.Logic.{_≢_}
 use mathlib.Core.Bool.{true, false}
 use mathlib.Core.List.{List, [], _∷_, _++_}
@@ -19,7 +19,7 @@ use Rattle.model.proofs.Calls.Untouched.{call-untouched, reading-untouc
 use Rattle.model.proofs.History.Record.{put-new-changes, put-old-changes, changes-some}
 use Rattle.model.proofs.History.Sound.{sound-undo, sound-redo}
 use Rattle.model.proofs.History.Log.{journalOf, journal-ok, journal-written, written-length, journal-same, InRule}
-use Rattle.model.proofs.History.Log.{Leads, stepsTo, undo-steps, redo-steps, undo-none, redo-none}
+use Rattle.model.proofs.History.Log.{StepMakes, stepsTo, undo-steps, redo-steps, undo-none, redo-none}
 use Rattle.model.proofs.History.Ops.{effect-length, op-changes, op-map}
 
 -- ---- the records of the operations
@@ -83,7 +83,7 @@ rule-along : {n : ℕ} {t u : List ℕ} → length t ≡ length u → InRule n t
 unfolding tableOk
 rule-along long rule map = record { dim = rule .dim; size = rw (← long) (rule .size); map = map }
 
-edit-back : {n : ℕ} {t u : List ℕ} → Edit n t u → InRule n u → Leads false n u t (changesFrom 0 t u)
+edit-back : {n : ℕ} {t u : List ℕ} → Edit n t u → InRule n u → StepMakes false n u t (changesFrom 0 t u)
 unfolding put
 edit-back {n} {t} {u} edit rule = record {
   rule = rule;
@@ -93,7 +93,7 @@ edit-back {n} {t} {u} edit rule = record {
   map = edit .from;
 }
 
-edit-forward : {n : ℕ} {t u : List ℕ} → Edit n t u → InRule n t → Leads true n t u (changesFrom 0 t u)
+edit-forward : {n : ℕ} {t u : List ℕ} → Edit n t u → InRule n t → StepMakes true n t u (changesFrom 0 t u)
 unfolding put
 edit-forward {n} {t} {u} edit rule = record {
   rule = rule;
@@ -103,7 +103,7 @@ edit-forward {n} {t} {u} edit rule = record {
   map = edit .to;
 }
 
--- p is the operation that moves, `before` the table before it and `after` the one behind it
+-- p is the operation that moves; ds stand before it, us were undone after it; the tables before and after it
 module _ (n : ℕ) (first : List ℕ) (p : Op) (ds us : List Op) where
   abbrev before : List ℕ
   before = replay n first ds
@@ -121,48 +121,50 @@ module _ (n : ℕ) (first : List ℕ) (p : Op) (ds us : List Op) where
   same-length rest = journal-same (standingWords n first ds) (undoneWords n after us) rest (changesFrom 0 before after)
 
   module _ {t j : List ℕ} where
-    pub undo-moves : (I : Invariant n first (historyOf (p ∷ ds) us) t j)
-        → undoCall n t j ≡ stepsTo changed before (historyWords n first (historyOf ds (p ∷ us)) (I .rest))
+    pub undo-moves : (inv : Invariant n first (historyOf (p ∷ ds) us) t j)
+        → undoCall n t j ≡ stepsTo changed before (historyWords n first (historyOf ds (p ∷ us)) (inv .rest))
     unfolding historyWords standingWords undoneWords replay
-    undo-moves I =
-        ap₂ (undoCall n) (I .table) (I .journal)
-        ∙ undo-steps (standingWords n first ds) (undoneWords n after us) (I .rest) _ (edit-back (I .standing .0) (I .rule)) (I .few)
+    undo-moves inv =
+        ap₂ (undoCall n) (inv .table) (inv .journal)
+        ∙ undo-steps (standingWords n first ds) (undoneWords n after us) (inv .rest) (changesFrom 0 before after)
+        (edit-back (inv .standing .0) (inv .rule)) (inv .few)
 
-    undo-invariant : (I : Invariant n first (historyOf (p ∷ ds) us) t j)
-        → Invariant n first (historyOf ds (p ∷ us)) before (historyWords n first (historyOf ds (p ∷ us)) (I .rest))
+    undo-invariant : (inv : Invariant n first (historyOf (p ∷ ds) us) t j)
+        → Invariant n first (historyOf ds (p ∷ us)) before (historyWords n first (historyOf ds (p ∷ us)) (inv .rest))
     unfolding replay
-    undo-invariant I =
-        let edit = I .standing .0 in
+    undo-invariant inv =
+        let edit = inv .standing .0 in
         record {
-          rest = I .rest;
+          rest = inv .rest;
           table = refl;
           journal = refl;
-          rule = rule-along (sym (edit .long)) (I .rule) (edit .from);
-          few = rw (same-length (I .rest)) (I .few);
-          standing = I .standing .1;
-          undone = (edit, I .undone);
+          rule = rule-along (sym (edit .long)) (inv .rule) (edit .from);
+          few = rw (same-length (inv .rest)) (inv .few);
+          standing = inv .standing .1;
+          undone = (edit, inv .undone);
         }
 
-    redo-moves : (I : Invariant n first (historyOf ds (p ∷ us)) t j)
-        → redoCall n t j ≡ stepsTo changed after (historyWords n first (historyOf (p ∷ ds) us) (I .rest))
+    redo-moves : (inv : Invariant n first (historyOf ds (p ∷ us)) t j)
+        → redoCall n t j ≡ stepsTo changed after (historyWords n first (historyOf (p ∷ ds) us) (inv .rest))
     unfolding historyWords standingWords undoneWords replay
-    redo-moves I =
-        ap₂ (redoCall n) (I .table) (I .journal)
-        ∙ redo-steps (standingWords n first ds) (undoneWords n after us) (I .rest) _ (edit-forward (I .undone .0) (I .rule)) (I .few)
+    redo-moves inv =
+        ap₂ (redoCall n) (inv .table) (inv .journal)
+        ∙ redo-steps (standingWords n first ds) (undoneWords n after us) (inv .rest) (changesFrom 0 before after)
+        (edit-forward (inv .undone .0) (inv .rule)) (inv .few)
 
-    redo-invariant : (I : Invariant n first (historyOf ds (p ∷ us)) t j)
-        → Invariant n first (historyOf (p ∷ ds) us) after (historyWords n first (historyOf (p ∷ ds) us) (I .rest))
+    redo-invariant : (inv : Invariant n first (historyOf ds (p ∷ us)) t j)
+        → Invariant n first (historyOf (p ∷ ds) us) after (historyWords n first (historyOf (p ∷ ds) us) (inv .rest))
     unfolding replay
-    redo-invariant I =
-        let edit = I .undone .0 in
+    redo-invariant inv =
+        let edit = inv .undone .0 in
         record {
-          rest = I .rest;
+          rest = inv .rest;
           table = refl;
           journal = refl;
-          rule = rule-along (edit .long) (I .rule) (edit .to);
-          few = rw (same-length (I .rest)) at (I .few);
-          standing = (edit, I .standing);
-          undone = I .undone .1;
+          rule = rule-along (edit .long) (inv .rule) (edit .to);
+          few = rw (same-length (inv .rest)) at (inv .few);
+          standing = (edit, inv .standing);
+          undone = inv .undone .1;
         }
 
     -- a new operation is written over what was undone
@@ -170,25 +172,27 @@ module _ (n : ℕ) (first : List ℕ) (p : Op) (ds us : List Op) where
         → length (editWords t (effect n t p)) ≤ length j - cursor j
         → Invariant n first (historyOf (p ∷ ds) []) (effect n t p) (written j (editWords t (effect n t p)))
     unfolding historyWords standingWords undoneWords replay
-    written-invariant I = rw (I .table, I .journal) (λ edit room.
-        let words = journal-written (standingWords n first ds) (undoneWords n before us) (I .rest) (editWords before after) in
-        let long = written-length (standingWords n first ds) (undoneWords n before us) (I .rest) (editWords before after) room in
+    written-invariant inv = rw (inv .table, inv .journal) (λ edit room.
+        let stands = standingWords n first ds in
+        let undone = undoneWords n before us in
+        let words = journal-written stands undone (inv .rest) (editWords before after) in
+        let long = written-length stands undone (inv .rest) (editWords before after) room in
         record {
-          rest = drop (length (editWords before after)) (undoneWords n before us ++ I .rest);
+          rest = drop (length (editWords before after)) (undone ++ inv .rest);
           table = refl;
           journal = words;
-          rule = rule-along (edit .long) (I .rule) (edit .to);
-          few = rw (← words, long) (I .few);
-          standing = (edit, I .standing);
+          rule = rule-along (edit .long) (inv .rule) (edit .to);
+          few = rw (← words, long) (inv .few);
+          standing = (edit, inv .standing);
           undone = tt;
         })
 
   -- what was undone is redone with the same words behind
-  pub redo-undone : {t j : List ℕ} (I : Invariant n first (historyOf (p ∷ ds) us) t j)
-      → redoCall n before (historyWords n first (historyOf ds (p ∷ us)) (I .rest))
-      ≡ stepsTo changed after (historyWords n first (historyOf (p ∷ ds) us) (I .rest))
+  pub redo-undone : {t j : List ℕ} (inv : Invariant n first (historyOf (p ∷ ds) us) t j)
+      → redoCall n before (historyWords n first (historyOf ds (p ∷ us)) (inv .rest))
+      ≡ stepsTo changed after (historyWords n first (historyOf (p ∷ ds) us) (inv .rest))
   unfolding undo-invariant
-  redo-undone I = redo-moves (undo-invariant I)
+  redo-undone inv = redo-moves (undo-invariant inv)
 
 -- ---- undo and redo keep the invariant, and give 16 or 0
 
@@ -204,31 +208,33 @@ After n first h c r = Invariant n first (answered (r .number) c h) (r .table) (r
 module _ (n : ℕ) (first : List ℕ) {t j : List ℕ} where
   undo-nothing : (us : List Op) → Invariant n first (historyOf [] us) t j → undoCall n t j ≡ refused 16 0 t [] j
   unfolding historyWords standingWords
-  undo-nothing us I = subst₂ (λ t j. undoCall n t j ≡ refused 16 0 t [] j) (sym (I .table)) (sym (I .journal)) (undo-none (I .rule) _ (I .rest) (I .few))
+  undo-nothing us inv = rw (inv .table, inv .journal) (undo-none (inv .rule) _ (inv .rest) (inv .few))
 
   redo-nothing : (ds : List Op) → Invariant n first (historyOf ds []) t j → redoCall n t j ≡ refused 16 0 t [] j
   unfolding historyWords undoneWords
-  redo-nothing ds I = subst₂ (λ t j. redoCall n t j ≡ refused 16 0 t [] j) (sym (I .table)) (sym (I .journal)) (redo-none (I .rule) _ (I .rest) (I .few))
+  redo-nothing ds inv = rw (inv .table, inv .journal) (redo-none (inv .rule) _ (inv .rest) (inv .few))
 
   pub undo-number : (ds us : List Op) → Invariant n first (historyOf ds us) t j → undoCall n t j .number ≡ stepNumber ds
   unfolding stepNumber refused stepsTo
-  undo-number [] us I = ap (λ (r : Outcome). r .number) (undo-nothing us I)
-  undo-number (p ∷ ds) us I = ap (λ (r : Outcome). r .number) (undo-moves n first p ds us I)
+  undo-number [] us inv = ap (λ (r : Outcome). r .number) (undo-nothing us inv)
+  undo-number (p ∷ ds) us inv = ap (λ (r : Outcome). r .number) (undo-moves n first p ds us inv)
 
   pub redo-number : (ds us : List Op) → Invariant n first (historyOf ds us) t j → redoCall n t j .number ≡ stepNumber us
   unfolding stepNumber refused stepsTo
-  redo-number ds [] I = ap (λ (r : Outcome). r .number) (redo-nothing ds I)
-  redo-number ds (p ∷ us) I = ap (λ (r : Outcome). r .number) (redo-moves n first p ds us I)
+  redo-number ds [] inv = ap (λ (r : Outcome). r .number) (redo-nothing ds inv)
+  redo-number ds (p ∷ us) inv = ap (λ (r : Outcome). r .number) (redo-moves n first p ds us inv)
 
-  undo-keeps : (ds us : List Op) → Invariant n first (historyOf ds us) t j → After n first (historyOf ds us) Call.undo (undoCall n t j)
+  undo-keeps : (ds us : List Op) → Invariant n first (historyOf ds us) t j
+      → After n first (historyOf ds us) Call.undo (undoCall n t j)
   unfolding refused stepsTo answered accepted afterUndo
-  undo-keeps [] us I = rw (undo-nothing us I) I
-  undo-keeps (p ∷ ds) us I = rw (undo-moves n first p ds us I) (undo-invariant n first p ds us I)
+  undo-keeps [] us inv = rw (undo-nothing us inv) inv
+  undo-keeps (p ∷ ds) us inv = rw (undo-moves n first p ds us inv) (undo-invariant n first p ds us inv)
 
-  redo-keeps : (ds us : List Op) → Invariant n first (historyOf ds us) t j → After n first (historyOf ds us) Call.redo (redoCall n t j)
+  redo-keeps : (ds us : List Op) → Invariant n first (historyOf ds us) t j
+      → After n first (historyOf ds us) Call.redo (redoCall n t j)
   unfolding refused stepsTo answered accepted afterRedo
-  redo-keeps ds [] I = rw (redo-nothing ds I) I
-  redo-keeps ds (p ∷ us) I = rw (redo-moves n first p ds us I) (redo-invariant n first p ds us I)
+  redo-keeps ds [] inv = rw (redo-nothing ds inv) inv
+  redo-keeps ds (p ∷ us) inv = rw (redo-moves n first p ds us inv) (redo-invariant n first p ds us inv)
 
 -- ---- the other calls
 
@@ -252,17 +258,17 @@ op-history (Op.unsew i d) h = refl
 op-history (Op.remove d) h = refl
 op-history (Op.split d) h = refl
 
-module _ {n : ℕ} {first : List ℕ} {h : History} (o : Outcome) (I : Invariant n first h (o .table) (o .journal)) where
+module _ {n : ℕ} {first : List ℕ} {h : History} (o : Outcome) (inv : Invariant n first h (o .table) (o .journal)) where
   pub rule-now : InRule n (o .table)
-  rule-now = rw (I .table) (I .rule)
+  rule-now = rw (inv .table) (inv .rule)
 
   pub journal-now : journalOk (o .journal) ≡ pass
   unfolding historyWords
-  journal-now = rw (I .journal) (journal-ok _ _ _ (I .few))
+  journal-now = rw (inv .journal) (journal-ok _ _ _ (inv .few))
 
   unchanged-keeps : (c : Call) → answered (doCall n o c .number) c h ≡ h
       → doCall n o c .table ≡ o .table → doCall n o c .journal ≡ o .journal → After n first h c (doCall n o c)
-  unchanged-keeps c e p q = rw (e, p, q) I
+  unchanged-keeps c e p q = rw (e, p, q) inv
 
   reading-keeps : {c : Call} → Reading c → After n first h c (doCall n o c)
   reading-keeps {c} reads = let r = reading-untouched n o reads in unchanged-keeps c (reading-history _ h reads) (r .0) (r .1)
@@ -279,11 +285,11 @@ module _ {n : ℕ} {first : List ℕ} {h : History} (o : Outcome) (I : Invariant
 
   op-keeps : (p : Op) → After n first h (callOf p) (doCall n o (callOf p))
   unfolding afterOp
-  op-keeps p = if-eq (doCall n o (callOf p) .number) 0 (λ e.
-      let done = op-accepted n o p e in
+  op-keeps p = if-eq (doCall n o (callOf p) .number) 0
+      (λ e. let done = op-accepted n o p e in
       rw (e, op-history p h, done .table, done .journal)
-      (written-invariant n first p (h .standing) (h .undone) I (op-edit p e) (done .room))) (λ e.
-      let same = call-untouched n o (callOf p) e in
+      (written-invariant n first p (h .standing) (h .undone) inv (op-edit p e) (done .room)))
+      (λ e. let same = call-untouched n o (callOf p) e in
       unchanged-keeps (callOf p) (refused-history _ (callOf p) h e) (same .table) (same .journal))
 
   pub call-keeps : (c : Call) → After n first h c (doCall n o c)
@@ -296,5 +302,5 @@ module _ {n : ℕ} {first : List ℕ} {h : History} (o : Outcome) (I : Invariant
   call-keeps (Call.unsew i d) = op-keeps (Op.unsew i d)
   call-keeps (Call.remove d) = op-keeps (Op.remove d)
   call-keeps (Call.split d) = op-keeps (Op.split d)
-  call-keeps Call.undo = undo-keeps n first (h .standing) (h .undone) I
-  call-keeps Call.redo = redo-keeps n first (h .standing) (h .undone) I
+  call-keeps Call.undo = undo-keeps n first (h .standing) (h .undone) inv
+  call-keeps Call.redo = redo-keeps n first (h .standing) (h .undone) inv

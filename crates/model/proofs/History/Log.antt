@@ -129,7 +129,7 @@ unfolding must
 equal-refused x y h = rw (eq-eqb x y h)
 
 -- the changes cs make the map u of the map t, by undo or by redo
-pub record Leads (redo : Bool) (n : ℕ) (t u : List ℕ) (cs : List Change) : Type 0 where
+pub record StepMakes (redo : Bool) (n : ℕ) (t u : List ℕ) (cs : List Change) : Type 0 where
   pub rule : InRule n t
   pub some : 0 < length cs
   pub sound : sound redo t 0 cs ≡ true
@@ -169,7 +169,7 @@ module _ (standing undone rest : List ℕ) (cs : List Change) where
       ≡ length (journalOf (standing ++ recordOf cs) undone rest)
   journal-same = ap length journal-before ∙ sym (ap length journal-behind)
 
-  step-from : {redo : Bool} {n : ℕ} {t u : List ℕ} → Leads redo n t u cs → (from to : ℕ)
+  step-from : {redo : Bool} {n : ℕ} {t u : List ℕ} → StepMakes redo n t u cs → (from to : ℕ)
       → stepOutcome redo n t (journal-at from) cursor-before (length cs) to ≡ stepsTo (length cs) u (journal-at to)
   unfolding stepOutcome stepsTo
   step-from {redo} {n} {t} leads from to =
@@ -179,7 +179,7 @@ module _ (standing undone rest : List ℕ) (cs : List Change) where
       let whole = record-unbroken from end-word standing cs (undone ++ rest) redo t (leads .some) (omega arith) (leads .sound) in
       rw (whole, ap (isMap n) result ∙ leads .map, stepOutcome) (rw result)
 
-  undo-at : {n : ℕ} {t u : List ℕ} → Leads false n t u cs → journalOk (journal-at cursor-behind) ≡ pass
+  undo-at : {n : ℕ} {t u : List ℕ} → StepMakes false n t u cs → journalOk (journal-at cursor-behind) ≡ pass
       → undoCall n t (journal-at cursor-behind) ≡ stepsTo (length cs) u (journal-at cursor-before)
   unfolding undoCall undoOk cursor
   undo-at leads ok =
@@ -189,7 +189,7 @@ module _ (standing undone rest : List ℕ) (cs : List Change) where
       let counted = last-count cursor-behind end-word standing cs (undone ++ rest) (cursor-behind - 1) (omega arith) in
       rw (passes, undoCall, counted, back) (step-from leads cursor-behind cursor-before)
 
-  redo-at : {n : ℕ} {t u : List ℕ} → Leads true n t u cs → journalOk (journal-at cursor-before) ≡ pass
+  redo-at : {n : ℕ} {t u : List ℕ} → StepMakes true n t u cs → journalOk (journal-at cursor-before) ≡ pass
       → redoCall n t (journal-at cursor-before) ≡ stepsTo (length cs) u (journal-at cursor-behind)
   unfolding redoCall redoOk cursor end
   redo-at leads ok =
@@ -199,7 +199,7 @@ module _ (standing undone rest : List ℕ) (cs : List Change) where
       rw (passes, redoCall, first-count cursor-before end-word standing cs (undone ++ rest), on)
       (step-from leads cursor-before cursor-behind)
 
-  pub undo-steps : {n : ℕ} {t u : List ℕ} → Leads false n t u cs
+  pub undo-steps : {n : ℕ} {t u : List ℕ} → StepMakes false n t u cs
       → length (journalOf (standing ++ recordOf cs) undone rest) ≤ 1048576
       → undoCall n t (journalOf (standing ++ recordOf cs) undone rest)
       ≡ stepsTo (length cs) u (journalOf standing (recordOf cs ++ undone) rest)
@@ -207,7 +207,7 @@ module _ (standing undone rest : List ℕ) (cs : List Change) where
       let ok = rw journal-behind at (journal-ok (standing ++ recordOf cs) undone rest few) in
       rw (journal-behind, journal-before) (undo-at leads ok)
 
-  pub redo-steps : {n : ℕ} {t u : List ℕ} → Leads true n t u cs
+  pub redo-steps : {n : ℕ} {t u : List ℕ} → StepMakes true n t u cs
       → length (journalOf standing (recordOf cs ++ undone) rest) ≤ 1048576
       → redoCall n t (journalOf standing (recordOf cs ++ undone) rest)
       ≡ stepsTo (length cs) u (journalOf (standing ++ recordOf cs) undone rest)

@@ -113,10 +113,17 @@ sound-later : (redo : Bool) (t : List ℕ) (e : ℕ) (c : Change) (cs : List Cha
 sound-later redo t e c cs other h =
     let f = first-sound redo t e c cs h in
     let low = f .rising in
-    sound-first redo t (suc e) c cs (record { rising = omega arith; within = f .within; differs = f .differs; held = f .held; rest = f .rest })
+    sound-first redo t (suc e) c cs (record {
+      rising = omega arith;
+      within = f .within;
+      differs = f .differs;
+      held = f .held;
+      rest = f .rest;
+    })
 
 -- an entry before them does not matter
-sound-set : (redo : Bool) (t : List ℕ) (k v e : ℕ) (cs : List Change) → k < e → sound redo t e cs ≡ true → sound redo (set t k v) e cs ≡ true
+sound-set : (redo : Bool) (t : List ℕ) (k v e : ℕ) (cs : List Change) → k < e → sound redo t e cs ≡ true
+    → sound redo (set t k v) e cs ≡ true
 unfolding sound
 sound-set redo t k v e [] l h = refl
 sound-set redo t k v e (c ∷ cs) l h =
@@ -156,8 +163,8 @@ unfolding put putNew putOld
 put-none true t = refl
 put-none false t = refl
 
-put-at-end : (redo : Bool) (before : List ℕ) (e : ℕ) (cs : List Change) → length before ≡ e → sound redo (before ++ []) e cs ≡ true
-    → PutFrom redo [] before e cs
+put-at-end : (redo : Bool) (before : List ℕ) (e : ℕ) (cs : List Change) → length before ≡ e
+    → sound redo (before ++ []) e cs ≡ true → PutFrom redo [] before e cs
 unfolding changesFrom
 put-at-end redo before e [] l h = record { made = []; is = put-none redo _; changes = refl }
 put-at-end redo before e (c ∷ cs) l h =
@@ -166,10 +173,13 @@ put-at-end redo before e (c ∷ cs) l h =
     let high = rw (append-nil before) at (f .within) in
     absurd (omega arith)
 
--- the entry x at e, and what they make of the entries behind it
-module _ (redo : Bool) (x : ℕ) (xs before : List ℕ) (e : ℕ) (l : length before ≡ e)
-    (rest : (v : ℕ) (cs : List Change) → sound redo ((before ++ v ∷ []) ++ xs) (suc e) cs ≡ true
-    → PutFrom redo xs (before ++ v ∷ []) (suc e) cs) where
+-- .. and of those behind the entry e, whatever that is
+abbrev PutBehind : Bool → List ℕ → List ℕ → ℕ → Type 0
+PutBehind redo xs before e = (v : ℕ) (cs : List Change) → sound redo ((before ++ v ∷ []) ++ xs) (suc e) cs ≡ true
+    → PutFrom redo xs (before ++ v ∷ []) (suc e) cs
+
+-- the entry x at e
+module _ {redo : Bool} (x : ℕ) {xs before : List ℕ} {e : ℕ} (l : length before ≡ e) (rest : PutBehind redo xs before e) where
   -- it stays
   put-later : (c : Change) (cs : List Change) → e ≢ c .entry → sound redo (before ++ x ∷ xs) e (c ∷ cs) ≡ true
       → PutFrom redo (x ∷ xs) before e (c ∷ cs)
@@ -198,16 +208,18 @@ module _ (redo : Bool) (x : ℕ) (xs before : List ℕ) (e : ℕ) (l : length be
         changes = ap length (changes-other e x v xs (r .made) differ) ∙ ap suc (r .changes);
       }
 
-put-from : (redo : Bool) (xs before : List ℕ) (e : ℕ) (cs : List Change) → length before ≡ e → sound redo (before ++ xs) e cs ≡ true
-    → PutFrom redo xs before e cs
+put-from : (redo : Bool) (xs before : List ℕ) (e : ℕ) (cs : List Change) → length before ≡ e
+    → sound redo (before ++ xs) e cs ≡ true → PutFrom redo xs before e cs
 put-from redo [] before e cs l h = put-at-end redo before e cs l h
 put-from redo (x ∷ xs) before e cs l h = go (λ v ds. put-from redo xs (before ++ v ∷ []) (suc e) ds (longer before v e l)) cs h
   where
-    go : ((v : ℕ) (ds : List Change) → sound redo ((before ++ v ∷ []) ++ xs) (suc e) ds ≡ true → PutFrom redo xs (before ++ v ∷ []) (suc e) ds)
-        → (cs : List Change) → sound redo (before ++ x ∷ xs) e cs ≡ true → PutFrom redo (x ∷ xs) before e cs
+    go : PutBehind redo xs before e → (cs : List Change) → sound redo (before ++ x ∷ xs) e cs ≡ true
+        → PutFrom redo (x ∷ xs) before e cs
     go rest [] h = record { made = x ∷ xs; is = put-none redo _; changes = ap length (changes-none (x ∷ xs) e) }
-    go rest (c ∷ cs) h = if-eq e (c .entry) (λ q. put-here redo x xs before e l rest c cs q h) (λ q. put-later redo x xs before e l rest c cs q h)
+    go rest (c ∷ cs) h = if-eq e (c .entry) (λ q. put-here x l rest c cs q h) (λ q. put-later x l rest c cs q h)
 
 pub sound-changes : (redo : Bool) (t : List ℕ) (cs : List Change) → sound redo t 0 cs ≡ true
     → length (changesFrom 0 t (put redo cs t)) ≡ length cs
-sound-changes redo t cs h = let r = put-from redo t [] 0 cs refl h in ap (λ (u : List ℕ). length (changesFrom 0 t u)) (r .is) ∙ r .changes
+sound-changes redo t cs h =
+    let r = put-from redo t [] 0 cs refl h in
+    ap (λ (u : List ℕ). length (changesFrom 0 t u)) (r .is) ∙ r .changes

@@ -21,27 +21,27 @@ use Rattle.model.specs.Meaning.Maps.{Map, BlockTable}
 use Rattle.model.specs.Meaning.Pairings.{Pairing}
 use Rattle.model.specs.Meaning.Sets.{Marked}
 
-pub record Row : Type 1 where
+pub record NumberRow : Type 1 where
   pub number : ℕ
   pub given : Type 0
 
 -- z is the number of the first row that is given, or 0
-abbrev pub First : List Row → ℕ → Type 0
+abbrev pub First : List NumberRow → ℕ → Type 0
 First [] z = z ≡ 0
-First (r ∷ rows) z = (r .given × (z ≡ r .number)) ⊎ ((r .given → ⊥) × First rows z)
+First (r ∷ rs) z = (r .given × (z ≡ r .number)) ⊎ ((r .given → ⊥) × First rs z)
 
 -- ---- the rows
 
 -- "n not 2 or 3"
-abbrev pub dimRow : ℕ → Row
+abbrev pub dimRow : ℕ → NumberRow
 dimRow n = record { number = 1; given = (n ≢ 2) × (n ≢ 3) }
 
 -- "table length no multiple of 4, or above 262,144"
-abbrev pub tableRow : List ℕ → Row
+abbrev pub tableRow : List ℕ → NumberRow
 tableRow t = record { number = 2; given = (length t % 4 ≢ 0) ⊎ (262144 < length t) }
 
 -- "marks length differs from slots"
-abbrev pub marksRow : List ℕ → List ℕ → Row
+abbrev pub marksRow : List ℕ → List ℕ → NumberRow
 marksRow t m = record { number = 3; given = length m ≢ slots t }
 
 -- "lent u32 words, 2 to 1,048,576. Word 0 is the cursor, word 1 the end; 2 <= cursor <= end <= length."
@@ -53,92 +53,92 @@ pub record JournalRule (j : List ℕ) : Type 0 where
   pub within : end j ≤ length j
 
 -- "journal length or its two words out of rule"
-abbrev pub journalRow : List ℕ → Row
+abbrev pub journalRow : List ℕ → NumberRow
 journalRow j = record { number = 4; given = JournalRule j → ⊥ }
 
 -- "not a map"
-abbrev pub mapRow : ℕ → List ℕ → Row
+abbrev pub mapRow : ℕ → List ℕ → NumberRow
 mapRow n t = record { number = 5; given = Map n t → ⊥ }
 
 -- "i above n, or mask above 2^(n+1) - 1"
-abbrev pub indexRow : ℕ → ℕ → Row
+abbrev pub indexRow : ℕ → ℕ → NumberRow
 indexRow n i = record { number = 6; given = n < i }
 
-abbrev pub maskRow : ℕ → ℕ → Row
+abbrev pub maskRow : ℕ → ℕ → NumberRow
 maskRow n mask = record { number = 6; given = 2 ^ (n + 1) ≤ mask }
 
 -- "d or e not a live slot"
-abbrev pub dartRow : List ℕ → ℕ → Row
+abbrev pub dartRow : List ℕ → ℕ → NumberRow
 dartRow t d = record { number = 7; given = live t d ≡ false }
 
 -- "not a block map"
-abbrev pub blockRow : ℕ → List ℕ → Row
+abbrev pub blockRow : ℕ → List ℕ → NumberRow
 blockRow n t = record { number = 8; given = BlockTable n t → ⊥ }
 
 -- "e in d's side"
-abbrev pub apartRow : ℕ → List ℕ → ℕ → ℕ → ℕ → Row
+abbrev pub apartRow : ℕ → List ℕ → ℕ → ℕ → ℕ → NumberRow
 apartRow n t i d e = record { number = 9; given = Marked (side n t i d) e }
 
 -- "d or e not i-free"
-abbrev pub freeRow : List ℕ → ℕ → ℕ → ℕ → Row
+abbrev pub freeRow : List ℕ → ℕ → ℕ → ℕ → NumberRow
 freeRow t i d e = record { number = 10; given = (link t i d ≢ d) ⊎ (link t i e ≢ e) }
 
 -- "d is i-free"
-abbrev pub sewnRow : List ℕ → ℕ → ℕ → Row
+abbrev pub sewnRow : List ℕ → ℕ → ℕ → NumberRow
 sewnRow t i d = record { number = 11; given = link t i d ≡ d }
 
 -- "no pairing exists"
-abbrev pub pairingRow : ℕ → List ℕ → ℕ → ℕ → ℕ → Row
+abbrev pub pairingRow : ℕ → List ℕ → ℕ → ℕ → ℕ → NumberRow
 pairingRow n t i d e = record { number = 12; given = Pairing n t i d e → ⊥ }
 
 -- "some g in S has g.1 in S"
-abbrev pub crossingRow : ℕ → List ℕ → ℕ → Row
+abbrev pub crossingRow : ℕ → List ℕ → ℕ → NumberRow
 crossingRow n t d = record { number = 13; given = (g : ℕ) × Marked (sheet n t d) g × Marked (sheet n t d) (link t 1 g) }
 
 -- "too few unused slots", for k darts
-abbrev pub roomRow : List ℕ → ℕ → Row
+abbrev pub roomRow : List ℕ → ℕ → NumberRow
 roomRow t k = record { number = 14; given = length (unusedSlots t) < k }
 
 -- "record longer than the words from cursor to length", where u is the new table
-abbrev pub recordRow : List ℕ → List ℕ → List ℕ → Row
+abbrev pub recordRow : List ℕ → List ℕ → List ℕ → NumberRow
 recordRow t u j = record { number = 15; given = length j - cursor j < length (recordOf (changesFrom 0 t u)) }
 
 -- "cursor 2 (undo); cursor = end (redo)"
-abbrev pub undoRow : List ℕ → Row
+abbrev pub undoRow : List ℕ → NumberRow
 undoRow j = record { number = 16; given = cursor j ≡ 2 }
 
-abbrev pub redoRow : List ℕ → Row
+abbrev pub redoRow : List ℕ → NumberRow
 redoRow j = record { number = 16; given = cursor j ≡ end j }
 
 -- "record broken, or result no map", of the record of k changes at the word a
 abbrev pub StepFails : Bool → ℕ → List ℕ → List ℕ → ℕ → ℕ → Type 0
 StepFails redo n t j a k = (unbroken redo t j a k ≡ false) ⊎ (Map n (put redo (changesAt j a k) t) → ⊥)
 
-abbrev pub stepRow : Bool → ℕ → List ℕ → List ℕ → ℕ → ℕ → Row
+abbrev pub stepRow : Bool → ℕ → List ℕ → List ℕ → ℕ → ℕ → NumberRow
 stepRow redo n t j a k = record { number = 17; given = StepFails redo n t j a k }
 
 -- ---- the rows of each call, on the table t, the marks m and the journal j
 
-abbrev pub rows : ℕ → List ℕ → List ℕ → List ℕ → Call → List Row
-rows n t m j Call.check = dimRow n ∷ tableRow t ∷ mapRow n t ∷ []
-rows n t m j (Call.orbit mask d) =
+abbrev pub numberRows : ℕ → List ℕ → List ℕ → List ℕ → Call → List NumberRow
+numberRows n t m j Call.check = dimRow n ∷ tableRow t ∷ mapRow n t ∷ []
+numberRows n t m j (Call.orbit mask d) =
     dimRow n ∷ tableRow t ∷ marksRow t m ∷ mapRow n t ∷ maskRow n mask ∷ dartRow t d ∷ []
-rows n t m j (Call.sheet d) = dimRow n ∷ tableRow t ∷ marksRow t m ∷ mapRow n t ∷ dartRow t d ∷ blockRow n t ∷ []
-rows n t m j Call.add =
+numberRows n t m j (Call.sheet d) = dimRow n ∷ tableRow t ∷ marksRow t m ∷ mapRow n t ∷ dartRow t d ∷ blockRow n t ∷ []
+numberRows n t m j Call.add =
     dimRow n ∷ tableRow t ∷ journalRow j ∷ mapRow n t ∷ roomRow t (cellSize n) ∷ recordRow t (addTable n t) j ∷ []
-rows n t m j (Call.sew i d e) =
+numberRows n t m j (Call.sew i d e) =
     dimRow n ∷ tableRow t ∷ journalRow j ∷ mapRow n t ∷ indexRow n i ∷ dartRow t d ∷ dartRow t e ∷ apartRow n t i d e
     ∷ freeRow t i d e ∷ pairingRow n t i d e ∷ recordRow t (sewTable n t i d e) j ∷ []
-rows n t m j (Call.unsew i d) =
+numberRows n t m j (Call.unsew i d) =
     dimRow n ∷ tableRow t ∷ journalRow j ∷ mapRow n t ∷ indexRow n i ∷ dartRow t d ∷ sewnRow t i d
     ∷ recordRow t (unsewTable n t i d) j ∷ []
-rows n t m j (Call.remove d) =
+numberRows n t m j (Call.remove d) =
     dimRow n ∷ tableRow t ∷ marksRow t m ∷ journalRow j ∷ mapRow n t ∷ dartRow t d ∷ blockRow n t
     ∷ recordRow t (removeTable n t d) j ∷ []
-rows n t m j (Call.split d) =
+numberRows n t m j (Call.split d) =
     dimRow n ∷ tableRow t ∷ marksRow t m ∷ journalRow j ∷ mapRow n t ∷ dartRow t d ∷ blockRow n t ∷ crossingRow n t d
     ∷ roomRow t (n * length (ones (sheet n t d))) ∷ recordRow t (splitTable n t d) j ∷ []
-rows n t m j Call.undo =
+numberRows n t m j Call.undo =
     dimRow n ∷ tableRow t ∷ journalRow j ∷ mapRow n t ∷ undoRow j ∷ stepRow false n t j (undoStart j) (undoCount j) ∷ []
-rows n t m j Call.redo =
+numberRows n t m j Call.redo =
     dimRow n ∷ tableRow t ∷ journalRow j ∷ mapRow n t ∷ redoRow j ∷ stepRow true n t j (cursor j) (redoCount j) ∷ []
