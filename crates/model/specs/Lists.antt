@@ -3,8 +3,7 @@
 use Prim.Native.Nat.{ℕ, zero, suc}
 use mathlib.Core.Bool.{Bool, true, false}
 use mathlib.Core.List.{List, [], _∷_}
-use lib.ListN.{length}
-use lib.Dec.{ltb, eqb}
+use lib.Dec.{eqb}
 
 -- f a, f (a + 1), ..: k of them
 unfoldable pub tabulateFrom : ℕ → ℕ → (ℕ → ℕ) → List ℕ
@@ -31,9 +30,6 @@ ones xs = onesFrom 0 xs
 unfoldable pub indexOf : ℕ → List ℕ → ℕ
 indexOf x [] = 0
 indexOf x (y ∷ ys) = elim (eqb x y) [ true ↦ 0 | false ↦ suc (indexOf x ys) ]
-
-unfoldable pub member : List ℕ → ℕ → Bool
-member xs x = ltb (indexOf x xs) (length xs)
 
 -- the least of a, a + 1, .. (k of them) that passes, or a + k
 unfoldable pub leastFrom : ℕ → ℕ → (ℕ → Bool) → ℕ

@@ -1,6 +1,7 @@
 -- The words of the theorems: what they say of tables, sets of darts, pairings and runs, as properties and not as tests.
 -- No call cites these.
 pub mod Sets
+pub mod Sizes
 pub mod Maps
 pub mod Pairings
 pub mod Walks

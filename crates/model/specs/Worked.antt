@@ -7,6 +7,7 @@ use lib.ListN.{length, replicate}
 use Rattle.model.specs.Checks.{pass, refuse, tableOk, must}
 use Rattle.model.specs.Runs.{Call, doCall, keeping}
 use Rattle.model.specs.Everything.{everything}
+use Rattle.model.specs.Meaning.Sizes.{liveCount}
 use Rattle.model.specs.Meaning.Worked.{Case, Seen, gives, goes, marksAre, markedAre, cursorIs, endIs, frees, changes, liveAre}
 use Rattle.model.specs.Meaning.Worked.{begin, doAll, equal, sees, seesAll, holdsFrom, holds, failing}
 
@@ -65,7 +66,7 @@ cases =
     ∷ []
 
 pub all-hold : failing cases ≡ []
-unfolding everything cases row quad three halves bent unlinked failing holds holdsFrom seesAll sees begin doAll doCall keeping equal
+unfolding everything liveCount cases row quad three halves bent unlinked failing holds holdsFrom seesAll sees begin doAll doCall keeping equal
 all-hold = refl
 
 -- 14: "262,144 entries pass check 2, 262,148 don't"

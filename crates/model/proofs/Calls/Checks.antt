@@ -9,7 +9,7 @@ use mathlib.Core.List.{List·Memᴰ·head as here, List·Memᴰ·tail as there}
 use native.Mathlib.Omega.{arith}
 use lib.ListN.{length, getD, take, drop}
 use borrow.Author.Tests.{ne-eqb}
-use Rattle.model.specs.Lists.{indexOf, member}
+use Rattle.model.specs.Lists.{indexOf}
 use Rattle.model.specs.Checks.{Check, pass, refuse, andThen, must, mustAt, inOrder}
 use Rattle.model.specs.Checks.{dimOk, tableOk, marksOk, journalOk, mapOk, indexOk, maskOk, dartOk, blockOk, apartOk, freeOk}
 use Rattle.model.specs.Checks.{sewnOk, pairingOk, crossingOk, addRoomOk, splitRoomOk, undoOk, redoOk}
@@ -17,6 +17,7 @@ use Rattle.model.specs.Checks.{checkChecks, orbitChecks, sheetChecks, ad
 use Rattle.model.specs.Checks.{layerChecks, splitChecks, stepChecks}
 use Rattle.model.specs.Calls.{Outcome}
 use Rattle.model.specs.Runs.{Call}
+use Rattle.model.specs.Meaning.Sizes.{member}
 use Rattle.model.specs.Meaning.Ends.{recordOk, stepOk, checks, numbers, refusalPlace, checksOf}
 use Rattle.model.proofs.Lists.Ones.{in-member}
 use Rattle.model.proofs.Lists.Scan.{clash}

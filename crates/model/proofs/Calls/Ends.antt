@@ -6,7 +6,7 @@ use mathlib.Core.Logic.{_≢_, ⊎-elim}
 use mathlib.Core.Bool.{Bool, true, false}
 use mathlib.Core.List.{List, [], _∷_, _++_, append-assoc, List·Memᴰ as In, List·Memᴰ·not-nil as not-nil}
 use mathlib.Core.List.{List·Memᴰ·head as here, List·Memᴰ·tail as there, Memᴰ·append-left as in-left}
-use Rattle.model.specs.Lists.{ones, indexOf, member}
+use Rattle.model.specs.Lists.{ones, indexOf}
 use Rattle.model.specs.Journal.{changesFrom, recordOf, written}
 use Rattle.model.specs.Sheet.{sheet, sheetMarks}
 use Rattle.model.specs.Checks.{Check, pass, refuse, must, andThen, inOrder, pairingOk}
@@ -14,6 +14,7 @@ use Rattle.model.specs.Checks.{addChecks, sidesChecks, sewChecks, unsewC
 use Rattle.model.specs.Calls.{Outcome, refused, commit, checkCall, orbitCall, sheetCall, addCall, sewCall, unsewCall}
 use Rattle.model.specs.Calls.{removeCall, splitCall, stepOutcome, undoCall, redoCall}
 use Rattle.model.specs.Runs.{Call, doCall, keeping, Op, callOf, effect}
+use Rattle.model.specs.Meaning.Sizes.{member}
 use Rattle.model.specs.Meaning.Ends.{recordOk, stepOk, checksOf, checks, numbers, layerMarks, refusalMarks, refusedBy}
 use Rattle.model.specs.Meaning.Ends.{doneOf, done, Behind, Ends, Passed, OpAccepted}
 use Rattle.model.proofs.Lists.Scan.{test, clash}

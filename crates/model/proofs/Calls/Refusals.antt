@@ -7,7 +7,7 @@ use mathlib.Core.Bool.{true, false}
 use mathlib.Core.List.{List, [], _∷_, _++_, List·Memᴰ·eq-of-singleton as sole}
 use native.Mathlib.Omega.{arith}
 use lib.ListN.{length, take, drop}
-use Rattle.model.specs.Lists.{indexOf, member}
+use Rattle.model.specs.Lists.{indexOf}
 use Rattle.model.specs.Table.{link}
 use Rattle.model.specs.Sheet.{sheet}
 use Rattle.model.specs.Journal.{cursor}
@@ -15,6 +15,7 @@ use Rattle.model.specs.Checks.{Check, pass, refuse, andThen, inOrder, un
 use Rattle.model.specs.Checks.{sidesChecks, layerChecks, splitChecks, stepChecks}
 use Rattle.model.specs.Calls.{Outcome, refused, sewCall, splitCall, undoCall, redoCall}
 use Rattle.model.specs.Runs.{Call, doCall, keeping}
+use Rattle.model.specs.Meaning.Sizes.{member}
 use Rattle.model.specs.Meaning.Ends.{lent, checksOf, checks, numbers, undoCount, undoStart, redoCount}
 use Rattle.model.specs.Meaning.Numbers.{StepFails}
 use Rattle.model.specs.Meaning.Pairings.{Pairing}

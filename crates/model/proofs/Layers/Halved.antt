@@ -10,11 +10,12 @@ use native.Mathlib.Omega.{arith}
 use lib.ListN.{length, getD}
 use lib.Seq.{getD-take}
 use Rattle.model.specs.Lists.{count, indexOf, ones}
-use Rattle.model.specs.Table.{unused, slots, link, live, walk, unusedSlots, liveCount}
+use Rattle.model.specs.Table.{unused, slots, link, live, walk, unusedSlots}
 use Rattle.model.specs.Cell.{cellOf}
 use Rattle.model.specs.Journal.{changesFrom}
 use Rattle.model.specs.Sheet.{sheet}
 use Rattle.model.specs.Split.{newDart, splitSlots, splitTable}
+use Rattle.model.specs.Meaning.Sizes.{liveCount}
 use Rattle.model.specs.Meaning.Maps.{BlockTable}
 use Rattle.model.specs.Meaning.Sets.{Marked}
 use Rattle.model.proofs.Lists.Scan.{if-lt, clash}

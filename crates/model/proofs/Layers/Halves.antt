@@ -8,11 +8,12 @@ use mathlib.Core.List.{List, List·Memᴰ as In, Memᴰ·cast as in-cast}
 use native.Mathlib.Omega.{arith}
 use lib.Dec.{ltb}
 use borrow.Author.Tests.{eq-eqb, ne-eqb, ltb-true, lt-ltb, le-ltb, not-true, not-false}
-use Rattle.model.specs.Lists.{allBelow, member}
+use Rattle.model.specs.Lists.{allBelow}
 use Rattle.model.specs.Table.{link, walk, live}
 use Rattle.model.specs.Cell.{cellSize}
 use Rattle.model.specs.Numbering.{cellLink}
 use Rattle.model.specs.Split.{newDart, halved}
+use Rattle.model.specs.Meaning.Sizes.{member}
 use Rattle.model.specs.Meaning.Maps.{BlockTable, Dim}
 use Rattle.model.specs.Meaning.Places.{path, place, Chart}
 use Rattle.model.specs.Meaning.Sheets.{half}

@@ -8,9 +8,10 @@ use native.Mathlib.Omega.{arith}
 use lib.ListN.{length}
 use lib.Dec.{eqb}
 use Rattle.model.specs.Lists.{count}
-use Rattle.model.specs.Table.{slots, link, live, liveCount}
+use Rattle.model.specs.Table.{slots, link, live}
 use Rattle.model.specs.Journal.{changesFrom}
 use Rattle.model.specs.Remove.{marked, removeTable}
+use Rattle.model.specs.Meaning.Sizes.{liveCount}
 use Rattle.model.specs.Meaning.Maps.{Dim}
 use Rattle.model.specs.Meaning.Sheets.{BlockDart, marksOf, howMany}
 use Rattle.model.specs.Meaning.Walks.{Layer, Removes, borders}

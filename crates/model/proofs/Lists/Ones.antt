@@ -10,8 +10,9 @@ use native.Mathlib.Nat.{add-zero}
 use native.Mathlib.Omega.{arith}
 use lib.ListN.{length, getD, take}
 use borrow.Author.Tests.{lt-ltb, le-ltb, eq-eqb, ne-eqb}
-use Rattle.model.specs.Lists.{tabulate, onesFrom, indexOf, member}
+use Rattle.model.specs.Lists.{tabulate, onesFrom, indexOf}
 use Rattle.model.specs.Table.{slots, live, unusedSlots}
+use Rattle.model.specs.Meaning.Sizes.{member}
 use Rattle.model.specs.Meaning.Sets.{Marked}
 use Rattle.model.proofs.Lists.Scan.{clash, test, if-eq, length-tab, getD-tab}
 use Rattle.model.proofs.Sets.Closure.{marked-in}

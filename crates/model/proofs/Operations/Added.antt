@@ -12,11 +12,12 @@ use lib.Seq.{getD-take}
 use lib.Dec.{eqb}
 use borrow.Author.Tests.{eq-eqb, ne-eqb}
 use Rattle.model.specs.Lists.{indexOf}
-use Rattle.model.specs.Table.{unused, slots, link, live, unusedSlots, liveCount}
+use Rattle.model.specs.Table.{unused, slots, link, live, unusedSlots}
 use Rattle.model.specs.Cell.{cellSize, cellOf, goodCell}
 use Rattle.model.specs.Journal.{changesFrom}
 use Rattle.model.specs.Numbering.{cellLink}
 use Rattle.model.specs.Add.{addSlots, addedLink, added, addTable}
+use Rattle.model.specs.Meaning.Sizes.{liveCount}
 use Rattle.model.specs.Meaning.Maps.{Dim, MapTable}
 use Rattle.model.proofs.Lists.Scan.{if-eq, if-lt, clash}
 use Rattle.model.proofs.Lists.Ones.{getD-in, getD-index, index-in, in-or}

@@ -1,7 +1,7 @@
--- What add, remove and split leave: darts outside of the named ones keep every link, and a cell whose darts keep their
--- links stays (`cell-kept`).
+-- What add and split leave: every entry but those named (`add-frame`, `split-frame`); the walk across removed cells stops at once
+-- outside of them (`outside-stops`); a cell whose darts keep the links below n stays (`cell-kept`).
 use Prim.Native.Nat.{ℕ, zero, suc, _*_, _<_}
-use mathlib.Core.Path.{_≡_, refl, sym, ap, _∙_}
+use mathlib.Core.Path.{_≡_, refl, sym, _∙_}
 use mathlib.Core.Bool.{false}
 use mathlib.Core.List.{List, List·Memᴰ as In}
 use lib.ListN.{length}
@@ -10,8 +10,7 @@ use Rattle.model.specs.Lists.{indexOf}
 use Rattle.model.specs.Table.{slots, link}
 use Rattle.model.specs.Cell.{cellOf}
 use Rattle.model.specs.Add.{addedLink, added}
-use Rattle.model.specs.Sheet.{sheet, sheetMarks}
-use Rattle.model.specs.Remove.{marked, outside, removedLink, removed, removeTable}
+use Rattle.model.specs.Remove.{marked, outside}
 use Rattle.model.specs.Split.{halvedLink, halved}
 use Rattle.model.specs.Meaning.Sets.{Marked, LeastSet, ByLink}
 use Rattle.model.proofs.Lists.Scan.{if-eq}
@@ -26,23 +25,11 @@ outside-stops n t m zero y out = refl
 outside-stops n t m (suc fuel) y out = rw (out, outside)
 
 module _ (t : List ℕ) (fits : length t ≡ 4 * slots t) (x : ℕ) (low : x < slots t) where
-  -- x keeps every link in u
-  abbrev Kept : List ℕ → Type 0
-  Kept u = (j : ℕ) → j < 4 → link u j x ≡ link t j x
-
-  pub add-frame : (n : ℕ) (fs : List ℕ) → (In x fs → ⊥) → Kept (added n t fs)
+  -- add changes the slots fs
+  pub add-frame : (n : ℕ) (fs : List ℕ) → (In x fs → ⊥) → (j : ℕ) → j < 4 → link (added n t fs) j x ≡ link t j x
   unfolding added addedLink
   add-frame n fs k j b =
       link-retable t (addedLink n t fs) fits x j low b ∙ rw (le-ltb (indexOf x fs) (length fs) (index-out fs x k), addedLink)
-
-  pub remove-frame : (n d : ℕ) → marked (sheetMarks n t (sheet n t d)) x ≡ false
-      → marked (sheetMarks n t (sheet n t d)) (link t n x) ≡ false → Kept (removeTable n t d)
-  unfolding removeTable removed removedLink
-  remove-frame n d here next j b =
-      let m = sheetMarks n t (sheet n t d) in
-      link-retable t (removedLink n t m) fits x j low b ∙ if-eq j n
-      (λ e. rw (here, eq-eqb j n e, removedLink) (outside-stops n t m (slots t) (link t n x) next ∙ ap (λ (k : ℕ). link t k x) (sym e)))
-      (λ e. rw (here, ne-eqb j n e, removedLink))
 
   -- split changes link 0 of the darts gs, and the slots fs
   pub split-frame : (n : ℕ) (gs fs : List ℕ) → (In x fs → ⊥) → (j : ℕ) → j < 4 → (j ≡ 0 → In x gs → ⊥)

@@ -9,9 +9,10 @@ use mathlib.Core.List.{Memᴰ·append-left as in-left, Memᴰ·append-right as i
 use native.Mathlib.Omega.{arith}
 use lib.ListN.{length, getD, take, drop, take-append-drop, List·getD-eq-default}
 use borrow.Author.Tests.{eq-eqb, ne-eqb}
-use Rattle.model.specs.Lists.{tabulate, count, onesFrom, indexOf, member}
-use Rattle.model.specs.Table.{slots, link, live, unusedSlots, liveCount}
+use Rattle.model.specs.Lists.{tabulate, count, onesFrom, indexOf}
+use Rattle.model.specs.Table.{slots, link, live, unusedSlots}
 use Rattle.model.specs.Journal.{changesFrom}
+use Rattle.model.specs.Meaning.Sizes.{member, liveCount}
 use Rattle.model.specs.Meaning.Maps.{MapTable}
 use Rattle.model.specs.Meaning.Sets.{Bits}
 use Rattle.model.specs.Meaning.Sheets.{howMany}

@@ -1,6 +1,6 @@
 -- The counts of sew and unsew are sizes.
--- `sew-count`: sew changes two entries for each dart of d's side.
--- `unsew-count`: so does unsew, where d's partner is not in d's own side; else, one for each: `unsew-count-folded`.
+-- `sew-changes`: sew changes two entries for each dart of d's side.
+-- `unsew-changes`: so does unsew, where d's partner is not in d's own side; else, one for each: `unsew-changes-folded`.
 use Prim.Native.Nat.{ℕ, _+_, _*_}
 use mathlib.Core.Path.{_≡_, sym, ap, _∙_, subst}
 use mathlib.Core.Logic.{_≢_, ⊎-elim}
@@ -75,8 +75,8 @@ module _ {n : ℕ} {t : List ℕ} {i d e : ℕ} (able : Sewable n t i d e) where
       let no-e = unmarked n t i e x b in
       omega arith
 
-  pub sew-count : length (changesFrom 0 t (sewTable n t i d e)) ≡ 2 * count 1 (side n t i d)
-  sew-count =
+  pub sew-changes : length (changesFrom 0 t (sewTable n t i d e)) ≡ 2 * count 1 (side n t i d)
+  sew-changes =
       let T = able .left .table in
       let left = side-least n t i d in
       let right = side-least n t i e in
@@ -93,10 +93,10 @@ module _ {n : ℕ} {t : List ℕ} {i d : ℕ} (on : OnSide n t i d) where
   cut = unsewTable n t i d
 
   -- sew would change back as many
-  pub unsew-count : (Marked (side n t i d) (link t i d) → ⊥)
+  pub unsew-changes : (Marked (side n t i d) (link t i d) → ⊥)
       → length (changesFrom 0 t (unsewTable n t i d)) ≡ 2 * count 1 (side n t i d)
-  unsew-count apart = changes-turn 0 t cut ∙ ap (λ (u : List ℕ). length (changesFrom 0 cut u)) (sym (sew-unsew on apart))
-      ∙ sew-count (resewable on apart) ∙ ap (λ (s : List ℕ). 2 * count 1 s) (relinked-side on (unsew-relinked on))
+  unsew-changes apart = changes-turn 0 t cut ∙ ap (λ (u : List ℕ). length (changesFrom 0 cut u)) (sym (sew-unsew on apart))
+      ∙ sew-changes (resewable on apart) ∙ ap (λ (s : List ℕ). 2 * count 1 s) (relinked-side on (unsew-relinked on))
 
   module _ (sewn : link t i d ≢ d) (folded : Marked (side n t i d) (link t i d)) where
     -- the partner's side is d's own
@@ -114,8 +114,8 @@ module _ {n : ℕ} {t : List ℕ} {i d : ℕ} (on : OnSide n t i d) where
         let off = unmarked n t i d x h in
         omega arith)
 
-    pub unsew-count-folded : length (changesFrom 0 t (unsewTable n t i d)) ≡ count 1 (side n t i d)
-    unsew-count-folded =
+    pub unsew-changes-folded : length (changesFrom 0 t (unsewTable n t i d)) ≡ count 1 (side n t i d)
+    unsew-changes-folded =
         let T = on .table in
         let least = side-least n t i d in
         let long = relinked-long T (on .index) (unsew-relinked on) in

@@ -7,7 +7,7 @@ use mathlib.Core.Bool.{Bool, true, false, _&&_}
 use mathlib.Core.List.{List, [], _∷_, _++_}
 use lib.ListN.{length, getD, set}
 use lib.Dec.{leb, eqb}
-use Rattle.model.specs.Lists.{count, ones, member}
+use Rattle.model.specs.Lists.{count, ones}
 use Rattle.model.specs.Table.{slots}
 use Rattle.model.specs.Map.{isMap, leastBreaking}
 use Rattle.model.specs.Cell.{cellSize, isBlock, leastWrong}
@@ -23,6 +23,7 @@ use Rattle.model.specs.Checks.{checkChecks, orbitChecks, sheetChecks}
 use Rattle.model.specs.Checks.{addChecks, sidesChecks, sewChecks, unsewChecks, layerChecks, splitChecks, stepChecks}
 use Rattle.model.specs.Calls.{Outcome, refused}
 use Rattle.model.specs.Runs.{Call, doCall, Op, effect}
+use Rattle.model.specs.Meaning.Sizes.{member}
 
 -- a table, marks and a journal that are lent to a call
 abbrev pub lent : List ℕ → List ℕ → List ℕ → Outcome

@@ -5,10 +5,11 @@ use mathlib.Core.List.{List, [], _∷_}
 use lib.ListN.{length, replicate}
 use lib.Dec.{eqb}
 use Rattle.model.specs.Lists.{count}
-use Rattle.model.specs.Table.{unused, link, live, liveCount}
+use Rattle.model.specs.Table.{unused, link, live}
 use Rattle.model.specs.Journal.{cursor, end, changesFrom}
 use Rattle.model.specs.Calls.{Outcome}
 use Rattle.model.specs.Runs.{Call, doCall}
+use Rattle.model.specs.Meaning.Sizes.{liveCount}
 
 -- what is seen after the last call
 pub data Seen : Type 0 where
