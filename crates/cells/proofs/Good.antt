@@ -8,12 +8,12 @@ use mathlib.Core.List.{List, [], _∷_, map}
 use native.Mathlib.Omega.{arith}
 use lib.ListN.{length, getD, length-map}
 use lib.Dec.{eqb}
-use borrow.Author.Tests.{eqb-true, eqb-false, eq-eqb, ne-eqb, not-true, not-false}
+use borrow.Author.Tests.{eqb-true, eqb-false, eq-eqb, ne-eqb, not-true}
 use Rattle.model.specs.Lists.{tabulate, allFrom, allBelow}
 use Rattle.model.specs.Table.{link, live}
 use Rattle.model.specs.Cell.{cellSize, cellOf, goodCell}
 use Rattle.model.specs.Numbering.{cellLink}
-use Rattle.model.specs.Meaning.Places.{place, Listed}
+use Rattle.model.specs.Meaning.Places.{place}
 use Rattle.model.proofs.Lists.Scan.{test, if-eq, clash, and-l, and-r, and-i, or-cases, or-i, below-three, below-at, below-of}
 use Rattle.model.proofs.Lists.Scan.{length-tab, getD-tab}
 use Rattle.model.proofs.Maps.Tables.{live-below}
@@ -21,7 +21,7 @@ use Rattle.model.proofs.Cells.Rows.{row-goes}
 use Rattle.model.proofs.Cells.Cell.{cell-live, place-in}
 use Rattle.model.proofs.Cells.Exact.{good-exactly}
 use Rattle.cells.specs.Rows.{linkRow, linkRows, places}
-use Rattle.cells.specs.Good.{MapDart, follows, fitsAt}
+use Rattle.cells.specs.Good.{MapDart, PlaceRow, follows, fitsAt}
 use Rattle.cells.proofs.Listing.{size-few}
 
 -- what a place's test reads is there
@@ -48,8 +48,8 @@ module _ (n : ℕ) (links : List (List ℕ)) (is-links : links ≡ linkRows n) w
   pub links-at : (k : ℕ) → k < cellSize n → getD links k [] ≡ linkRow n k
   unfolding linkRows
   links-at k l =
-      let places = tabulate (cellSize n) (λ k. k) in
-      rw is-links (rows-at (linkRow n) places k (rw (length-tab (λ k. k) (cellSize n)) l) ∙ ap (linkRow n) (getD-tab (λ k. k) (cellSize n) k 0 l))
+      let here = rows-at (linkRow n) (tabulate (cellSize n) (λ k. k)) k (rw (length-tab (λ k. k) (cellSize n)) l) in
+      rw is-links (here ∙ ap (linkRow n) (getD-tab (λ k. k) (cellSize n) k 0 l))
 
 -- ---- tests of every number below 2, or below 3
 
@@ -58,13 +58,15 @@ module _ (p : ℕ → Bool) where
   unfolding allFrom
   all-next k a = test (p a) (λ e. rw (e, allFrom)) (λ e. rw (e, allFrom))
 
-  both : (p 0 && p 1) ≡ allBelow 2 p
+  all-two : (p 0 && p 1) ≡ allBelow 2 p
   unfolding allFrom allBelow
-  both = sym (all-next 1 0 ∙ ap (λ (b : Bool). p 0 && b) (all-next 0 1 ∙ and-true (p 1)))
+  all-two = sym (all-next 1 0 ∙ ap (λ (b : Bool). p 0 && b) (all-next 0 1 ∙ and-true (p 1)))
 
-  three : ((p 0 && p 1) && p 2) ≡ allBelow 3 p
+  all-three : ((p 0 && p 1) && p 2) ≡ allBelow 3 p
   unfolding allFrom allBelow
-  three = and-assoc (p 0) (p 1) (p 2) ∙ sym (all-next 2 0 ∙ ap (λ (b : Bool). p 0 && b) (all-next 1 1 ∙ ap (λ (b : Bool). p 1 && b) (all-next 0 2 ∙ and-true (p 2))))
+  all-three =
+      let later = all-next 1 1 ∙ ap (λ (b : Bool). p 1 && b) (all-next 0 2 ∙ and-true (p 2)) in
+      and-assoc (p 0) (p 1) (p 2) ∙ sym (all-next 2 0 ∙ ap (λ (b : Bool). p 0 && b) later)
 
 -- ---- the listed cell
 
@@ -80,56 +82,61 @@ module _ {n : ℕ} {t : List ℕ} {d : ℕ} (D : MapDart n t d) where
   pub place-live : (k : ℕ) → k < cellSize n → live t (place n t d k) ≡ true
   place-live k l = cell-live (D .table) d (D .lives) _ (place-in (D .table) d (D .lives) k l)
 
-  -- ---- one place
+-- ---- one place
 
-  module _ (k : ℕ) (cell row : List ℕ) (is-cell : cell ≡ places n t d) (low : k < cellSize n) (is-row : row ≡ linkRow n k) where
-    here : getD cell k 0 ≡ place n t d k
-    here = rw is-cell (places-at k low)
+module _ {n : ℕ} {t : List ℕ} {d : ℕ} {cell : List ℕ} {k : ℕ} {row : List ℕ} (R : PlaceRow n t d cell k row) where
+  here : getD cell k 0 ≡ place n t d k
+  here = rw (R .cell-is) (places-at (R .dart) k (R .low))
 
-    there : (i : ℕ) → i < 3 → getD cell (getD row i 0) 0 ≡ place n t d (cellLink n i k)
-    there i h = rw (is-cell, is-row, row-at n k i h) (places-at (cellLink n i k) (row-goes n k (D .table .dim) low i (omega arith)))
+  goes : (i : ℕ) → i < 3 → cellLink n i k < cellSize n
+  goes i h = row-goes n k (R .dart .table .dim) (R .low) i (omega arith)
 
-    pub placed : Placed t cell row k
-    placed =
-        let T = D .table in
-        let long : length cell ≡ cellSize n = ap length is-cell ∙ places-length in
-        let few = size-few n (T .dim) in
-        let inside = live-below T _ (place-live k low) in
-        let whole = T .whole in
-        record {
-          inside = omega arith;
-          few = omega arith;
-          entry = rw here (omega arith);
-          leads = λ i h. let goes = row-goes n k (T .dim) low i (omega arith) in rw (is-row, row-at n k i h) (omega arith);
-        }
+  there : (i : ℕ) → i < 3 → getD cell (getD row i 0) 0 ≡ place n t d (cellLink n i k)
+  there i h = rw (R .cell-is, R .row-is, row-at n k i h) (places-at (R .dart) (cellLink n i k) (goes i h))
 
-    -- the test of link i, as the code makes it
-    abbrev pub Leads : ℕ → Bool → Type 0
-    Leads i b = b ≡ eqb (link t i (getD cell k 0)) (getD cell (getD row i 0) 0)
+  pub placed : Placed t cell row k
+  placed =
+      let T = R .dart .table in
+      let long : length cell ≡ cellSize n = ap length (R .cell-is) ∙ places-length (R .dart) in
+      let low = R .low in
+      let few = size-few n (T .dim) in
+      let inside = live-below T _ (place-live (R .dart) k low) in
+      let whole = T .whole in
+      record {
+        inside = omega arith;
+        few = omega arith;
+        entry = rw here (omega arith);
+        leads = λ i h. let to = goes i h in rw (R .row-is, row-at n k i h) (omega arith);
+      }
 
-    abbrev pub isOther : Bool
-    isOther = eqb k 0 || not (eqb (getD cell k 0) d)
+  -- the test of link i, as the code makes it
+  abbrev Leads : ℕ → Bool → Type 0
+  Leads i b = b ≡ eqb (link t i (getD cell k 0)) (getD cell (getD row i 0) 0)
 
-    test-is : (i : ℕ) (b : Bool) → i < 3 → Leads i b → b ≡ follows n t d k i
-    unfolding follows
-    test-is i b h e = rw (here, there i h) at e
+  leads-is : (i : ℕ) (b : Bool) → i < 3 → Leads i b → b ≡ follows n t d k i
+  unfolding follows
+  leads-is i b h e = rw (here, there i h) at e
 
-    fits-is : (b : Bool) → b ≡ allBelow n (follows n t d k) → (b && isOther) ≡ fitsAt n t d k
-    unfolding fitsAt
-    fits-is b e = rw (e, here)
+  -- and the test that the dart is not d, unless k is 0
+  abbrev isOther : Bool
+  isOther = eqb k 0 || not (eqb (getD cell k 0) d)
 
-    pub fits-flat : (a b : Bool) → n ≡ 2 → Leads 0 a → Leads 1 b → ((a && b) && isOther) ≡ fitsAt n t d k
-    fits-flat a b e h₀ h₁ = fits-is (a && b)
-        (ap₂ _&&_ (test-is 0 a (omega arith) h₀) (test-is 1 b (omega arith) h₁)
-        ∙ both (follows n t d k) ∙ ap (λ (m : ℕ). allBelow m (follows n t d k)) (sym e))
+  fits-is : (b : Bool) (m : ℕ) → n ≡ m → b ≡ allBelow m (follows n t d k) → (b && isOther) ≡ fitsAt n t d k
+  unfolding fitsAt
+  fits-is b m same e = rw (e, here, ← same)
 
-    pub fits-solid : (a b c : Bool) → n ≡ 3 → Leads 0 a → Leads 1 b → Leads 2 c → (((a && b) && c) && isOther) ≡ fitsAt n t d k
-    fits-solid a b c e h₀ h₁ h₂ = fits-is ((a && b) && c)
-        (ap₂ _&&_ (ap₂ _&&_ (test-is 0 a (omega arith) h₀) (test-is 1 b (omega arith) h₁)) (test-is 2 c (omega arith) h₂)
-        ∙ three (follows n t d k) ∙ ap (λ (m : ℕ). allBelow m (follows n t d k)) (sym e))
+  pub fits-flat : (a b : Bool) → n ≡ 2 → Leads 0 a → Leads 1 b → ((a && b) && isOther) ≡ fitsAt n t d k
+  fits-flat a b same h₀ h₁ = fits-is (a && b) 2 same
+      (ap₂ _&&_ (leads-is 0 a (omega arith) h₀) (leads-is 1 b (omega arith) h₁) ∙ all-two (follows n t d k))
 
-  -- ---- the cell
+  pub fits-solid : (a b c : Bool) → n ≡ 3 → Leads 0 a → Leads 1 b → Leads 2 c → (((a && b) && c) && isOther) ≡ fitsAt n t d k
+  fits-solid a b c same h₀ h₁ h₂ = fits-is ((a && b) && c) 3 same
+      (ap₂ _&&_ (ap₂ _&&_ (leads-is 0 a (omega arith) h₀) (leads-is 1 b (omega arith) h₁)) (leads-is 2 c (omega arith) h₂)
+      ∙ all-three (follows n t d k))
 
+-- ---- the cell
+
+module _ {n : ℕ} {t : List ℕ} {d : ℕ} (D : MapDart n t d) where
   pub all-fit : ((k : ℕ) → k < cellSize n → fitsAt n t d k ≡ true) → goodCell n t (cellOf n t d) ≡ true
   unfolding fitsAt follows
   all-fit h = good-exactly (D .table) d (D .lives) .1 (record { follow = follow; other = other })

@@ -2,8 +2,8 @@
 -- Main definition: `listing`. Main theorems: `step-ready` (what a step reads and writes is there), `listing-next`, `listing-all`.
 use Prim.Native.Nat.{ℕ, zero, suc, _+_, _*_, _-_, _≤_, _<_}
 use mathlib.Core.Path.{_≡_, refl, sym, ap, _∙_}
-use mathlib.Core.Bool.{Bool, true, false, _&&_}
-use mathlib.Core.List.{List, [], _∷_}
+use mathlib.Core.Bool.{Bool, true, _&&_}
+use mathlib.Core.List.{List, []}
 use native.Mathlib.Numerals.{add-one}
 use native.Mathlib.Omega.{arith}
 use lib.ListN.{length, getD, set, length-set, length-replicate, getD-replicate}
@@ -35,10 +35,10 @@ unfolding cellSize
 size-few n dim = two-cases n dim (λ n. cellSize n ≤ 48) (omega arith) (omega arith)
 
 -- a step goes between places, by a link of the cell
-pub record Step (n : ℕ) (row : List ℕ) : Type 0 where
-  pub to : getD row 0 0 < cellSize n
-  pub from : getD row 1 0 < cellSize n
-  pub by : getD row 2 0 < n
+record Step (n : ℕ) (row : List ℕ) : Type 0 where
+  to : getD row 0 0 < cellSize n
+  from : getD row 1 0 < cellSize n
+  by : getD row 2 0 < n
 
 isStep : ℕ → List ℕ → Bool
 isStep n row = ltb (getD row 0 0) (cellSize n) && (ltb (getD row 1 0) (cellSize n) && ltb (getD row 2 0) n)
@@ -76,7 +76,8 @@ pub listing-none : (n : ℕ) (t : List ℕ) (d : ℕ) → start n d ≡ listing 
 unfolding listing
 listing-none n t d = refl
 
-pub listing-next : (n : ℕ) (t : List ℕ) (d k : ℕ) (steps : List (List ℕ)) (cell : List ℕ) (x : ℕ) → steps ≡ stepRows n → cell ≡ listing n t d k
+pub listing-next : (n : ℕ) (t : List ℕ) (d k : ℕ) (steps : List (List ℕ)) (cell : List ℕ) (x : ℕ)
+    → steps ≡ stepRows n → cell ≡ listing n t d k
     → x ≡ link t (getD (getD steps k []) 2 0) (getD cell (getD (getD steps k []) 1 0) 0)
     → set cell (getD (getD steps k []) 0 0) x ≡ listing n t d (k + 1)
 unfolding listing
@@ -112,13 +113,15 @@ module _ {n : ℕ} {t : List ℕ} {d : ℕ} (D : MapDart n t d) where
       let row = getD (stepRows n) k [] in
       let old = listing-live k (omega arith) in
       let step = steps-at n k (D .table .dim) (omega arith) in
-      let next = rule-at (D .table) _ (old (getD row 1 0) (step .from)) .goes (getD row 2 0) (let top = D .table .dim in omega arith) in
+      let top = D .table .dim in
+      let long = listing-length k in
+      let next = rule-at (D .table) _ (old (getD row 1 0) (step .from)) .goes (getD row 2 0) (omega arith) in
       if-eq j (getD row 0 0)
-      (λ e. rw (e, getD-set-same cell (getD row 0 0) _ 0 (let long = listing-length k in omega arith)) next)
+      (λ e. rw (e, getD-set-same cell (getD row 0 0) _ 0 (omega arith)) next)
       (λ e. rw (getD-set-other cell (getD row 0 0) j _ 0 e) (old j l))
 
-  pub step-ready : (k : ℕ) → k < cellSize n - 1 → Ready t (listing n t d k) (getD (stepRows n) k [])
-  step-ready k l =
+  ready-at : (k : ℕ) → k < cellSize n - 1 → Ready t (listing n t d k) (getD (stepRows n) k [])
+  ready-at k l =
       let T = D .table in
       let step = steps-at n k (T .dim) l in
       let long = listing-length k in
@@ -127,3 +130,7 @@ module _ {n : ℕ} {t : List ℕ} {d : ℕ} (D : MapDart n t d) where
       let few = size-few n (T .dim) in
       let top = T .dim in
       record { to = omega arith; from = omega arith; by = omega arith; entry = omega arith; few = omega arith }
+
+  pub step-ready : (steps : List (List ℕ)) (cell : List ℕ) (k : ℕ) → steps ≡ stepRows n → cell ≡ listing n t d k
+      → k < cellSize n - 1 → Ready t cell (getD steps k [])
+  step-ready steps cell k e f l = rw (e, f) (ready-at k l)

@@ -36,7 +36,8 @@ module _ (n : ℕ) (t : List ℕ) where
     right = below-none _;
   }
 
-  pub scan-next : (seen new : List ℕ) (d : ℕ) → Scanned n t seen d → inWrongCell n t d ≡ false → SeenGood n t new → Scanned n t new (d + 1)
+  pub scan-next : (seen new : List ℕ) (d : ℕ) → Scanned n t seen d → inWrongCell n t d ≡ false → SeenGood n t new
+      → Scanned n t new (d + 1)
   scan-next seen new d s e g = record { seen-good = g; right = below-more _ _ (s .right) e }
 
   pub scan-found : (seen : List ℕ) (d : ℕ) → Scanned n t seen d → d < slots t → inWrongCell n t d ≡ true → d ≡ leastWrong n t

@@ -1,5 +1,5 @@
--- The block test: a place that follows the rows, a live dart of a map, darts that are seen.
--- Main definitions: `fitsAt`, `MapDart`, `SeenGood`.
+-- The block test: a live dart of a map, its listed cell, the test of a place, darts that are seen.
+-- Main definitions: `MapDart`, `PlaceRow`, `fitsAt`, `SeenGood`.
 use Prim.Native.Nat.{ℕ, _≤_, _<_}
 use mathlib.Core.Path.{_≡_}
 use mathlib.Core.Logic.{_≢_}
@@ -9,15 +9,23 @@ use lib.ListN.{length, getD, set}
 use lib.Dec.{eqb}
 use Rattle.model.specs.Lists.{allBelow}
 use Rattle.model.specs.Table.{slots, link, live}
-use Rattle.model.specs.Cell.{inWrongCell}
+use Rattle.model.specs.Cell.{cellSize, inWrongCell}
 use Rattle.model.specs.Numbering.{cellLink}
 use Rattle.model.specs.Meaning.Maps.{MapTable}
 use Rattle.model.specs.Meaning.Places.{place}
+use Rattle.cells.specs.Rows.{linkRow, places}
 
 -- d is a live slot of a map
 pub record MapDart (n : ℕ) (t : List ℕ) (d : ℕ) : Type 0 where
   pub table : MapTable n t
   pub lives : live t d ≡ true
+
+-- the darts of the cell of d are listed by their places, and the row has the links of the place k
+pub record PlaceRow (n : ℕ) (t : List ℕ) (d : ℕ) (cell : List ℕ) (k : ℕ) (row : List ℕ) : Type 0 where
+  pub dart : MapDart n t d
+  pub cell-is : cell ≡ places n t d
+  pub low : k < cellSize n
+  pub row-is : row ≡ linkRow n k
 
 -- link i of the dart at the place k leads where the numbering says
 unfoldable pub follows : ℕ → List ℕ → ℕ → ℕ → ℕ → Bool

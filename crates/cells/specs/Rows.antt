@@ -15,6 +15,7 @@ use Rattle.model.specs.Meaning.Places.{path, place}
 unfoldable pub linkRow : ℕ → ℕ → List ℕ
 linkRow n k = cellLink n 0 k ∷ cellLink n 1 k ∷ cellLink n 2 k ∷ []
 
+-- the rows of all places
 unfoldable pub linkRows : ℕ → List (List ℕ)
 linkRows n = map (linkRow n) (tabulate (cellSize n) (λ k. k))
 
@@ -33,7 +34,7 @@ stepTo n k =
     let i = getD (path n k) (length (path n k) - 1) 0 in
     k ∷ cellLink n i k ∷ i ∷ []
 
--- the steps to all places but the first, by the lengths of their paths
+-- the steps to all places but the first, by the lengths of their paths; none has more than 12 links
 unfoldable pub stepRows : ℕ → List (List ℕ)
 stepRows n = map (stepTo n) (placesFrom n 12 1)
 

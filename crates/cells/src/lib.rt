@@ -6,13 +6,12 @@ ghost use lib.ListN.{length, getD};
 ghost use lib.Dec.{eqb};
 ghost use Rattle.model.specs.Table.{slots, link};
 ghost use Rattle.model.specs.Map.{isMap};
-ghost use Rattle.model.specs.Cell.{cellOf, cellSize, goodCell, inWrongCell, leastWrong, isBlock};
+ghost use Rattle.model.specs.Cell.{cellOf, goodCell, inWrongCell, leastWrong, isBlock};
 ghost use Rattle.model.specs.Checks.{pass, dimOk, tableOk};
 ghost use Rattle.model.specs.Meaning.Maps.{MapTable};
-ghost use Rattle.cells.specs.Rows.{linkRow, linkRows, stepRows, start, places};
-ghost use Rattle.cells.specs.Good.{MapDart, fitsAt, seenWith, SeenGood};
+ghost use Rattle.cells.specs.Rows.{linkRows, stepRows, start, places};
+ghost use Rattle.cells.specs.Good.{MapDart, PlaceRow, fitsAt, seenWith, SeenGood};
 use reading::link_in;
-use reading::live;
 use reading::slots;
 use rows::LINKS_2D;
 use rows::LINKS_3D;
@@ -21,7 +20,10 @@ use rows::STEPS_3D;
 
 mod rows;
 
-// Lists the cell of d: each step puts a place's dart, found by one link from a place before it.
+// The entry of an unused slot.
+const UNUSED: u32 = 4294967295;
+
+// Lists the cell of d, in dimension n: each step finds the dart of a place by one link from a place listed before.
 fn list(n: u32, table: &[u32], d: u32, steps: &[[u8; 3]], cell: &mut [u32])
     requires { ⌜ (MapDart n (now table) d) × (now steps ≡ stepRows n) × (now cell ≡ start n d) ⌝ }
     ensures { λ _. ⌜ now (cell .exit) ≡ places n (now (table .entry)) d ⌝ }
@@ -63,8 +65,7 @@ fn leads(table: &[u32], i: usize, x: u32, cell: &[u32], to: u8) -> bool
 
 // Whether the dart at the place k has its links where the row says, and is not d, unless k is 0.
 fn fits(n: u32, table: &[u32], d: u32, cell: &[u32], k: usize, row: [u8; 3]) -> bool
-    requires { ⌜ (MapDart n (now table) d) × (now cell ≡ places n (now table) d) ⌝ }
-    requires { ⌜ (k < cellSize n) × (row ≡ linkRow n k) ⌝ }
+    requires { ⌜ PlaceRow n (now table) d (now cell) k row ⌝ }
     ensures { λ r. ⌜ r ≡ fitsAt n (now (table .entry)) d k ⌝ }
 {
     let x = cell[k];
@@ -144,7 +145,8 @@ fn visit_3d(table: &[u32], seen: &mut [u8], d: u32) -> bool
     true
 }
 
-// Whether the slot d is a dart of a wrong cell. No seen dart is, and the darts of a good cell are marked as seen.
+// Whether the slot d is a dart of a wrong cell. No seen dart is; a good cell that is met is marked as seen. In a map a slot
+// is unused if its link 0 is 4294967295.
 fn in_wrong_cell(n: u32, table: &[u32], seen: &mut [u8], d: u32) -> bool
     requires { ⌜ (MapTable n (now table)) × (SeenGood n (now table) (now seen)) × (d < slots (now table)) ⌝ }
     ensures { λ r. ⌜ r ≡ inWrongCell n (now (table .entry)) d ⌝ }
@@ -153,7 +155,7 @@ fn in_wrong_cell(n: u32, table: &[u32], seen: &mut [u8], d: u32) -> bool
     if seen[d as usize] != 0 {
         return false;
     }
-    if !live(table, d) {
+    if link_in(table, 0, d) == UNUSED {
         return false;
     }
     if n == 2 {
@@ -162,7 +164,7 @@ fn in_wrong_cell(n: u32, table: &[u32], seen: &mut [u8], d: u32) -> bool
     !visit_3d(table, seen, d)
 }
 
-// No slot is seen.
+// No slot is marked as seen.
 fn clear(seen: &mut [u8], end: u32)
     requires { ⌜ end ≤ length (now seen) ⌝ }
     ensures { λ _. ⌜ ((k : ℕ) → k < end → getD (now (seen .exit)) k 0 ≡ 0) ⌝ }

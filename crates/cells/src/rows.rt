@@ -1,5 +1,6 @@
-// The rows of a cell, constant tables.
-// Row k: where the links 0, 1 and 2 lead from the place k of the numbering, n = 2.
+// A cell by the places of the numbering: constant tables of rows.
+
+// Row k: the places that the links 0, 1 and 2 lead to from the place k, n = 2.
 pub const LINKS_2D: [[u8; 3]; 8] = [
     [1, 4, 0],
     [0, 5, 1],
@@ -63,7 +64,7 @@ pub const LINKS_3D: [[u8; 3]; 48] = [
     [43, 31, 39],
 ];
 
-// A row: a place, the place before it on its path, and the link from there.
+// The steps by which a cell is listed, n = 2. A row: a place, the place before it on its path, and the link from there.
 pub const STEPS_2D: [[u8; 3]; 7] = [
     [1, 0, 0],
     [4, 0, 1],
@@ -74,6 +75,7 @@ pub const STEPS_2D: [[u8; 3]; 7] = [
     [3, 7, 1],
 ];
 
+// The same for n = 3.
 pub const STEPS_3D: [[u8; 3]; 47] = [
     [1, 0, 0],
     [8, 0, 2],

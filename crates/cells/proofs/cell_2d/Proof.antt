@@ -1,26 +1,20 @@
+-- `cells::cell_2d` meets its contract: its table of steps is `stepRows 2`, by computing.
 use mathlib.Core.Path.{refl}
-use Rattle.cells.specs.Rows.{computed}
 use borrow.Author.Needs.{needs}
+use Rattle.cells.specs.Rows.{computed}
 use Rattle.cells.proofs.cell_2d.Statement.{statement}
 use Rattle.cells.proofs.cell_2d.Tie as tie
-use Rattle.cells.proofs.cell_2d.Reads as reads
-use Rattle.cells.proofs.cell_2d.Lts as lts
-use Rattle.cells.proofs.list.Reads as list-reads
 
--- src/lib.rt:36:23
 slice-aggregate-list : tie.Need-slice-aggregate-list
 slice-aggregate-list c = search needs
 
--- src/lib.rt:36:34
 slice-aggregate-list-2 : tie.Need-slice-aggregate-list-2
 slice-aggregate-list-2 c = search needs
 
--- src/lib.rt:36:5
 list-requires : tie.Need-list-requires
 unfolding computed
 list-requires c κs = (c .before .before .before .pre, refl, refl)
 
--- src/lib.rt:31:1
 returns : tie.Need-returns
 returns c = search needs
 

@@ -8,8 +8,6 @@ use lib.ListN.{length, getD, length-set}
 use Rattle.cells.proofs.Seen.{cleared}
 use Rattle.cells.proofs.clear.Statement.{statement}
 use Rattle.cells.proofs.clear.Tie as tie
-use Rattle.cells.proofs.clear.Reads as reads
-use Rattle.cells.proofs.clear.Lts as lts
 
 abbrev Inv-loop : tie.InvT-loop
 Inv-loop seen₀ end k₀ seen k = (k ≤ end) × (length seen ≡ length seen₀) × ((j : ℕ) → j < k → getD seen j 0 ≡ 0)
@@ -17,37 +15,29 @@ Inv-loop seen₀ end k₀ seen k = (k ≤ end) × (length seen ≡ length seen�
 abbrev μ-loop : tie.MeasureT-loop
 μ-loop seen₀ end k₀ seen k = end - k
 
--- src/lib.rt:158:5
 loop-holds : tie.Need-loop-holds Inv-loop μ-loop
 loop-holds c = (omega arith, refl, below-none _)
 
--- src/lib.rt:159:14
 cast-seen : tie.Need-cast-seen Inv-loop μ-loop
 cast-seen c = search needs
 
--- src/lib.rt:159:9
 slice-write-seen : tie.Need-slice-write-seen Inv-loop μ-loop
 slice-write-seen c = search needs
 
--- src/lib.rt:158:9
 add-k : tie.Need-add-k Inv-loop μ-loop
 add-k c = search needs
 
--- src/lib.rt:158:5
 loop-less : tie.Need-loop-less Inv-loop μ-loop
 loop-less c = search needs
 
--- src/lib.rt:158:5
 loop-again : tie.Need-loop-again Inv-loop μ-loop
 loop-again c =
     let l = c .before .loop in
     (omega arith, length-set (l .seen) (l .k) 0 ∙ l .inv .1, cleared (l .seen) (l .k) (search needs) (l .inv .2))
 
--- src/lib.rt:154:1
 same-length : tie.Need-same-length Inv-loop μ-loop
 same-length c = search needs
 
--- src/lib.rt:154:1
 returns : tie.Need-returns Inv-loop μ-loop
 returns c k h = c .before .loop .inv .2 k (omega arith)
 

@@ -1,3 +1,4 @@
+-- `cells::is_good` meets its contract. The loop's invariant: the places passed fit.
 use Prim.Native.Nat.{ℕ, _≤_, _<_, _-_}
 use mathlib.Core.Path.{_≡_, sym, _∙_}
 use mathlib.Core.Bool.{true}
@@ -11,64 +12,53 @@ use Rattle.cells.proofs.Listing.{size-few}
 use Rattle.cells.proofs.Good.{links-length, links-at, all-fit, not-fit}
 use Rattle.cells.proofs.is_good.Statement.{statement}
 use Rattle.cells.proofs.is_good.Tie as tie
-use Rattle.cells.proofs.is_good.Reads as reads
-use Rattle.cells.proofs.is_good.Lts as lts
-use Rattle.cells.proofs.fits.Reads as fits-reads
 
 abbrev Inv-loop : tie.InvT-loop
-Inv-loop n table d cell links k₀ k-end k = (k ≤ k-end) × (k-end ≡ cellSize n) × ((j : ℕ) → j < k → fitsAt n table d j ≡ true)
+Inv-loop n table d cell links k₀ k-end k =
+    (k ≤ k-end) × (k-end ≡ cellSize n) × ((j : ℕ) → j < k → fitsAt n table d j ≡ true)
 
 abbrev μ-loop : tie.MeasureT-loop
 μ-loop n table d cell links k₀ k-end k = k-end - k
 
--- src/lib.rt:71:5
 loop-holds : tie.Need-loop-holds Inv-loop μ-loop
 loop-holds c =
     let s = c .before .before in
     (omega arith, links-length _ _ (s .pre .2), below-none _)
 
--- src/lib.rt:72:40
 mul-fits : tie.Need-mul-fits Inv-loop μ-loop
 mul-fits c =
     let s = c .before .before .before .before in
     let few = size-few (s .args .n) (s .pre .0 .table .dim) in
     omega arith
 
--- src/lib.rt:72:40
 shared-slice-copy-out-fits : tie.Need-shared-slice-copy-out-fits Inv-loop μ-loop
 shared-slice-copy-out-fits c = omega arith
 
--- src/lib.rt:72:13
 fits-requires : tie.Need-fits-requires Inv-loop μ-loop
 fits-requires c κs =
     let l = c .before .before in
     let s = l .before .before .before in
     let low : l .loop .k < cellSize (s .args .n) = omega arith in
-    ((s .pre .0, s .pre .1), (low, links-at _ _ (s .pre .2) _ low))
+    record { dart = s .pre .0; cell-is = s .pre .1; low = low; row-is = links-at _ _ (s .pre .2) _ low }
 
--- src/lib.rt:73:13
 returns : tie.Need-returns Inv-loop μ-loop
 returns c =
     let l = c .before .before .before .before in
     let s = l .before .before .before in
     sym (not-fit (s .pre .0) (l .loop .k) (omega arith) (sym (c .before .fits2 .ensures) ∙ not-true _ (c .if1 .taken)))
 
--- src/lib.rt:71:9
 add-k : tie.Need-add-k Inv-loop μ-loop
 add-k c = search needs
 
--- src/lib.rt:71:5
 loop-less : tie.Need-loop-less Inv-loop μ-loop
 loop-less c = search needs
 
--- src/lib.rt:71:5
 loop-again : tie.Need-loop-again Inv-loop μ-loop
 loop-again c =
     let l = c .before .before .before .before in
     let fits = sym (c .before .fits2 .ensures) ∙ not-false _ (c .if1 .left) in
     (omega arith, l .loop .inv .1, below-more _ _ (l .loop .inv .2) fits)
 
--- src/lib.rt:67:1
 returns-2 : tie.Need-returns-2 Inv-loop μ-loop
 returns-2 c =
     let l = c .before in

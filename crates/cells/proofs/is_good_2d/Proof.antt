@@ -1,26 +1,20 @@
+-- `cells::is_good_2d` meets its contract: its table of links is `linkRows 2`, by computing.
 use mathlib.Core.Path.{refl}
-use Rattle.cells.specs.Rows.{computed}
 use borrow.Author.Needs.{needs}
+use Rattle.cells.specs.Rows.{computed}
 use Rattle.cells.proofs.is_good_2d.Statement.{statement}
 use Rattle.cells.proofs.is_good_2d.Tie as tie
-use Rattle.cells.proofs.is_good_2d.Reads as reads
-use Rattle.cells.proofs.is_good_2d.Lts as lts
-use Rattle.cells.proofs.is_good.Reads as is-good-reads
 
--- src/lib.rt:84:26
 slice-aggregate-is-good : tie.Need-slice-aggregate-is-good
 slice-aggregate-is-good c = search needs
 
--- src/lib.rt:84:33
 slice-aggregate-is-good-2 : tie.Need-slice-aggregate-is-good-2
 slice-aggregate-is-good-2 c = search needs
 
--- src/lib.rt:84:5
 is-good-requires : tie.Need-is-good-requires
 unfolding computed
 is-good-requires c κs = let s = c .before .before .before in (s .pre .0, s .pre .1, refl)
 
--- src/lib.rt:80:1
 returns : tie.Need-returns
 returns c = search needs
 

@@ -1,19 +1,13 @@
 -- `cells::least_wrong` meets its contract. The loop's invariant: no slot passed is in a wrong cell, and no dart that is seen.
-use Prim.Native.Nat.{ℕ, _≤_, _<_, _-_}
+use Prim.Native.Nat.{_≤_, _-_}
 use mathlib.Core.Path.{_≡_, refl, sym, _∙_}
 use native.Mathlib.Omega.{arith}
-use borrow.Author.Needs.{needs}
 use lib.ListN.{length}
 use Rattle.model.specs.Table.{slots}
 use Rattle.model.specs.Meaning.Maps.{MapTable}
 use Rattle.cells.proofs.Scan.{checked, Scanned, scan-first, scan-next, scan-found, scan-none}
 use Rattle.cells.proofs.least_wrong.Statement.{statement}
 use Rattle.cells.proofs.least_wrong.Tie as tie
-use Rattle.cells.proofs.least_wrong.Reads as reads
-use Rattle.cells.proofs.least_wrong.Lts as lts
-use Rattle.cells.proofs.clear.Reads as clear-reads
-use Rattle.cells.proofs.in_wrong_cell.Reads as in-wrong-cell-reads
-use Rattle.reading.proofs.slots.Reads as slots-reads
 
 abbrev Inv-loop : tie.InvT-loop
 Inv-loop n table seen₀ end d₀ seen d = (d ≤ end) × (length seen ≡ length seen₀) × Scanned n table seen d
@@ -34,24 +28,27 @@ loop-holds : tie.Need-loop-holds Inv-loop μ-loop
 loop-holds c =
     let cleared = c .before .before in
     let counted = cleared .before .before in
+    let end-is = counted .slots .ensures in
     let long = counted .before .before .before .pre .1 in
-    (omega arith, refl, scan-first _ _ _ (omega (arith, cleared .clear .kept .0)) (λ k l. cleared .clear .ensures k (omega (arith, counted .slots .ensures))))
+    let same = cleared .clear .kept .0 in
+    (omega arith, refl, scan-first _ _ _ (omega arith) (λ k l. cleared .clear .ensures k (omega arith)))
 
--- where the loop begins
-table : (c : tie.At-loop Inv-loop μ-loop) →
-    MapTable (c .before .before .before .before .before .before .before .before .args .n) (c .before .before .before .before .before .before .before .before .args .table .now)
-table c =
-    let s = c .before .before .before .before .before .before .before .before in
-    checked (s .args .n) (s .args .table .now) (s .pre .0 .0) (s .pre .0 .1) (s .pre .0 .2)
+abbrev counted : tie.At-loop Inv-loop μ-loop → tie.After-slots Inv-loop μ-loop
+counted c = c .before .before .before .before .before
 
-end-is : (c : tie.At-loop Inv-loop μ-loop) →
-    c .before .before .before .before .before .slots .result ≡ slots (c .before .before .before .before .before .before .before .before .args .table .now)
-end-is c = c .before .before .before .before .before .slots .ensures
+abbrev start : tie.At-loop Inv-loop μ-loop → tie.Start Inv-loop μ-loop
+start c = counted c .before .before .before
+
+end-is : (c : tie.At-loop Inv-loop μ-loop) → counted c .slots .result ≡ slots (start c .args .table .now)
+end-is c = counted c .slots .ensures
+
+map : (c : tie.At-loop Inv-loop μ-loop) → MapTable (start c .args .n) (start c .args .table .now)
+map c = let s = start c in checked (s .args .n) (s .args .table .now) (s .pre .0 .0) (s .pre .0 .1) (s .pre .0 .2)
 
 in-wrong-cell-requires : tie.Need-in-wrong-cell-requires Inv-loop μ-loop
 in-wrong-cell-requires c κs =
     let l = c .before .before in
-    (table l, l .loop .inv .2 .seen-good, omega (arith, end-is l))
+    (map l, l .loop .inv .2 .seen-good, omega (arith, end-is l))
 
 same-length : tie.Need-same-length Inv-loop μ-loop
 same-length c =
@@ -68,7 +65,7 @@ returns c =
 add-d : tie.Need-add-d Inv-loop μ-loop
 add-d c =
     let l = c .before .before .before .before .before .before in
-    omega (arith, end-is l, table l .few)
+    omega (arith, end-is l, map l .few)
 
 loop-less : tie.Need-loop-less Inv-loop μ-loop
 loop-less c = omega arith
@@ -76,11 +73,10 @@ loop-less c = omega arith
 loop-again : tie.Need-loop-again Inv-loop μ-loop
 loop-again c =
     let tested = c .before .before .before in
-    let l = tested .before .before .before in (
-      omega arith,
-      tested .in-wrong-cell .kept .1 .1 .0 ∙ l .loop .inv .1,
-      scan-next _ _ _ _ _ (l .loop .inv .2) (sym (tested .in-wrong-cell .ensures .0) ∙ c .if1 .left) (tested .in-wrong-cell .ensures .1),
-    )
+    let l = tested .before .before .before in
+    let (answer, seen-good) = tested .in-wrong-cell .ensures in
+    let next = scan-next _ _ _ _ _ (l .loop .inv .2) (sym answer ∙ c .if1 .left) seen-good in
+    (omega arith, tested .in-wrong-cell .kept .1 .1 .0 ∙ l .loop .inv .1, next)
 
 same-length-2 : tie.Need-same-length-2 Inv-loop μ-loop
 same-length-2 c =

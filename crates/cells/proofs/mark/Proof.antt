@@ -1,14 +1,13 @@
-use Prim.Native.Nat.{ℕ, _≤_, _<_, _-_}
+-- `cells::mark` meets its contract. The loop's invariant: the darts passed are marked.
+use Prim.Native.Nat.{_≤_, _<_, _-_}
 use mathlib.Core.Path.{_≡_, refl, ap, _∙_}
 use native.Mathlib.Omega.{arith}
 use borrow.Author.Needs.{needs}
-use lib.ListN.{length, getD, take}
+use lib.ListN.{length, take}
 use Rattle.cells.specs.Good.{seenWith}
 use Rattle.cells.proofs.Seen.{seen-first, seen-next, seen-all, seen-length}
 use Rattle.cells.proofs.mark.Statement.{statement}
 use Rattle.cells.proofs.mark.Tie as tie
-use Rattle.cells.proofs.mark.Reads as reads
-use Rattle.cells.proofs.mark.Lts as lts
 
 abbrev Inv-loop : tie.InvT-loop
 Inv-loop seen₀ darts k₀ k-end seen k = (k ≤ k-end) × (k-end ≡ length darts) × (seen ≡ seenWith seen₀ (take k darts))
@@ -16,23 +15,18 @@ Inv-loop seen₀ darts k₀ k-end seen k = (k ≤ k-end) × (k-end ≡ length da
 abbrev μ-loop : tie.MeasureT-loop
 μ-loop seen₀ darts k₀ k-end seen k = k-end - k
 
--- src/lib.rt:100:5
 loop-holds : tie.Need-loop-holds Inv-loop μ-loop
 loop-holds c = (omega arith, refl, seen-first _)
 
--- src/lib.rt:101:17
 mul-x : tie.Need-mul-x Inv-loop μ-loop
 mul-x c = search needs
 
--- src/lib.rt:101:17
 shared-slice-read-x : tie.Need-shared-slice-read-x Inv-loop μ-loop
 shared-slice-read-x c = search needs
 
--- src/lib.rt:101:17
 cast-x : tie.Need-cast-x Inv-loop μ-loop
 cast-x c = omega (arith, c .shared-slice-known .given (c .before .before .loop .k))
 
--- src/lib.rt:102:9
 slice-write-seen : tie.Need-slice-write-seen Inv-loop μ-loop
 slice-write-seen c =
     let l = c .before .before in
@@ -41,29 +35,24 @@ slice-write-seen c =
     let low = l .before .pre (l .loop .k) (omega arith) in
     omega arith
 
--- src/lib.rt:100:9
 add-k : tie.Need-add-k Inv-loop μ-loop
 add-k c = search needs
 
--- src/lib.rt:100:5
 loop-less : tie.Need-loop-less Inv-loop μ-loop
 loop-less c = search needs
 
--- src/lib.rt:100:5
 loop-again : tie.Need-loop-again Inv-loop μ-loop
 loop-again c =
     let l = c .before .before in
     let low : l .loop .k < length (l .before .args .darts .now) = omega arith in
     (omega arith, l .loop .inv .1, seen-next _ _ _ _ low (l .loop .inv .2))
 
--- src/lib.rt:96:1
 same-length : tie.Need-same-length Inv-loop μ-loop
 same-length c =
     let l = c .before in
     let a = l .before .args in
     ap length (l .loop .inv .2) ∙ seen-length (a .seen .now) (take (l .loop .k) (a .darts .now))
 
--- src/lib.rt:96:1
 returns : tie.Need-returns Inv-loop μ-loop
 returns c =
     let l = c .before in
