@@ -130,7 +130,7 @@ stateOf o ds us = record { outcome = o; history = historyOf ds us }
 module _ {n : ℕ} {first : List ℕ} where
   undo-standing : (m : List ℕ) (s : State) → InvariantAt n first s
       → stepped n s (calling Call.undo m) .history .standing ≡ drop 1 (s .history .standing)
-  unfolding stepped answer stepNumber answered accepted afterUndo numberOf
+  unfolding stepped stepNumber answered accepted afterUndo numberOf
   undo-standing m s inv = go (s .history .standing) (s .history .undone) (undo-gives s inv m)
     where
       go : {k : ℕ} (ds us : List Op) → k ≡ stepNumber ds → answered k Call.undo (historyOf ds us) .standing ≡ drop 1 ds
