@@ -21,14 +21,14 @@ use Rattle.model.specs.Checks.{pass, must, mustAt, dimOk, tableOk, marks
 use Rattle.model.specs.Checks.{dartOk, blockOk, apartOk, freeOk, sewnOk, pairingOk, crossingOk, addRoomOk, splitRoomOk}
 use Rattle.model.specs.Checks.{undoOk, redoOk}
 use Rattle.model.specs.Meaning.Ends.{recordOk, stepOk}
-use Rattle.model.specs.Meaning.Maps.{Dim, Map, MapTable, BlockTable}
+use Rattle.model.specs.Meaning.Maps.{Dim, Map, MapTable, Block}
 use Rattle.model.specs.Meaning.Numbers.{JournalRule, StepFails}
 use Rattle.model.specs.Meaning.Pairings.{Pairing}
 use Rattle.model.specs.Meaning.Sets.{Marked}
 use Rattle.model.specs.Meaning.Sheets.{Crossing}
 use Rattle.model.proofs.Lists.Scan.{clash}
 use Rattle.model.proofs.Maps.Rules.{map-of, of-map}
-use Rattle.model.proofs.Cells.Chart.{block-of, of-block}
+use Rattle.model.proofs.Cells.Exact.{block-exactly}
 use Rattle.model.proofs.Sewing.Pairing.{paired-exactly}
 use Rattle.model.proofs.Layers.Sheet.{crosses-some}
 use Rattle.model.proofs.Calls.Tests.{not-fails, and-fails, or-fails, leb-fails, ltb-fails, eqb-fails, eqb-holds}
@@ -89,9 +89,9 @@ pub dart-fails : (t : List ℕ) (d : ℕ) → (dartOk t d ≢ pass) ↔ (live t 
 unfolding dartOk
 dart-fails t d = must-fails _ 7 Iff·rfl
 
-pub block-fails : (n : ℕ) (t : List ℕ) → MapTable n t → (blockOk n t ≢ pass) ↔ (BlockTable n t → ⊥)
+pub block-fails : (n : ℕ) (t : List ℕ) → MapTable n t → (blockOk n t ≢ pass) ↔ (Block n t → ⊥)
 unfolding blockOk isBlock
-block-fails n t table = mustAt-fails _ 8 _ (test-fails (isBlock n t) (block-of n t table, of-block n t))
+block-fails n t table = mustAt-fails _ 8 _ (test-fails (isBlock n t) (block-exactly table))
 
 pub apart-fails : (n : ℕ) (t : List ℕ) (i d e : ℕ) → (apartOk n t i d e ≢ pass) ↔ Marked (side n t i d) e
 unfolding apartOk inSet

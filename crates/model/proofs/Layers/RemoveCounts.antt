@@ -1,4 +1,4 @@
--- remove in numbers: the darts that it takes away (remove-count, remove-lives), and the entries that it changes (remove-changes).
+-- remove in numbers: the darts that it takes away (removed-number, remove-lives), and the entries that it changes (remove-changes).
 use Prim.Native.Nat.{ℕ, _+_, _*_, _-_, _<_}
 use mathlib.Core.Path.{_≡_, refl, sym, ap, _∙_}
 use mathlib.Core.Logic.{_≢_}
@@ -97,8 +97,8 @@ module _ {n : ℕ} {t m u : List ℕ} (L : Layer n t m) (R : Removes n t m u) wh
 
 module _ {n : ℕ} {t : List ℕ} {d : ℕ} (D : BlockDart n t d) where
   -- "Count: darts removed": those with the mark 1 or 2
-  pub remove-count : slots t - count 0 (marksOf n t d) ≡ howMany (slots t) (marked (marksOf n t d))
-  remove-count = layer-count (sheet-layer D)
+  pub removed-number : slots t - count 0 (marksOf n t d) ≡ howMany (slots t) (marked (marksOf n t d))
+  removed-number = layer-count (sheet-layer D)
 
   pub remove-lives : liveCount t ≡ liveCount (removeTable n t d) + (slots t - count 0 (marksOf n t d))
   remove-lives = layer-lives (sheet-layer D) (remove-removes D)

@@ -17,7 +17,7 @@ use Rattle.model.specs.Split.{splitTable}
 use Rattle.model.specs.Journal.{cursor, end, changesFrom, recordOf, changesAt, put, unbroken}
 use Rattle.model.specs.Runs.{Call}
 use Rattle.model.specs.Meaning.Ends.{undoCount, undoStart, redoCount}
-use Rattle.model.specs.Meaning.Maps.{Map, BlockTable}
+use Rattle.model.specs.Meaning.Maps.{Map, Block}
 use Rattle.model.specs.Meaning.Pairings.{Pairing}
 use Rattle.model.specs.Meaning.Sets.{Marked}
 
@@ -73,7 +73,7 @@ dartRow t d = record { number = 7; given = live t d ≡ false }
 
 -- "not a block map"
 abbrev pub blockRow : ℕ → List ℕ → NumberRow
-blockRow n t = record { number = 8; given = BlockTable n t → ⊥ }
+blockRow n t = record { number = 8; given = Block n t → ⊥ }
 
 -- "e in d's side"
 abbrev pub apartRow : ℕ → List ℕ → ℕ → ℕ → ℕ → NumberRow
