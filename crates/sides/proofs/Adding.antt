@@ -1,9 +1,9 @@
--- Couples added to the partners: one couple (`meet-new`, `meet-known`, `meet-other`), none (`adds-none`), one link after
--- another (`links-begin`, `links-next`, `links-stop`).
-use Prim.Native.Nat.{ℕ, suc, _+_, _≤_, _<_}
-use mathlib.Core.Path.{_≡_, refl, sym, ap, _∙_, subst₂}
+-- Couples added to the partners: one couple (`meet-new`, `meet-known`, `meet-other`), those of one link (`by-adds`, `by-none`),
+-- and those of one link after another (`links-begin`, `links-next`, `links-stop`, `links-all`).
+use Prim.Native.Nat.{ℕ, suc, _+_, _<_}
+use mathlib.Core.Path.{_≡_, refl, sym, _∙_, subst₂}
 use mathlib.Core.Logic.{_⊎_, inl, inr, _≢_, ⊎-elim}
-use mathlib.Core.Bool.{true}
+use mathlib.Core.Bool.{true, false}
 use mathlib.Core.List.{List}
 use native.Mathlib.Omega.{arith}
 use lib.ListN.{length, getD, set, length-set}
@@ -11,11 +11,11 @@ use lib.Seq.{getD-set-same, getD-set-other}
 use Rattle.model.specs.Lists.{count}
 use Rattle.model.specs.Table.{unused, link}
 use Rattle.model.specs.Orbit.{bit}
-use Rattle.model.proofs.Lists.Scan.{if-eq, count-change}
+use Rattle.model.proofs.Lists.Scan.{clash, if-eq, count-change}
 use Rattle.model.proofs.Sets.Closure.{getD-any}
 use Rattle.model.proofs.Sewing.Partners.{Partner, set-partner, set-keeps, set-only}
 use Rattle.sides.specs.Walk.{Couples, Listed, Grown, Clash, Adds, Is, By, Below}
-use Rattle.sides.specs.Given.{Meeting}
+use Rattle.sides.specs.Given.{Stepping, Meeting}
 
 pub clash-map : {C D : Couples} → ((a b : ℕ) → C a b → D a b) → Clash C → Clash D
 clash-map f c = record {
@@ -41,12 +41,6 @@ grown-none there l = record {
   only = λ a b h. inl h;
 }
 
-pub adds-none : {C : Couples} {p q : List ℕ} {r : ℕ} → ((a b : ℕ) → C a b → ⊥) → Listed p q r → 0 < r → Adds C p q r p q r
-adds-none none l some = record {
-  grows = λ _. grown-none (λ a b c. absurd (none a b c)) l;
-  fails = λ h. absurd (omega arith);
-}
-
 module _ {C D E : Couples} (into : (a b : ℕ) → C a b ⊎ D a b → E a b) (of : (a b : ℕ) → E a b → C a b ⊎ D a b) where
   grown-then : {p q p₁ q₁ p₂ q₂ : List ℕ} {r r₁ r₂ : ℕ} → Grown C p q r p₁ q₁ r₁ → Grown D p₁ q₁ r₁ p₂ q₂ r₂
       → Grown E p q r p₂ q₂ r₂
@@ -64,7 +58,7 @@ module _ {C D E : Couples} (into : (a b : ℕ) → C a b ⊎ D a b → E a b) (o
 
 -- ---- one couple
 
-module _ (p q : List ℕ) (r x y : ℕ) (m : Meeting p q r x y) where
+module _ {p q : List ℕ} {r x y : ℕ} (m : Meeting p q r x y) where
   -- the entry that is read
   entry : getD p x 0 ≡ getD p x unused
   entry = getD-any p x 0 unused (m .inside)
@@ -173,7 +167,29 @@ module _ (t : List ℕ) (mask x y j : ℕ) where
         only = λ u v k. ⊎-elim inl (λ i. inr (to u v i)) (g .only u v k);
       }
 
+  -- the mask does not permit link j
+  pub by-none : {p q : List ℕ} {r : ℕ} → bit mask j ≡ false → Listed p q r → 0 < r → Adds (By t mask x y j) p q r p q r
+  by-none skip l some = record {
+    grows = λ _. grown-none (λ a b h. absurd (clash (h .permitted) skip)) l;
+    fails = λ h. absurd (omega arith);
+  }
+
 -- ---- one link after another
+
+-- what the steps of x and y ask holds when some couples have been added
+pub grown-stepping : {C : Couples} {t p q p₁ q₁ : List ℕ} {r r₁ x y : ℕ} → Stepping t p q r x y → Grown C p q r p₁ q₁ r₁
+    → Stepping t p₁ q₁ r₁ x y
+grown-stepping s g = record {
+  ready = record {
+    linked = s .ready .linked;
+    long = g .long ∙ s .ready .long;
+    room = rw (g .wide) (s .ready .room);
+    left = s .ready .left;
+    right = s .ready .right;
+  };
+  listed = g .listed;
+  some = let l = s .some in let m = g .more in omega arith;
+}
 
 module _ (t : List ℕ) (mask x y : ℕ) {p q : List ℕ} {r : ℕ} where
   pub links-begin : Listed p q r → Grown (Below t mask x y 0) p q r p q r

@@ -1,13 +1,11 @@
 -- The model's walk of both sides finds the least set of couples that holds (d, e) and goes with the side's links, in whatever
 -- order it is walked. `partners-least`: partners that are this set are those of the model. `partners-clash`: the model finds
 -- none where the set gives a dart two partners.
-use Prim.Native.Nat.{ℕ, suc, _+_, _*_, _≤_}
+use Prim.Native.Nat.{ℕ, _+_, _*_, _≤_}
 use mathlib.Core.Path.{_≡_, refl, sym, ap, _∙_, subst}
-use mathlib.Core.Logic.{_≢_}
 use mathlib.Core.Option.{Option, none, some}
 use mathlib.Core.List.{List, [], _∷_}
-use native.Mathlib.Omega.{arith}
-use lib.ListN.{length, getD, set, replicate, length-set, length-replicate}
+use lib.ListN.{length, getD, replicate, length-set, length-replicate}
 use lib.Seq.{ext-getD}
 use Rattle.model.specs.Table.{unused, slots, link}
 use Rattle.model.specs.Sew.{Couple, couple, partners, sideWords, side}
@@ -16,7 +14,7 @@ use Rattle.model.specs.Meaning.Sets.{Marked}
 use Rattle.model.proofs.Lists.Scan.{if-eq}
 use Rattle.model.proofs.Sewing.Side.{side-own, side-far, side-all}
 use Rattle.model.proofs.Sewing.Partners.{Partner, PairsUp, spent, done, fresh, known, pairUp-steps}
-use Rattle.model.proofs.Sewing.Walked.{Walked, partners-some, partners-start, partners-goes, partners-none, partners-real}
+use Rattle.model.proofs.Sewing.Walked.{Walked, partners-some, partners-start, partners-goes, partners-none}
 use Rattle.sides.specs.Walk.{Clash}
 
 -- the least set of couples that holds d and e and goes with the links that are allowed

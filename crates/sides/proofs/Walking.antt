@@ -2,7 +2,7 @@
 -- (`turned`), and what the walk gives: the model's partners (`walk-finds`), or none (`walk-fails`).
 use Prim.Native.Nat.{ℕ, _+_, _≤_, _<_}
 use mathlib.Core.Path.{_≡_, refl, sym, ap, _∙_, subst, subst₂}
-use mathlib.Core.Logic.{_⊎_, inl, inr, _≢_, ⊎-elim}
+use mathlib.Core.Logic.{_⊎_, inl, inr, ⊎-elim}
 use mathlib.Core.Bool.{true, false, _&&_, _||_}
 use mathlib.Core.List.{List}
 use native.Mathlib.Omega.{arith}
@@ -12,13 +12,13 @@ use borrow.Author.Tests.{leb-true, le-leb}
 use Rattle.model.specs.Table.{unused, slots, link, live}
 use Rattle.model.specs.Sew.{partners}
 use Rattle.model.specs.Orbit.{bit}
-use Rattle.model.specs.Meaning.Pairings.{Far, OnSide}
+use Rattle.model.specs.Meaning.Pairings.{Far}
 use Rattle.model.proofs.Lists.Scan.{and-l, and-r, and-i, or-cases, or-i, if-eq}
 use Rattle.model.proofs.Maps.Rules.{live-in}
 use Rattle.model.proofs.Sewing.Partners.{Partner}
 use Rattle.model.proofs.Sewing.Walked.{unpaired, count-unpaired}
 use Rattle.sides.specs.Walk.{Listed, Grown, Clash, Adds, Is, Below}
-use Rattle.sides.specs.Given.{SideMask, Linked, Ready, Stepping, Meeting}
+use Rattle.sides.specs.Given.{SideMask, Sides, Ready, Stepping, Meeting}
 use Rattle.sides.specs.Paired.{found}
 use Rattle.sides.proofs.Least.{Coupled, start, goes, SideLinks, partners-least, partners-clash}
 use Rattle.sides.proofs.Adding.{clash-map}
@@ -49,7 +49,7 @@ mask-links n i mask small permits = record {
 
 -- ---- the state
 
--- the links of the queue's darts before head have met those of their partners; q₀ is the queue as it was lent
+-- the links of the queue's darts before head have met those of their partners; q₀ is the queue as the walk began
 pub record Walking (t : List ℕ) (mask d e : ℕ) (q₀ p q : List ℕ) (r head : ℕ) : Type 0 where
   pub long : length p ≡ slots t
   pub wide : length q ≡ length q₀
@@ -96,10 +96,10 @@ module _ {t p₀ q₀ : List ℕ} {d e : ℕ} (ready : Ready t p₀ q₀ d e) {p
             let c = added .fails h in
             absurd (c .differ (only _ _ (c .first) .1 ∙ sym (only _ _ (c .second) .1)))
 
-    pub walk-begins : Walking t mask d e q₀ p₁ q₁ r 0
+    pub walk-begins : Walking t mask d e q₁ p₁ q₁ r 0
     walk-begins = let g = added .grows some in record {
       long = g .long ∙ long;
-      wide = g .wide;
+      wide = refl;
       order = omega arith;
       listed = g .listed;
       sound = λ a b h. let i = only a b (g .only a b h) in subst₂ (Coupled t (Permitted mask) d e) (sym (i .0)) (sym (i .1)) start;
@@ -127,12 +127,17 @@ module _ {t q₀ p q : List ℕ} {d e mask r head : ℕ} (w : Walking t mask d e
   own : head < r → Partner p x y
   own l = record { is = refl; real = w .listed .inside head l }
 
-  pub expand-asks : {p₀ : List ℕ} → Ready t p₀ q₀ d e → head < r → Stepping t p q r x y
-  expand-asks ready l = let (left, right) = coupled-live ready (w .sound x y (own l)) in record {
+  -- it is a slot
+  pub head-low : head < r → head < slots t
+  head-low l = let n = w .listed .number in let m = w .long in omega arith
+
+  -- where the queue is as long as the one that was lent
+  pub expand-asks : {p₀ q₁ : List ℕ} → Ready t p₀ q₁ d e → length q₀ ≡ length q₁ → head < r → Stepping t p q r x y
+  expand-asks ready kept l = let (left, right) = coupled-live ready (w .sound x y (own l)) in record {
     ready = record {
       linked = ready .linked;
       long = w .long;
-      room = rw (w .wide) (ready .room);
+      room = rw (w .wide, kept) (ready .room);
       left = left;
       right = right;
     };
@@ -189,15 +194,15 @@ module _ {t q₀ p q : List ℕ} {d e mask r head : ℕ} (w : Walking t mask d e
       let (k, low, is) = w .listed .all _ _ h in
       rw is at (w .done k y j (omega arith) (rw is h) s)
 
-module _ (n i mask : ℕ) {t : List ℕ} {d e : ℕ} (left : OnSide n t i d) (right : OnSide n t i e) (permits : SideMask n i mask) where
+module _ {n i mask : ℕ} {t : List ℕ} {d e : ℕ} (sides : Sides n t i mask d e) where
   links : SideLinks n i (Permitted mask)
-  links = mask-links n i mask (left .table .dim .1) permits
+  links = mask-links n i mask (sides .left .table .dim .1) (sides .permits)
 
   pub walk-finds : {q₀ p q : List ℕ} {r head : ℕ} → Walking t mask d e q₀ p q r head → r ≤ head → found true p ≡ partners n t i d e
   unfolding found
   walk-finds {p = p} w l =
-      sym (partners-least n t i d e (Permitted mask) links left right p (w .long) (w .sound) (λ x y. all w l))
+      sym (partners-least n t i d e (Permitted mask) links (sides .left) (sides .right) p (w .long) (w .sound) (λ x y. all w l))
 
   pub walk-fails : (p : List ℕ) → Clash (Coupled t (Permitted mask) d e) → found false p ≡ partners n t i d e
   unfolding found
-  walk-fails p c = sym (partners-clash n t i d e (Permitted mask) links left right c)
+  walk-fails p c = sym (partners-clash n t i d e (Permitted mask) links (sides .left) (sides .right) c)

@@ -8,7 +8,6 @@ use lib.ListN.{length}
 use lib.Dec.{leb}
 use Rattle.model.specs.Table.{unused, slots, link, live}
 use Rattle.model.specs.Orbit.{bit}
-use Rattle.model.specs.Meaning.Maps.{MapTable}
 use Rattle.model.specs.Meaning.Pairings.{OnSide}
 use Rattle.sides.specs.Walk.{Listed}
 
@@ -24,10 +23,14 @@ SideMask n i mask = Permits mask n (λ j. leb (i + 2) j || leb (j + 2) i)
 
 -- ---- for both walks
 
-pub record Given (n : ℕ) (t there back q : List ℕ) (mask i d e : ℕ) : Type 0 where
+-- d and e have sides for link i, and the mask permits their links
+pub record Sides (n : ℕ) (t : List ℕ) (i mask d e : ℕ) : Type 0 where
   pub left : OnSide n t i d
   pub right : OnSide n t i e
   pub permits : SideMask n i mask
+
+pub record Given (n : ℕ) (t there back q : List ℕ) (mask i d e : ℕ) : Type 0 where
+  pub sides : Sides n t i mask d e
   pub long-there : length there ≡ slots t
   pub long-back : length back ≡ slots t
   pub room : slots t ≤ length q

@@ -1,14 +1,11 @@
 // Pairing two sides for sew, by a walk of both at once over a queue that the caller lends; and the links that sew and unsew give.
 ghost use mathlib.Core.Path.{_≡_};
-ghost use mathlib.Core.Bool.{true};
 ghost use Prim.Native.Nat.{ℕ, _<_};
 ghost use lib.ListN.{length, getD, replicate};
-ghost use Rattle.model.specs.Table.{link, slots};
+ghost use Rattle.model.specs.Table.{slots};
 ghost use Rattle.model.specs.Sew.{partners, sewnLink, unsewnLink};
-ghost use Rattle.model.specs.Meaning.Maps.{MapTable};
-ghost use Rattle.model.specs.Meaning.Pairings.{OnSide};
 ghost use Rattle.sides.specs.Walk.{Adds, Is, By, Below};
-ghost use Rattle.sides.specs.Given.{SideMask, Given, Ready, Stepping, Meeting, At};
+ghost use Rattle.sides.specs.Given.{Sides, Given, Ready, Stepping, Meeting, At};
 ghost use Rattle.sides.specs.Paired.{found, Paired};
 
 // The entry of a dart that has no partner.
@@ -36,11 +33,7 @@ fn meet(partner: &mut [u32], queue: &mut [u32], tail: usize, x: u32, y: u32) -> 
         queue[tail] = x;
         return tail + 1;
     }
-    if known == y {
-        tail
-    } else {
-        0
-    }
+    if known == y { tail } else { 0 }
 }
 
 // Link j of x meets link j of y, if bit j of the mask permits it.
@@ -68,7 +61,14 @@ fn follow(
 }
 
 // The links of x meet those of its partner.
-fn expand(table: &[u32], partner: &mut [u32], queue: &mut [u32], from: usize, mask: u32, x: u32) -> usize
+fn expand(
+    table: &[u32],
+    partner: &mut [u32],
+    queue: &mut [u32],
+    from: usize,
+    mask: u32,
+    x: u32,
+) -> usize
     requires { ⌜ Stepping (now table) (now partner) (now queue) from x (getD (now partner) x 4294967295) ⌝ }
     ensures { λ r. ⌜ Adds (Below (now (table .entry)) mask x (getD (now (partner .entry)) x 4294967295) 4)
         (now (partner .entry)) (now (queue .entry)) from (now (partner .exit)) (now (queue .exit)) r ⌝ }
@@ -96,7 +96,7 @@ pub fn pair_up(
     e: u32,
 ) -> bool
     requires { ⌜ Ready (now table) (now partner) (now queue) d e ⌝ }
-    ensures { λ r. ⌜ ((n i : ℕ) → OnSide n (now (table .entry)) i d → OnSide n (now (table .entry)) i e → SideMask n i mask
+    ensures { λ r. ⌜ ((n i : ℕ) → Sides n (now (table .entry)) i mask d e
         → found r (now (partner .exit)) ≡ partners n (now (table .entry)) i d e) ⌝ }
 {
     clear(partner);
