@@ -27,7 +27,7 @@ clash-map f c = record {
   differ = c .differ;
 }
 
--- ---- no couple, the same couples, couples after couples
+-- ---- no new couple, the same couples, couples after couples
 
 grown-none : {C : Couples} {p q : List ℕ} {r : ℕ} → ((a b : ℕ) → C a b → Partner p a b) → Listed p q r → Grown C p q r p q r
 grown-none there l = record {
@@ -41,20 +41,31 @@ grown-none there l = record {
   only = λ a b h. inl h;
 }
 
-module _ {C D E : Couples} (into : (a b : ℕ) → C a b ⊎ D a b → E a b) (of : (a b : ℕ) → E a b → C a b ⊎ D a b) where
-  grown-then : {p q p₁ q₁ p₂ q₂ : List ℕ} {r r₁ r₂ : ℕ} → Grown C p q r p₁ q₁ r₁ → Grown D p₁ q₁ r₁ p₂ q₂ r₂
-      → Grown E p q r p₂ q₂ r₂
-  grown-then {p} {q} {p₂ = p₂} {r = r} {r₁ = r₁} {r₂ = r₂} g h = record {
-    long = h .long ∙ g .long;
-    wide = h .wide ∙ g .wide;
-    more = let a = g .more in let b = h .more in omega arith;
-    listed = h .listed;
-    stays = λ k l. let a = g .more in h .stays k (omega arith) ∙ g .stays k l;
-    keeps = λ a b k. h .keeps a b (g .keeps a b k);
-    holds = λ a b k. ⊎-elim (λ c. h .keeps a b (g .holds a b c)) (λ c. h .holds a b c) (of a b k);
-    only = λ a b k. ⊎-elim (λ m. ⊎-elim inl (λ c. inr (into a b (inl c))) (g .only a b m)) (λ c. inr (into a b (inr c)))
-        (h .only a b k);
-  }
+grown-as : {C D : Couples} → ((a b : ℕ) → C a b → D a b) → ((a b : ℕ) → D a b → C a b)
+    → {p q p₁ q₁ : List ℕ} {r r₁ : ℕ} → Grown C p q r p₁ q₁ r₁ → Grown D p q r p₁ q₁ r₁
+grown-as to of g = record {
+  long = g .long;
+  wide = g .wide;
+  more = g .more;
+  listed = g .listed;
+  stays = g .stays;
+  keeps = g .keeps;
+  holds = λ a b h. g .holds a b (of a b h);
+  only = λ a b h. ⊎-elim inl (λ c. inr (to a b c)) (g .only a b h);
+}
+
+grown-then : {C D : Couples} {p q p₁ q₁ p₂ q₂ : List ℕ} {r r₁ r₂ : ℕ} → Grown C p q r p₁ q₁ r₁ → Grown D p₁ q₁ r₁ p₂ q₂ r₂
+    → Grown (λ a b. C a b ⊎ D a b) p q r p₂ q₂ r₂
+grown-then {r = r} {r₁ = r₁} {r₂ = r₂} g h = record {
+  long = h .long ∙ g .long;
+  wide = h .wide ∙ g .wide;
+  more = let a = g .more in let b = h .more in omega arith;
+  listed = h .listed;
+  stays = λ k l. let a = g .more in h .stays k (omega arith) ∙ g .stays k l;
+  keeps = λ a b k. h .keeps a b (g .keeps a b k);
+  holds = λ a b. ⊎-elim (λ c. h .keeps a b (g .holds a b c)) (λ c. h .holds a b c);
+  only = λ a b k. ⊎-elim (λ m. ⊎-elim inl (λ c. inr (inl c)) (g .only a b m)) (λ c. inr (inr c)) (h .only a b k);
+}
 
 -- ---- one couple
 
@@ -148,24 +159,12 @@ module _ (t : List ℕ) (mask x y j : ℕ) where
   pub by-adds : {a b : ℕ} {p q p′ q′ : List ℕ} {r r′ : ℕ} → bit mask j ≡ true → a ≡ link t j x → b ≡ link t j y
       → Adds (Is a b) p q r p′ q′ r′ → Adds (By t mask x y j) p q r p′ q′ r′
   by-adds {a} {b} take ea eb h = record {
-    grows = λ some. grown-same (h .grows some);
-    fails = λ none. clash-map (λ u v k. ⊎-elim inl (λ i. inr (to u v i)) k) (h .fails none);
+    grows = λ some. grown-as to (λ u v k. (k .is .0 ∙ sym ea, k .is .1 ∙ sym eb)) (h .grows some);
+    fails = λ none. clash-map (λ u v. ⊎-elim inl (λ k. inr (to u v k))) (h .fails none);
   }
     where
       to : (u v : ℕ) → Is a b u v → By t mask x y j u v
-      to u v i = record { permitted = take; is = (i .0 ∙ ea, i .1 ∙ eb) }
-
-      grown-same : {p q p′ q′ : List ℕ} {r r′ : ℕ} → Grown (Is a b) p q r p′ q′ r′ → Grown (By t mask x y j) p q r p′ q′ r′
-      grown-same g = record {
-        long = g .long;
-        wide = g .wide;
-        more = g .more;
-        listed = g .listed;
-        stays = g .stays;
-        keeps = g .keeps;
-        holds = λ u v k. g .holds u v (k .is .0 ∙ sym ea, k .is .1 ∙ sym eb);
-        only = λ u v k. ⊎-elim inl (λ i. inr (to u v i)) (g .only u v k);
-      }
+      to u v k = record { permitted = take; is = (k .0 ∙ ea, k .1 ∙ eb) }
 
   -- the mask does not permit link j
   pub by-none : {p q : List ℕ} {r : ℕ} → bit mask j ≡ false → Listed p q r → 0 < r → Adds (By t mask x y j) p q r p q r
@@ -198,25 +197,25 @@ module _ (t : List ℕ) (mask x y : ℕ) {p q : List ℕ} {r : ℕ} where
   module _ {k : ℕ} {p₁ q₁ p₂ q₂ : List ℕ} {r₁ r₂ : ℕ} (g : Grown (Below t mask x y k) p q r p₁ q₁ r₁)
       (h : Adds (By t mask x y k) p₁ q₁ r₁ p₂ q₂ r₂) where
     pub links-next : r₂ ≢ 0 → Grown (Below t mask x y (k + 1)) p q r p₂ q₂ r₂
-    links-next some = grown-then into of g (h .grows (omega arith))
+    links-next some = grown-as into of (grown-then g (h .grows (omega arith)))
       where
         into : (a b : ℕ) → Below t mask x y k a b ⊎ By t mask x y k a b → Below t mask x y (k + 1) a b
-        into a b = ⊎-elim (λ w. let l = w .low in record { link = w .link; low = omega arith; by = w .by })
-            (λ w. record { link = k; low = omega arith; by = w })
+        into a b = ⊎-elim (λ w. let l = w .low in record { index = w .index; low = omega arith; by = w .by })
+            (λ w. record { index = k; low = omega arith; by = w })
 
         of : (a b : ℕ) → Below t mask x y (k + 1) a b → Below t mask x y k a b ⊎ By t mask x y k a b
-        of a b w = if-eq (w .link) k (λ e. inr (rw e at (w .by)))
-            (λ e. let l = w .low in inl (record { link = w .link; low = omega arith; by = w .by }))
+        of a b w = if-eq (w .index) k (λ e. inr (rw e at (w .by)))
+            (λ e. let l = w .low in inl (record { index = w .index; low = omega arith; by = w .by }))
 
     pub links-stop : k < 4 → r₂ ≡ 0 → Adds (Below t mask x y 4) p q r p₂ q₂ 0
     links-stop low none = record {
       grows = λ l. absurd (omega arith);
       fails = λ _. clash-map (λ a b. ⊎-elim (λ m. ⊎-elim inl (λ w. inr (wider a b w)) (g .only a b m))
-          (λ w. inr (record { link = k; low = low; by = w }))) (h .fails none);
+          (λ w. inr (record { index = k; low = low; by = w }))) (h .fails none);
     }
       where
         wider : (a b : ℕ) → Below t mask x y k a b → Below t mask x y 4 a b
-        wider a b w = let l = w .low in record { link = w .link; low = omega arith; by = w .by }
+        wider a b w = let l = w .low in record { index = w .index; low = omega arith; by = w .by }
 
   pub links-all : {k : ℕ} {p₁ q₁ : List ℕ} {r₁ : ℕ} → k ≡ 4 → 0 < r → Grown (Below t mask x y k) p q r p₁ q₁ r₁
       → Adds (Below t mask x y 4) p q r p₁ q₁ r₁

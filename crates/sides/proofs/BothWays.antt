@@ -6,10 +6,10 @@ use mathlib.Core.List.{List}
 use lib.ListN.{length}
 use Rattle.model.specs.Table.{slots}
 use Rattle.model.specs.Sew.{partners, isPaired, sewTable}
-use Rattle.model.proofs.Maps.Tables.{rule-at}
 use Rattle.model.proofs.Lists.Scan.{clash}
 use Rattle.sides.specs.Given.{Sides, Ready}
 use Rattle.sides.specs.Paired.{found, Paired}
+use Rattle.sides.proofs.Entries.{map-linked}
 
 -- ---- what they ask
 
@@ -19,11 +19,7 @@ sides-back s = record { left = s .right; right = s .left; permits = s .permits }
 pub sides-ready : {n : ℕ} {t p q : List ℕ} {i mask d e : ℕ} → Sides n t i mask d e → length p ≡ slots t → slots t ≤ length q
     → Ready t p q d e
 sides-ready s long room = record {
-  linked = record {
-    fits = s .left .table .whole;
-    few = s .left .table .few;
-    goes = λ x j lives low. rule-at (s .left .table) x lives .goes j low;
-  };
+  linked = map-linked (s .left .table);
   long = long;
   room = room;
   left = s .left .lives;

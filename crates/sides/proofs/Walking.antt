@@ -102,7 +102,9 @@ module _ {t p₀ q₀ : List ℕ} {d e : ℕ} (ready : Ready t p₀ q₀ d e) {p
       wide = refl;
       order = omega arith;
       listed = g .listed;
-      sound = λ a b h. let i = only a b (g .only a b h) in subst₂ (Coupled t (Permitted mask) d e) (sym (i .0)) (sym (i .1)) start;
+      sound = λ a b h.
+          let i = only a b (g .only a b h) in
+          subst₂ (Coupled t (Permitted mask) d e) (sym (i .0)) (sym (i .1)) start;
       first = g .holds d e (refl, refl);
       done = λ k b j l. absurd (omega arith);
     }
@@ -148,7 +150,7 @@ module _ {t q₀ p q : List ℕ} {d e mask r head : ℕ} (w : Walking t mask d e
   -- with the couples of the turn, the set is still that of the walk
   within : head < r → (a b : ℕ) → Partner p a b ⊎ Below t mask x y 4 a b → Coupled t (Permitted mask) d e a b
   within l a b = ⊎-elim (w .sound a b) (λ k. subst₂ (Coupled t (Permitted mask) d e) (sym (k .by .is .0)) (sym (k .by .is .1))
-      (goes (k .link) (record { low = k .low; permitted = k .by .permitted }) (w .sound x y (own l))))
+      (goes (k .index) (record { low = k .low; permitted = k .by .permitted }) (w .sound x y (own l))))
 
   pub turn-fails : head < r → Clash (λ a b. Partner p a b ⊎ Below t mask x y 4 a b) → Clash (Coupled t (Permitted mask) d e)
   turn-fails l = clash-map (within l)
@@ -169,14 +171,20 @@ module _ {t q₀ p q : List ℕ} {d e mask r head : ℕ} (w : Walking t mask d e
       listed = g .listed;
       sound = λ a b h. within l a b (g .only a b h);
       first = g .keeps d e (w .first);
-      done = λ k b j h c s. let o = w .order in rw (g .stays k (omega arith)) (goes-on k b j (omega arith) (rw (g .stays k (omega arith)) at c) s);
+      done = λ k b j h c s.
+          let same = g .stays k (omega arith) in
+          rw same (goes-on k b j (omega arith) (rw same at c) s);
     }
       where
         mine : (k b j : ℕ) → k ≡ head → Partner p (getD q k 0) b → Permitted mask j
             → Partner p′ (link t j (getD q k 0)) (link t j b)
         mine k b j h c s =
             let b-is : y ≡ b = (rw h at c) .is in
-            rw (h, ← b-is) (g .holds _ _ (record { link = j; low = s .low; by = record { permitted = s .permitted; is = (refl, refl) } }))
+            rw (h, ← b-is) (g .holds _ _ (record {
+              index = j;
+              low = s .low;
+              by = record { permitted = s .permitted; is = (refl, refl) };
+            }))
 
         goes-on : (k b j : ℕ) → k ≤ head → Partner p′ (getD q k 0) b → Permitted mask j
             → Partner p′ (link t j (getD q k 0)) (link t j b)
@@ -198,7 +206,8 @@ module _ {n i mask : ℕ} {t : List ℕ} {d e : ℕ} (sides : Sides n t i mask d
   links : SideLinks n i (Permitted mask)
   links = mask-links n i mask (sides .left .table .dim .1) (sides .permits)
 
-  pub walk-finds : {q₀ p q : List ℕ} {r head : ℕ} → Walking t mask d e q₀ p q r head → r ≤ head → found true p ≡ partners n t i d e
+  pub walk-finds : {q₀ p q : List ℕ} {r head : ℕ} → Walking t mask d e q₀ p q r head → r ≤ head
+      → found true p ≡ partners n t i d e
   unfolding found
   walk-finds {p = p} w l =
       sym (partners-least n t i d e (Permitted mask) links (sides .left) (sides .right) p (w .long) (w .sound) (λ x y. all w l))

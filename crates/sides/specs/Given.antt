@@ -1,4 +1,5 @@
--- What the functions ask of the table and of the lent buffers: `Given` of the public ones, the others of those below them.
+-- What the functions ask of the table and of the lent buffers: `Given` for both walks, `Ready` for one, `Stepping` and `Meeting`
+-- for its steps; `SewnAt` and `UnsewnAt` for the links that sew and unsew give.
 use Prim.Native.Nat.{ℕ, _+_, _*_, _≤_, _<_}
 use mathlib.Core.Path.{_≡_}
 use mathlib.Core.Logic.{_≢_}
@@ -64,9 +65,19 @@ pub record Meeting (p q : List ℕ) (r x y : ℕ) : Type 0 where
   pub inside : x < length p
   pub real : y ≢ unused
 
--- ---- for the links of a table that is sewn or unsewn
+-- ---- for the links that sew and unsew give
 
-pub record At (t : List ℕ) (i x : ℕ) : Type 0 where
+-- x is a slot, and the partners have an entry for it
+pub record SewnAt (t there back : List ℕ) (i x : ℕ) : Type 0 where
+  pub fits : length t ≡ 4 * slots t
+  pub long-there : length there ≡ slots t
+  pub long-back : length back ≡ slots t
+  pub index : i < 4
+  pub inside : x < slots t
+
+-- x is a live slot, and the marks have one for each slot
+pub record UnsewnAt (t marks : List ℕ) (i x : ℕ) : Type 0 where
   pub linked : Linked t
+  pub long : length marks ≡ slots t
   pub index : i < 4
   pub lives : live t x ≡ true

@@ -63,6 +63,6 @@ pub record By (t : List ℕ) (mask x y j a b : ℕ) : Type 0 where
 
 -- the same for the links below k
 pub record Below (t : List ℕ) (mask x y k a b : ℕ) : Type 0 where
-  pub link : ℕ
-  pub low : link < k
-  pub by : By t mask x y link a b
+  pub index : ℕ
+  pub low : index < k
+  pub by : By t mask x y index a b

@@ -2,10 +2,9 @@
 ghost use mathlib.Core.Path.{_≡_};
 ghost use Prim.Native.Nat.{ℕ, _<_};
 ghost use lib.ListN.{length, getD, replicate};
-ghost use Rattle.model.specs.Table.{slots};
 ghost use Rattle.model.specs.Sew.{partners, sewnLink, unsewnLink};
 ghost use Rattle.sides.specs.Walk.{Adds, Is, By, Below};
-ghost use Rattle.sides.specs.Given.{Sides, Given, Ready, Stepping, Meeting, At};
+ghost use Rattle.sides.specs.Given.{Sides, Given, Ready, Stepping, Meeting, SewnAt, UnsewnAt};
 ghost use Rattle.sides.specs.Paired.{found, Paired};
 
 // The entry of a dart that has no partner.
@@ -25,7 +24,8 @@ fn clear(partner: &mut [u32])
 // The dart x, if it has no partner yet, gets the partner y and goes behind the queue's words. 0 if it has another partner.
 fn meet(partner: &mut [u32], queue: &mut [u32], tail: usize, x: u32, y: u32) -> usize
     requires { ⌜ Meeting (now partner) (now queue) tail x y ⌝ }
-    ensures { λ r. ⌜ Adds (Is x y) (now (partner .entry)) (now (queue .entry)) tail (now (partner .exit)) (now (queue .exit)) r ⌝ }
+    ensures { λ r. ⌜ Adds (Is x y)
+        (now (partner .entry)) (now (queue .entry)) tail (now (partner .exit)) (now (queue .exit)) r ⌝ }
 {
     let known = partner[x as usize];
     if known == UNUSED {
@@ -137,7 +137,7 @@ pub fn pair_sides(
 
 // Link i of x after sew, from the partners there and back.
 pub fn sewn_link(table: &[u32], there: &[u32], back: &[u32], i: u32, x: u32) -> u32
-    requires { ⌜ (At (now table) i x) × (length (now there) ≡ slots (now table)) × (length (now back) ≡ slots (now table)) ⌝ }
+    requires { ⌜ SewnAt (now table) (now there) (now back) i x ⌝ }
     ensures { λ r. ⌜ r ≡ sewnLink (now (table .entry)) i (now (there .entry)) (now (back .entry)) x ⌝ }
 {
     let y = there[x as usize];
@@ -153,7 +153,7 @@ pub fn sewn_link(table: &[u32], there: &[u32], back: &[u32], i: u32, x: u32) -> 
 
 // Link i of x after unsew, from the marks of a side.
 pub fn unsewn_link(table: &[u32], side: &[u8], i: u32, x: u32) -> u32
-    requires { ⌜ (At (now table) i x) × (length (now side) ≡ slots (now table)) ⌝ }
+    requires { ⌜ UnsewnAt (now table) (now side) i x ⌝ }
     ensures { λ r. ⌜ r ≡ unsewnLink (now (table .entry)) i (now (side .entry)) x ⌝ }
 {
     let y = reading::link_in(table, i as usize, x);

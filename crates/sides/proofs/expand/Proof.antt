@@ -78,7 +78,8 @@ returns c =
     let a = called f .before in
     let p = start a in
     rw (← (read p))
-    (links-stop (p .args .table .now) (p .args .mask) (p .args .x) _ (a .loop .inv .1) (f .follow .ensures) (omega arith) (c .if1 .taken))
+    (links-stop (p .args .table .now) (p .args .mask) (p .args .x) _ (a .loop .inv .1) (f .follow .ensures) (omega arith)
+    (c .if1 .taken))
 
 add-j : tie.Need-add-j Inv-loop μ-loop
 add-j c = omega arith

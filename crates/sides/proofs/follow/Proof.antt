@@ -2,7 +2,7 @@
 use borrow.Author.Tests.{eq-eqb, ne-eqb}
 use borrow.Author.Needs.{needs}
 use Rattle.model.specs.Orbit.{bit}
-use Rattle.sides.proofs.Entries.{entry-in, step-meets}
+use Rattle.sides.proofs.Entries.{live-entry, step-meets}
 use Rattle.sides.proofs.Adding.{by-adds, by-none}
 use Rattle.sides.proofs.follow.Statement.{statement}
 use Rattle.sides.proofs.follow.Tie as tie
@@ -14,13 +14,13 @@ link-in-requires : tie.Need-link-in-requires
 link-in-requires c κs =
     let p = c .before .before .before .before in
     let s = p .pre .0 .ready in
-    entry-in (s .linked) (p .args .x) (p .args .j) (s .left) (p .pre .1)
+    live-entry (s .linked) (p .args .x) (p .args .j) (s .left) (p .pre .1)
 
 link-in-requires-2 : tie.Need-link-in-requires-2
 link-in-requires-2 c κs =
     let p = c .before .before .before .before .before in
     let s = p .pre .0 .ready in
-    entry-in (s .linked) (p .args .y) (p .args .j) (s .right) (p .pre .1)
+    live-entry (s .linked) (p .args .y) (p .args .j) (s .right) (p .pre .1)
 
 meet-requires : tie.Need-meet-requires
 meet-requires c κs =

@@ -3,21 +3,16 @@ use Prim.Native.Nat.{_<_}
 use mathlib.Core.Path.{_∙_}
 use lib.ListN.{length}
 use borrow.Author.Needs.{needs}
-use Rattle.model.specs.Table.{slots}
-use Rattle.model.proofs.Maps.Rules.{live-in}
 use Rattle.sides.proofs.Entries.{entry-in}
 use Rattle.sides.proofs.Relinked.{sewn-there, sewn-back, sewn-own}
 use Rattle.sides.proofs.sewn_link.Statement.{statement}
 use Rattle.sides.proofs.sewn_link.Tie as tie
 
-x-low : (p : tie.Start) → p .args .x < slots (p .args .table .now)
-x-low p = live-in (p .args .table .now) (p .args .x) (p .pre .0 .linked .fits) (p .pre .0 .lives)
-
 there-in : (p : tie.Start) → p .args .x < length (p .args .there .now)
-there-in p = rw (p .pre .1) (x-low p)
+there-in p = rw (p .pre .long-there) (p .pre .inside)
 
 back-in : (p : tie.Start) → p .args .x < length (p .args .back .now)
-back-in p = rw (p .pre .2) (x-low p)
+back-in p = rw (p .pre .long-back) (p .pre .inside)
 
 mul-y : tie.Need-mul-y
 mul-y c = search needs
@@ -41,13 +36,14 @@ returns-2 : tie.Need-returns-2
 returns-2 c =
     let p = c .before .before .before .before .before .before .before in
     let a = p .args in
-    sewn-back (a .table .now) (a .there .now) (a .back .now) (a .i) (a .x) (there-in p) (back-in p) (c .before .before .if1 .left) (c .if2 .taken)
+    sewn-back (a .table .now) (a .there .now) (a .back .now) (a .i) (a .x) (there-in p) (back-in p)
+    (c .before .before .if1 .left) (c .if2 .taken)
 
 link-in-requires : tie.Need-link-in-requires
 link-in-requires c κs =
     let p = c .before .before .before .before .before .before .before in
-    let h = p .pre .0 in
-    entry-in (h .linked) (p .args .x) (p .args .i) (h .lives) (h .index)
+    let h = p .pre in
+    entry-in (p .args .table .now) (p .args .x) (p .args .i) (h .fits) (h .inside) (h .index)
 
 returns-3 : tie.Need-returns-3
 returns-3 c =

@@ -3,8 +3,7 @@ use mathlib.Core.Path.{_∙_}
 use borrow.Author.Needs.{needs}
 use Rattle.model.specs.Reach.{inSet}
 use Rattle.model.specs.Sew.{unsews}
-use Rattle.model.proofs.Maps.Rules.{live-in}
-use Rattle.sides.proofs.Entries.{entry-in, link-low}
+use Rattle.sides.proofs.Entries.{live-low, live-entry, link-low}
 use Rattle.sides.proofs.Relinked.{unsewn-free, unsewn-own}
 use Rattle.sides.proofs.unsewn_link.Statement.{statement}
 use Rattle.sides.proofs.unsewn_link.Tie as tie
@@ -12,13 +11,14 @@ use Rattle.sides.proofs.unsewn_link.Tie as tie
 link-in-requires : tie.Need-link-in-requires
 link-in-requires c κs =
     let p = c .before .before in
-    let h = p .pre .0 in
-    entry-in (h .linked) (p .args .x) (p .args .i) (h .lives) (h .index)
+    let h = p .pre in
+    live-entry (h .linked) (p .args .x) (p .args .i) (h .lives) (h .index)
 
 shared-slice-read-if1 : tie.Need-shared-slice-read-if1
 shared-slice-read-if1 c =
     let p = c .before .before .before .before in
-    rw (p .pre .1) (live-in (p .args .table .now) (p .args .x) (p .pre .0 .linked .fits) (p .pre .0 .lives))
+    let h = p .pre in
+    rw (h .long) (live-low (h .linked) (p .args .x) (p .args .i) (h .lives) (h .index))
 
 cast-if1 : tie.Need-cast-if1
 cast-if1 c = search needs
@@ -27,8 +27,8 @@ shared-slice-read-if1-2 : tie.Need-shared-slice-read-if1-2
 shared-slice-read-if1-2 c =
     let l = c .before .before in
     let p = l .before .before .before in
-    let h = p .pre .0 in
-    rw (p .pre .1, l .link-in .ensures) (link-low (h .linked) (p .args .x) (p .args .i) (h .lives) (h .index))
+    let h = p .pre in
+    rw (h .long, l .link-in .ensures) (link-low (h .linked) (p .args .x) (p .args .i) (h .lives) (h .index))
 
 returns : tie.Need-returns
 unfolding unsews inSet
