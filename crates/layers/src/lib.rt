@@ -1,15 +1,20 @@
 // The links that remove, add and split give a dart, one entry at a time.
 use reading::link;
+use reading::live;
+use reading::slots;
 ghost use mathlib.Core.Path.{_≡_};
 ghost use mathlib.Core.Bool.{false};
 ghost use mathlib.Core.List.{[], _∷_};
-ghost use Prim.Native.Nat.{_<_};
-ghost use Rattle.model.specs.Checks.{pass, dimOk};
-ghost use Rattle.model.specs.Table.{slots, link, walk};
+ghost use Prim.Native.Nat.{_≤_, _<_, min};
+ghost use lib.ListN.{length, getD, take, set};
+ghost use Rattle.model.specs.Lists.{ones, indexOf};
+ghost use Rattle.model.specs.Checks.{pass, dimOk, tableOk};
+ghost use Rattle.model.specs.Table.{slots, link, walk, unusedSlots};
 ghost use Rattle.model.specs.Remove.{opposite, marked, outside, removedLink};
 ghost use Rattle.model.specs.Cell.{cellSize};
 ghost use Rattle.model.specs.Numbering.{corners, firstBit, swapFirst, swapLast, cellLink};
 ghost use Rattle.model.specs.Meaning.Walks.{Layer};
+ghost use Rattle.layers.specs.Ranks.{Ranked, Lists, Entered};
 ghost use Rattle.layers.specs.Orders.{orders};
 
 // The entry of an unused slot.
@@ -22,16 +27,12 @@ const LAST_TWO: [u32; 6] = [1, 0, 3, 2, 5, 4];
 
 // ---- remove
 
-// Whether x has the mark 1 or 2.
-fn marked(marks: &[u8], x: u32) -> bool
-    ensures { λ r. ⌜ r ≡ marked (now (marks .entry)) x ⌝ }
+// The mark of x; past the marks 0.
+fn mark(marks: &[u8], x: u32) -> u8
+    ensures { λ r. ⌜ r ≡ getD (now (marks .entry)) x 0 ⌝ }
 {
     let at = x as usize;
-    if at < marks.len() {
-        marks[at] != 0
-    } else {
-        false
-    }
+    if at < marks.len() { marks[at] } else { 0 }
 }
 
 // The opposite edge 1.0.1 of y.
@@ -61,7 +62,7 @@ pub fn first_outside(n: u32, table: &[u32], marks: &[u8], x: u32) -> u32
 {
     let mut y = link(table, n as usize, x);
     loop {
-        if !marked(marks, y) {
+        if mark(marks, y) == 0 {
             break y;
         }
         y = link(table, n as usize, opposite(n, table, y));
@@ -74,13 +75,74 @@ pub fn removed_link(n: u32, table: &[u32], marks: &[u8], x: u32, j: u32) -> u32
     requires { ⌜ j < 4 ⌝ }
     ensures { λ r. ⌜ r ≡ removedLink n (now (table .entry)) (now (marks .entry)) x j ⌝ }
 {
-    if marked(marks, x) {
+    if mark(marks, x) != 0 {
         UNUSED
     } else if j == n {
         first_outside(n, table, marks, x)
     } else {
         link(table, j as usize, x)
     }
+}
+
+// ---- slots listed with their ranks
+
+// Where x is listed, it becomes the word r and r its rank; how many are listed then.
+fn enter(words: &mut [u32], rank: &mut [u32], r: u32, x: u32, listed: bool) -> u32
+    requires { ⌜ (r < 65536) × (r < length (now words)) × (x < length (now rank)) ⌝ }
+    ensures { λ s. ⌜ Entered listed r x s (now (words .entry)) (now (words .exit)) (now (rank .entry)) (now (rank .exit)) ⌝ }
+{
+    if listed {
+        words[r as usize] = x;
+        rank[x as usize] = r;
+        r + 1
+    } else {
+        r
+    }
+}
+
+// Lists the darts with the mark 1, rising; how many they are.
+pub fn list_marked(marks: &[u8], darts: &mut [u32], rank: &mut [u32]) -> u32
+    requires { ⌜ length (now marks) ≤ 65536 ⌝ }
+    requires { ⌜ (length (now marks) ≤ length (now darts)) × (length (now marks) ≤ length (now rank)) ⌝ }
+    ensures { λ r. ⌜ Lists (ones (now (marks .entry))) r (now (darts .entry)) (now (darts .exit)) (now (rank .entry)) (now (rank .exit)) ⌝ }
+{
+    let mut r: u32 = 0;
+    for x in 0..marks.len() {
+        r = enter(darts, rank, r, x as u32, marks[x] == 1);
+    }
+    r
+}
+
+// Lists the lowest unused slots, rising, at most `want` of them; how many they are.
+pub fn list_unused(table: &[u32], fresh: &mut [u32], rank: &mut [u32], want: u32) -> u32
+    requires { ⌜ tableOk (now table) ≡ pass ⌝ }
+    requires { ⌜ (min want (slots (now table)) ≤ length (now fresh)) × (slots (now table) ≤ length (now rank)) ⌝ }
+    ensures { λ r. ⌜ Lists (take want (unusedSlots (now (table .entry)))) r (now (fresh .entry)) (now (fresh .exit)) (now (rank .entry)) (now (rank .exit)) ⌝ }
+{
+    let end = slots(table);
+    let mut r: u32 = 0;
+    let mut x: u32 = 0;
+    while (x < end) & (r < want) {
+        r = enter(fresh, rank, r, x, !live(table, x));
+        x += 1;
+    }
+    r
+}
+
+// The place of x among the first `size` words, or size: the word at its rank is x only if it is listed.
+fn index_of(words: &[u32], rank: &[u32], size: u32, x: u32) -> u32
+    requires { ⌜ Ranked size (now words) (now rank) ⌝ }
+    ensures { λ r. ⌜ r ≡ indexOf x (take size (now (words .entry))) ⌝ }
+{
+    let at = x as usize;
+    if at >= rank.len() {
+        return size;
+    }
+    let r = rank[at];
+    if r >= size {
+        return size;
+    }
+    if words[r as usize] == x { r } else { size }
 }
 
 // ---- add

@@ -3,12 +3,11 @@
 use mathlib.Core.Path.{_≡_, refl, sym, ap, _∙_}
 use native.Mathlib.Omega.{arith}
 use borrow.Author.Needs.{needs}
-use borrow.Author.Tests.{not-true, not-false}
 use Rattle.model.specs.Table.{slots, link}
 use Rattle.model.specs.Remove.{marked, outside}
 use Rattle.model.specs.Meaning.Walks.{hop}
 use Rattle.model.proofs.Operations.Frame.{outside-stops}
-use Rattle.layers.proofs.Walk.{hops, Ends, Nearer, hop-nearer, walk-out}
+use Rattle.layers.proofs.Walk.{marked-by, unmarked-by, hops, Ends, Nearer, hop-nearer, walk-out}
 use Rattle.layers.proofs.first_outside.Statement.{statement}
 use Rattle.layers.proofs.first_outside.Tie as tie
 
@@ -29,8 +28,8 @@ loop-holds c =
     let at = c .link .ensures in
     rw at (refl, walk-out (s .pre .0) (s .args .x) (s .pre .1))
 
-marked-requires : tie.Need-marked-requires Inv-loop μ-loop
-marked-requires c κs = search needs
+mark-requires : tie.Need-mark-requires Inv-loop μ-loop
+mark-requires c κs = search needs
 
 opposite-requires : tie.Need-opposite-requires Inv-loop μ-loop
 opposite-requires c κs = search needs
@@ -50,7 +49,7 @@ nearer c =
     let e = c .before .before in
     let l = e .before .before in
     let a = l .before .before .before .before .args in
-    let inside = sym (e .before .marked .ensures) ∙ not-false _ (e .if1 .left) in
+    let inside = marked-by (a .marks .now) (l .loop .y) _ (e .before .mark .ensures) (e .if1 .left) in
     rw (c .link2 .ensures, c .before .opposite .ensures)
     (hop-nearer (a .n) (a .table .now) (a .marks .now) (slots (a .table .now)) (l .loop .y) (l .loop .inv .1) inside)
 
@@ -67,7 +66,7 @@ returns : tie.Need-returns Inv-loop μ-loop
 returns c =
     let l = c .before .before in
     let s = l .before .before .before .before in
-    let out = sym (c .before .marked .ensures) ∙ not-true _ (c .if1 .taken) in
+    let out = unmarked-by (s .args .marks .now) (l .loop .y) _ (c .before .mark .ensures) (c .if1 .taken) in
     sym (outside-stops _ _ _ (slots (s .args .table .now)) (l .loop .y) out) ∙ l .loop .inv .0
 
 pub first-outside-spec : {M : Type 1} → statement M
@@ -78,7 +77,7 @@ first-outside-spec =
     μ-loop
     link-requires
     loop-holds
-    marked-requires
+    mark-requires
     opposite-requires
     link-requires-2
     loop-less
