@@ -28,8 +28,11 @@ index-most x [] = omega arith
 index-most x (y ∷ l) = let rec = index-most x l in test (eqb x y) (λ e. rw (e, indexOf) (omega arith)) (λ e. rw (e, indexOf) (omega arith))
 
 module _ {size : ℕ} {words rank : List ℕ} (R : Ranked size words rank) where
-  front-long : length (take size words) ≡ size
+  pub front-long : length (take size words) ≡ size
   front-long = length-take-le size words (R .long)
+
+  pub index-few : (x : ℕ) → indexOf x (take size words) ≤ size
+  index-few x = let long = front-long in let most = index-most x (take size words) in omega arith
 
   -- a listed slot has a rank, which is its place
   ranked-in : (x : ℕ) → In x (take size words)

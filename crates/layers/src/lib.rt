@@ -5,16 +5,18 @@ use reading::slots;
 ghost use mathlib.Core.Path.{_≡_};
 ghost use mathlib.Core.Bool.{false};
 ghost use mathlib.Core.List.{[], _∷_};
-ghost use Prim.Native.Nat.{_≤_, _<_, min};
+ghost use Prim.Native.Nat.{ℕ, _*_, _/_, _%_, _≤_, _<_, min};
 ghost use lib.ListN.{length, getD, take, set};
 ghost use Rattle.model.specs.Lists.{ones, indexOf};
 ghost use Rattle.model.specs.Checks.{pass, dimOk, tableOk};
 ghost use Rattle.model.specs.Table.{slots, link, walk, unusedSlots};
 ghost use Rattle.model.specs.Remove.{opposite, marked, outside, removedLink};
 ghost use Rattle.model.specs.Cell.{cellSize};
+ghost use Rattle.model.specs.Add.{addedLink};
+ghost use Rattle.model.specs.Split.{crosses, newDart, newDartLink, halvedLink};
 ghost use Rattle.model.specs.Numbering.{corners, firstBit, swapFirst, swapLast, cellLink};
 ghost use Rattle.model.specs.Meaning.Walks.{Layer};
-ghost use Rattle.layers.specs.Ranks.{Ranked, Lists, Entered};
+ghost use Rattle.layers.specs.Ranks.{Ranked, Lists, Entered, Halving};
 ghost use Rattle.layers.specs.Orders.{orders};
 
 // The entry of an unused slot.
@@ -198,4 +200,191 @@ pub fn cell_link(n: u32, i: u32, k: u32) -> u32
         order = swap_last(order);
     }
     corners * order + vertex
+}
+
+// Link i of the slot d after add, where the first `size` words of fresh are the slots of the new cell.
+pub fn added_link(
+    n: u32,
+    table: &[u32],
+    fresh: &[u32],
+    rank: &[u32],
+    size: u32,
+    d: u32,
+    i: u32,
+) -> u32
+    requires { ⌜ (dimOk n ≡ pass) × (size ≡ cellSize n) × (i < 4) ⌝ }
+    requires { ⌜ Ranked size (now fresh) (now rank) ⌝ }
+    ensures { λ r. ⌜ r ≡ addedLink n (now (table .entry)) (take size (now (fresh .entry))) d i ⌝ }
+{
+    let k = index_of(fresh, rank, size, d);
+    if k < size {
+        fresh[cell_link(n, i, k) as usize]
+    } else {
+        link(table, i as usize, d)
+    }
+}
+
+// ---- split
+
+// Whether the link 1 of one of the first `size` darts has the mark 1.
+pub fn crosses(table: &[u32], marks: &[u8], darts: &[u32], size: u32) -> bool
+    requires { ⌜ size ≤ length (now darts) ⌝ }
+    ensures { λ r. ⌜ r ≡ crosses (now (table .entry)) (now (marks .entry)) (take size (now (darts .entry))) ⌝ }
+{
+    for k in 0..size {
+        if mark(marks, link(table, 1, darts[k as usize])) == 1 {
+            return true;
+        }
+    }
+    false
+}
+
+// The new dart of g: a where role is 0, b where it is 1, c where it is 2.
+fn new_dart(n: u32, darts: &[u32], fresh: &[u32], rank: &[u32], size: u32, role: u32, g: u32) -> u32
+    requires { ⌜ (Halving n size (now darts) (now fresh) (now rank)) × (role < 3) ⌝ }
+    ensures { λ r. ⌜ r ≡ newDart n (take size (now (darts .entry))) (take (n * size) (now (fresh .entry))) role g ⌝ }
+{
+    let k = n * index_of(darts, rank, size, g) + role;
+    if k < n * size {
+        fresh[k as usize]
+    } else {
+        UNUSED
+    }
+}
+
+// Link j of x, which is a(g).
+fn a_link(
+    n: u32,
+    table: &[u32],
+    darts: &[u32],
+    fresh: &[u32],
+    rank: &[u32],
+    size: u32,
+    x: u32,
+    g: u32,
+    j: u32,
+) -> u32
+    requires { ⌜ (Halving n size (now darts) (now fresh) (now rank)) × (j < 4) ⌝ }
+    ensures { λ r. ⌜ r ≡ newDartLink n (now (table .entry)) (take size (now (darts .entry))) (take (n * size) (now (fresh .entry))) x g 0 j ⌝ }
+{
+    if j == 0 {
+        g
+    } else if j == 1 {
+        new_dart(n, darts, fresh, rank, size, 1, g)
+    } else if j == 2 {
+        new_dart(n, darts, fresh, rank, size, 0, link(table, 2, g))
+    } else if n == 3 {
+        new_dart(n, darts, fresh, rank, size, 0, link(table, 3, g))
+    } else {
+        x
+    }
+}
+
+// Link j of x, which is b(g).
+fn b_link(
+    n: u32,
+    table: &[u32],
+    darts: &[u32],
+    fresh: &[u32],
+    rank: &[u32],
+    size: u32,
+    x: u32,
+    g: u32,
+    j: u32,
+) -> u32
+    requires { ⌜ (Halving n size (now darts) (now fresh) (now rank)) × (j < 4) ⌝ }
+    ensures { λ r. ⌜ r ≡ newDartLink n (now (table .entry)) (take size (now (darts .entry))) (take (n * size) (now (fresh .entry))) x g 1 j ⌝ }
+{
+    if j == 0 {
+        new_dart(n, darts, fresh, rank, size, 1, opposite_edge(table, g))
+    } else if j == 1 {
+        new_dart(n, darts, fresh, rank, size, 0, g)
+    } else if n == 3 {
+        if j == 2 {
+            new_dart(n, darts, fresh, rank, size, 2, g)
+        } else {
+            new_dart(n, darts, fresh, rank, size, 1, link(table, 3, g))
+        }
+    } else if j == 2 {
+        new_dart(n, darts, fresh, rank, size, 1, link(table, 0, g))
+    } else {
+        x
+    }
+}
+
+// Link j of c(g).
+fn c_link(
+    n: u32,
+    table: &[u32],
+    darts: &[u32],
+    fresh: &[u32],
+    rank: &[u32],
+    size: u32,
+    g: u32,
+    j: u32,
+) -> u32
+    requires { ⌜ (Halving n size (now darts) (now fresh) (now rank)) × (j < 4) ⌝ }
+    ensures { λ r. ⌜ ((x : ℕ) → r ≡ newDartLink n (now (table .entry)) (take size (now (darts .entry))) (take (n * size) (now (fresh .entry))) x g 2 j) ⌝ }
+{
+    if j == 0 {
+        new_dart(n, darts, fresh, rank, size, 2, opposite_edge(table, g))
+    } else if j == 1 {
+        new_dart(n, darts, fresh, rank, size, 2, link(table, 2, g))
+    } else if j == 2 {
+        new_dart(n, darts, fresh, rank, size, 1, g)
+    } else {
+        new_dart(n, darts, fresh, rank, size, 2, link(table, 0, g))
+    }
+}
+
+// Link j of x, which is the k-th new dart.
+fn new_link(
+    n: u32,
+    table: &[u32],
+    darts: &[u32],
+    fresh: &[u32],
+    rank: &[u32],
+    size: u32,
+    x: u32,
+    k: u32,
+    j: u32,
+) -> u32
+    requires { ⌜ (Halving n size (now darts) (now fresh) (now rank)) × (k < n * size) × (j < 4) ⌝ }
+    ensures { λ r. ⌜ r ≡ newDartLink n (now (table .entry)) (take size (now (darts .entry))) (take (n * size) (now (fresh .entry))) x (getD (take size (now (darts .entry))) (k / n) 0) (k % n) j ⌝ }
+{
+    let g = darts[(k / n) as usize];
+    let role = k % n;
+    if role == 0 {
+        a_link(n, table, darts, fresh, rank, size, x, g, j)
+    } else if role == 1 {
+        b_link(n, table, darts, fresh, rank, size, x, g, j)
+    } else {
+        c_link(n, table, darts, fresh, rank, size, g, j)
+    }
+}
+
+// Link j of the slot x after split, where the first `size` words of darts are the darts of S, and the first n * size words of
+// fresh the new darts.
+pub fn split_link(
+    n: u32,
+    table: &[u32],
+    darts: &[u32],
+    fresh: &[u32],
+    rank: &[u32],
+    size: u32,
+    x: u32,
+    j: u32,
+) -> u32
+    requires { ⌜ (Halving n size (now darts) (now fresh) (now rank)) × (j < 4) ⌝ }
+    ensures { λ r. ⌜ r ≡ halvedLink n (now (table .entry)) (take size (now (darts .entry))) (take (n * size) (now (fresh .entry))) x j ⌝ }
+{
+    let new = n * size;
+    let k = index_of(fresh, rank, new, x);
+    if k < new {
+        new_link(n, table, darts, fresh, rank, size, x, k, j)
+    } else if (j == 0) & (index_of(darts, rank, size, x) < size) {
+        new_dart(n, darts, fresh, rank, size, 0, x)
+    } else {
+        link(table, j as usize, x)
+    }
 }
