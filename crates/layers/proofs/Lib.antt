@@ -2,3 +2,4 @@ pub mod Walk
 pub mod Ranks
 pub mod Orders
 pub mod Halves
+pub mod Sheets

@@ -64,14 +64,15 @@ module _ {size : ℕ} {words rank : List ℕ} (R : Ranked size words rank) where
 
 -- ---- one more slot
 
+pub listed-in : {l : List ℕ} {r : ℕ} {words₀ words rank₀ rank : List ℕ} → Lists l r words₀ words rank₀ rank
+    → (k : ℕ) → k < r → In (getD words k 0) l
+listed-in {l} {r} {words₀} {words} L k low =
+    let size = L .size in
+    let i = getD-in l k 0 (omega arith) in
+    in-cast (sym (getD-take r words k 0 low) ∙ ap (λ (m : List ℕ). getD m k 0) (L .front)) i
+
 module _ {l : List ℕ} {r x : ℕ} {words₀ words rank₀ rank : List ℕ} (L : Lists l r words₀ words rank₀ rank) (new : In x l → ⊥)
     (room : r < length words) (known : x < length rank) where
-  listed-in : (k : ℕ) → k < r → In (getD words k 0) l
-  listed-in k low =
-      let size = L .size in
-      let i = getD-in l k 0 (omega arith) in
-      in-cast (sym (getD-take r words k 0 low) ∙ ap (λ (m : List ℕ). getD m k 0) (L .front)) i
-
   -- the word and the rank that stand at k, the last one or one before
   last-at : getD (set words r x) r 0 ≡ x
   last-at = getD-set-same words r x 0 room
@@ -88,7 +89,7 @@ module _ {l : List ℕ} {r x : ℕ} {words₀ words rank₀ rank : List ℕ} (L 
       inside = λ k low. rw length-set (if-eq k r (λ e. rw (e, last-at) known) (λ e.
           rw (before-at k (omega arith)) (L .ranked .inside k (omega arith))));
       place = λ k low. if-eq k r (λ e. rw (e, last-at) (getD-set-same rank x r 0 known)) (λ e.
-          let other : getD words k 0 ≢ x = λ q. new (in-cast (sym q) (listed-in k (omega arith))) in
+          let other : getD words k 0 ≢ x = λ q. new (in-cast (sym q) (listed-in L k (omega arith))) in
           rw (before-at k (omega arith)) (getD-set-other rank x (getD words k 0) r 0 other ∙ L .ranked .place k (omega arith)));
     };
     long = length-set words r x ∙ L .long;
