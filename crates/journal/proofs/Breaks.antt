@@ -105,25 +105,8 @@ module _ (j : List ℕ) (w left : ℕ) (some : zero < left) where
 
 -- ---- what the tests say where all are passed
 
-record Passed (a b c d e : Bool) : Type 0 where
-  first : a ≡ true
-  second : b ≡ true
-  third : c ≡ true
-  fourth : d ≡ true
-  fifth : e ≡ true
-
-passed : (a b c d e : Bool) → (a && b && c && d && e) ≡ true → Passed a b c d e
-passed a b c d e h =
-    let abcd = and-l (a && b && c && d) e h in
-    let abc = and-l (a && b && c) d abcd in
-    let ab = and-l (a && b) c abc in
-    record {
-      first = and-l a b ab;
-      second = and-r a b ab;
-      third = and-r (a && b) c abc;
-      fourth = and-r (a && b && c) d abcd;
-      fifth = and-r (a && b && c && d) e h;
-    }
+both : (a b : Bool) → (a && b) ≡ true → (a ≡ true) × (b ≡ true)
+both a b h = (and-l a b h, and-r a b h)
 
 pub record Sound (redo : Bool) (t : List ℕ) (e : ℕ) (c : Change) (cs : List Change) : Type 0 where
   pub rising : e ≤ c .entry
@@ -134,13 +117,11 @@ pub record Sound (redo : Bool) (t : List ℕ) (e : ℕ) (c : Change) (cs : List 
 pub sound-parts : (redo : Bool) (t : List ℕ) (e : ℕ) (c : Change) (cs : List Change)
     → sound redo t e (c ∷ cs) ≡ true → Sound redo t e c cs
 sound-parts redo t e c cs h =
-    let p = passed _ _ _ _ _ (sym (sound-tests redo t e c cs) ∙ h) in
-    record {
-      rising = leb-true _ _ (p .first);
-      inside = ltb-true _ _ (p .second);
-      held = eqb-true _ _ (p .fourth);
-      rest = p .fifth;
-    }
+    let (tests, rest) = both _ _ (sym (sound-tests redo t e c cs) ∙ h) in
+    let (apart, held) = both _ _ tests in
+    let (placed, differs) = both _ _ apart in
+    let (rising, inside) = both _ _ placed in
+    record { rising = leb-true _ _ rising; inside = ltb-true _ _ inside; held = eqb-true _ _ held; rest = rest }
 
 -- an unbroken record ends within the words that stand, and is sound
 pub record Unbroken (redo : Bool) (t j : List ℕ) (a k : ℕ) : Type 0 where
@@ -150,9 +131,11 @@ pub record Unbroken (redo : Bool) (t j : List ℕ) (a k : ℕ) : Type 0 where
 pub unbroken-parts : (redo : Bool) (t j : List ℕ) (a k : ℕ) → unbroken redo t j a k ≡ true → Unbroken redo t j a k
 unfolding unbroken
 unbroken-parts redo t j a k h =
+    let placed = not (eqb k 0) && leb 2 a in
+    let fits = leb (a + (3 * k + 2)) (end j) in
     let counts = eqb (getD j a 0) (getD j (a + (3 * k + 1)) 0) in
-    let p = passed (not (eqb k 0)) (leb 2 a) (leb (a + (3 * k + 2)) (end j)) counts (sound redo t 0 (changesAt j a k)) h in
-    record { fits = leb-true _ _ (p .third); sounds = p .fifth }
+    let (tests, sounds) = both (placed && fits && counts) (sound redo t 0 (changesAt j a k)) h in
+    record { fits = leb-true _ _ (and-r placed fits (and-l (placed && fits) counts tests)); sounds = sounds }
 
 -- the entries of a sound record lie in the table
 pub sound-within : (redo : Bool) (t : List ℕ) (e : ℕ) (cs : List Change) → sound redo t e cs ≡ true → within (length t) cs ≡ true

@@ -79,26 +79,30 @@ module _ (j : List ℕ) (cs : List Change) where
       (sym (drop-drop 3 stop (drafted j cs)) ∙ ap (drop 3) (drop-at front (drop stop j) stop f) ∙ drop-drop 3 stop j)
       ∙ rw (triples-append cs (c ∷ []), q, append-assoc (take (suc (cursor j)) j) (triples cs) vs)
 
+  -- the two words around the triples
+  draft-words : cursor j + (3 * length cs + 2) ≤ length j
+      → drafted j cs ≡ take (cursor j) j ++ (getD j (cursor j) 0 ∷ (triples cs ++ getD j stop 0 ∷ drop (suc stop) j))
+  unfolding drafted
+  draft-words h = rw (take-suc j (cursor j) 0 (omega arith), drop-cons j stop 0 (omega arith)) (simp append-assoc)
+
   -- the two counts make the words of the record
   counted : cursor j + (3 * length cs + 2) ≤ length j
       → set (set (drafted j cs) (cursor j) (length cs)) (cursor j + (3 * length cs + 1)) (length cs)
       ≡ take (cursor j) j ++ recordOf cs ++ drop (cursor j + (3 * length cs + 2)) j
-  unfolding drafted recordOf
+  unfolding recordOf
   counted h =
       let c = cursor j in
       let n = length cs in
-      let x = getD j c 0 in
       let y = getD j stop 0 in
       let behind = drop (suc stop) j in
       let l = length-take-le c j (omega arith) in
       let f = length-triples cs in
       let a = length-append (take c j) (n ∷ triples cs) in
       let q : c + (3 * n + 2) ≡ suc stop = omega arith in
-      let words : drafted j cs ≡ take c j ++ (x ∷ (triples cs ++ y ∷ behind)) =
-      rw (take-suc j c 0 (omega arith), drop-cons j stop 0 (omega arith)) (simp append-assoc) in
-      ap (λ (r : List ℕ). set (set r c n) (c + (3 * n + 1)) n) words
+      ap (λ (r : List ℕ). set (set r c n) (c + (3 * n + 1)) n) (draft-words h)
       ∙ ap (λ (r : List ℕ). set r (c + (3 * n + 1)) n)
-      (set-at (take c j) x (triples cs ++ y ∷ behind) n c l ∙ sym (append-assoc (take c j) (n ∷ triples cs) (y ∷ behind)))
+      (set-at (take c j) (getD j c 0) (triples cs ++ y ∷ behind) n c l
+      ∙ sym (append-assoc (take c j) (n ∷ triples cs) (y ∷ behind)))
       ∙ set-at (take c j ++ n ∷ triples cs) y behind n (c + (3 * n + 1)) (omega arith)
       ∙ rw q (simp append-assoc)
 

@@ -16,34 +16,38 @@ use Rattle.journal.proofs.Breaks.{Unbroken, sound-parts, sound-within, 
 
 module _ (redo : Bool) (t : List ℕ) where
   -- a value before the entries of a sound record can be set before or after
-  put-set : (ways : Bool) (cs : List Change) (e x v : ℕ) (u : List ℕ) → sound redo t e cs ≡ true → x < e
-      → put ways cs (set u x v) ≡ set (put ways cs u) x v
-  put-set ways [] e x v u h l = put-none ways (set u x v) ∙ ap (λ (r : List ℕ). set r x v) (sym (put-none ways u))
-  put-set ways (c ∷ cs) e x v u h l =
+  put-set : (way : Bool) (cs : List Change) (e x v : ℕ) (u : List ℕ) → sound redo t e cs ≡ true → x < e
+      → put way cs (set u x v) ≡ set (put way cs u) x v
+  put-set way [] e x v u h l = put-none way (set u x v) ∙ ap (λ (r : List ℕ). set r x v) (sym (put-none way u))
+  put-set way (c ∷ cs) e x v u h l =
       let s = sound-parts redo t e c cs h in
       let low = s .rising in
       let y = c .entry in
-      let z = valuePut ways c in
-      put-next ways c cs (set u x v)
-      ∙ ap (put ways cs) (set-comm u x y v z (λ q. omega arith))
-      ∙ put-set ways cs (suc y) x v (set u y z) (s .rest) (omega arith)
-      ∙ ap (λ (r : List ℕ). set r x v) (sym (put-next ways c cs u))
+      let z = valuePut way c in
+      put-next way c cs (set u x v)
+      ∙ ap (put way cs) (set-comm u x y v z (λ q. omega arith))
+      ∙ put-set way cs (suc y) x v (set u y z) (s .rest) (omega arith)
+      ∙ ap (λ (r : List ℕ). set r x v) (sym (put-next way c cs u))
 
-  -- the values of a sound record put into a table, and then those that they replaced, give the table back
-  back-from : (cs : List Change) (e : ℕ) → sound redo t e cs ≡ true → put (not redo) cs (put redo cs t) ≡ t
-  back-from [] e h = put-none (not redo) _ ∙ put-none redo t
-  back-from (c ∷ cs) e h =
+  -- the first value of a sound record, taken back when all have been put
+  put-unset : (c : Change) (cs : List Change) (e : ℕ) → sound redo t e (c ∷ cs) ≡ true
+      → set (put redo (c ∷ cs) t) (c .entry) (valuePut (not redo) c) ≡ put redo cs t
+  put-unset c cs e h =
       let s = sound-parts redo t e c cs h in
       let x = c .entry in
       let v = valuePut redo c in
       let w = valuePut (not redo) c in
-      let held : set (set t x v) x w ≡ t = set-set t x v w ∙ ap (set t x) (sym (s .held)) ∙ set-getD t x 0 in
-      let first : set (put redo (c ∷ cs) t) x w ≡ put redo cs t =
       ap (λ (r : List ℕ). set r x w) (put-next redo c cs t)
       ∙ sym (put-set redo cs (suc x) x w (set t x v) (s .rest) (omega arith))
-      ∙ ap (put redo cs) held in
-      put-next (not redo) c cs _ ∙ ap (put (not redo) cs) first ∙ back-from cs (suc x) (s .rest)
+      ∙ ap (put redo cs) (set-set t x v w ∙ ap (set t x) (sym (s .held)) ∙ set-getD t x 0)
 
+  back-from : (cs : List Change) (e : ℕ) → sound redo t e cs ≡ true → put (not redo) cs (put redo cs t) ≡ t
+  back-from [] e h = put-none (not redo) _ ∙ put-none redo t
+  back-from (c ∷ cs) e h =
+      put-next (not redo) c cs _ ∙ ap (put (not redo) cs) (put-unset c cs e h)
+      ∙ back-from cs (suc (c .entry)) (sound-parts redo t e c cs h .rest)
+
+  -- the values of a sound record put into a table, and then those that they replaced, give the table back
   pub put-back : (cs : List Change) → sound redo t 0 cs ≡ true → put (not redo) cs (put redo cs t) ≡ t
   put-back cs h = back-from cs 0 h
 

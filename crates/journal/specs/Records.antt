@@ -1,6 +1,6 @@
 -- What the contracts say beyond the model: a record of which the triples stand already (`drafted`), the triple at a word
--- (`changeAt`), the value that a change puts (`valuePut`), changes whose entries lie in a table (`within`), and the changes
--- below an entry (`changesBelow`), which a rising pass over two tables meets.
+-- (`changeAt`), the value that a change puts (`valuePut`), changes whose entries lie in a table (`within`), and a rising pass
+-- over two tables, which writes the changes below an entry (`changesBelow`, `Scanned`).
 use Prim.Native.Nat.{ℕ, suc, _+_, _*_}
 use mathlib.Core.Path.{_≡_}
 use mathlib.Core.Bool.{Bool, true, false, _&&_}
