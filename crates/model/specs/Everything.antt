@@ -1,4 +1,4 @@
--- To unfold `everything` is to unfold each definition that a call cites: for proofs that compute.
+-- To unfold `everything` is to unfold each definition that a call cites, file by file: for proofs that compute.
 use Rattle.model.specs.Lists.{tabulateFrom, tabulate, count, onesFrom, indexOf, leastFrom, least, allFrom, allBelow}
 use Rattle.model.specs.Table.{slots, link, live, walk, unusedSlots, retable, relinkAt, relink}
 use Rattle.model.specs.Map.{returns, linked, crossed, keepsRules, breaksRule, leastBreaking, isMap}
@@ -21,6 +21,90 @@ use Rattle.model.specs.Checks.{sidesChecks, sewChecks, unsewChecks, laye
 use Rattle.model.specs.Calls.{refused, commit, checkCall, orbitCall, sheetCall, addCall, sewCall, unsewCall}
 use Rattle.model.specs.Calls.{removeCall, splitCall, stepOutcome, undoCall, redoCall}
 
+unfoldable pub openLists : Unit {0}
+unfolding tabulateFrom tabulate count onesFrom indexOf leastFrom least allFrom allBelow
+openLists = tt
+
+unfoldable pub openTable : Unit {0}
+unfolding slots link live walk unusedSlots retable relinkAt relink
+openTable = tt
+
+unfoldable pub openMap : Unit {0}
+unfolding returns linked crossed keepsRules breaksRule leastBreaking isMap
+openMap = tt
+
+unfoldable pub openReach : Unit {0}
+unfolding flood steps closure linksFrom links inSet
+openReach = tt
+
+unfoldable pub openCell : Unit {0}
+unfolding cellWords cellOf cellSize turns allTurn goodCell inWrongCell leastWrong isBlock
+openCell = tt
+
+unfoldable pub openJournal : Unit {0}
+unfolding cursor end changesFrom triples recordOf written readChanges changesAt putNew putOld put sound unbroken
+openJournal = tt
+
+unfoldable pub openOrbit : Unit {0}
+unfolding bit orbitWords orbit orbitPlace
+openOrbit = tt
+
+unfoldable pub openSheet : Unit {0}
+unfolding sheetWords sheet overlay sheetMarks
+openSheet = tt
+
+unfoldable pub openAdd : Unit {0}
+unfolding addSlots addedLink added addTable
+openAdd = tt
+
+unfoldable pub openNumbering : Unit {0}
+unfolding corners flip firstBit swapFirst swapLast cellLink
+openNumbering = tt
+
+unfoldable pub openSew : Unit {0}
+unfolding sideWords side coupleSteps pairUp partners isPaired sewnLink sewn sewTable unsews unsewnLink unsewn unsewTable
+openSew = tt
+
+unfoldable pub openRemove : Unit {0}
+unfolding opposite marked outside removedLink removed removeTable
+openRemove = tt
+
+unfoldable pub openSplit : Unit {0}
+unfolding crosses newDart newDartLink halvedLink halved splitSlots splitTable
+openSplit = tt
+
+unfoldable pub openChecks : Unit {0}
+unfolding must mustAt andThen inOrder dimOk tableOk marksOk journalOk mapOk indexOk maskOk dartOk blockOk apartOk freeOk
+openChecks = tt
+
+unfoldable pub openChecksMore : Unit {0}
+unfolding sewnOk pairingOk crossingOk addRoomOk splitRoomOk undoOk redoOk checkChecks orbitChecks sheetChecks addChecks
+openChecksMore = tt
+
+unfoldable pub openChecksMost : Unit {0}
+unfolding sidesChecks sewChecks unsewChecks layerChecks splitChecks stepChecks
+openChecksMost = tt
+
+unfoldable pub openCalls : Unit {0}
+unfolding refused commit checkCall orbitCall sheetCall addCall sewCall unsewCall removeCall splitCall stepOutcome undoCall
+openCalls = tt
+
+unfoldable pub openCallsMore : Unit {0}
+unfolding redoCall
+openCallsMore = tt
+
+unfoldable pub openMaps : Unit {0}
+unfolding openLists openTable openMap openReach openCell
+openMaps = tt
+
+unfoldable pub openOperations : Unit {0}
+unfolding openJournal openOrbit openSheet openAdd openNumbering openSew openRemove openSplit
+openOperations = tt
+
+unfoldable pub openAnswers : Unit {0}
+unfolding openChecks openChecksMore openChecksMost openCalls openCallsMore
+openAnswers = tt
+
 unfoldable pub everything : Unit {0}
-unfolding tabulateFrom tabulate count onesFrom indexOf leastFrom least allFrom allBelow slots link live walk unusedSlots retable relinkAt relink returns linked crossed keepsRules breaksRule leastBreaking isMap flood steps closure linksFrom links inSet cellWords cellOf cellSize turns allTurn goodCell inWrongCell leastWrong isBlock cursor end changesFrom triples recordOf written readChanges changesAt putNew putOld put sound unbroken bit orbitWords orbit orbitPlace sheetWords sheet overlay sheetMarks addSlots addedLink added addTable corners flip firstBit swapFirst swapLast cellLink sideWords side coupleSteps pairUp partners isPaired sewnLink sewn sewTable unsews unsewnLink unsewn unsewTable opposite marked outside removedLink removed removeTable crosses newDart newDartLink halvedLink halved splitSlots splitTable must mustAt andThen inOrder dimOk tableOk marksOk journalOk mapOk indexOk maskOk dartOk blockOk apartOk freeOk sewnOk pairingOk crossingOk addRoomOk splitRoomOk undoOk redoOk checkChecks orbitChecks sheetChecks addChecks sidesChecks sewChecks unsewChecks layerChecks splitChecks stepChecks refused commit checkCall orbitCall sheetCall addCall sewCall unsewCall removeCall splitCall stepOutcome undoCall redoCall
+unfolding openMaps openOperations openAnswers
 everything = tt

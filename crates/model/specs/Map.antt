@@ -22,7 +22,9 @@ crossed t d i j = elim (leb (i + 2) j) [ true ↦ returns t (i ∷ j ∷ i ∷ j
 -- the rules at a live slot d
 unfoldable pub keepsRules : ℕ → List ℕ → ℕ → Bool
 keepsRules n t d =
-    allBelow 4 (linked t d) && allBelow 4 (λ i. allBelow (suc n) (crossed t d i)) && elim (eqb n 2) [ true ↦ eqb (link t 3 d) d | false ↦ true ]
+    allBelow 4 (linked t d)
+    && allBelow 4 (λ i. allBelow (suc n) (crossed t d i))
+    && elim (eqb n 2) [ true ↦ eqb (link t 3 d) d | false ↦ true ]
 
 unfoldable pub breaksRule : ℕ → List ℕ → ℕ → Bool
 breaksRule n t d = elim (live t d) [ true ↦ not (keepsRules n t d) | false ↦ false ]

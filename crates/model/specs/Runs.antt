@@ -6,7 +6,8 @@ use Rattle.model.specs.Add.{addTable}
 use Rattle.model.specs.Sew.{sewTable, unsewTable}
 use Rattle.model.specs.Remove.{removeTable}
 use Rattle.model.specs.Split.{splitTable}
-use Rattle.model.specs.Calls.{Outcome, checkCall, orbitCall, sheetCall, addCall, sewCall, unsewCall, removeCall, splitCall, undoCall, redoCall}
+use Rattle.model.specs.Calls.{Outcome, checkCall, orbitCall, sheetCall, addCall, sewCall, unsewCall, removeCall, splitCall}
+use Rattle.model.specs.Calls.{undoCall, redoCall}
 
 -- ---- calls as data
 

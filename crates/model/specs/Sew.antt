@@ -43,7 +43,11 @@ partners n t i d e =
 
 -- a pairing exists: each dart of d's side has one partner, and each dart of e's side
 unfoldable pub isPaired : ℕ → List ℕ → ℕ → ℕ → ℕ → Bool
-isPaired n t i d e = elim (partners n t i d e) [ none ↦ false | some p ↦ (elim (partners n t i e d) [ none ↦ false | some q ↦ true ]) ]
+isPaired n t i d e =
+    elim (partners n t i d e) [
+      | none ↦ false
+      | some p ↦ (elim (partners n t i e d) [ none ↦ false | some q ↦ true ])
+    ]
 
 -- link i of x, where p are the partners of d's side and q those of e's
 unfoldable pub sewnLink : List ℕ → ℕ → List ℕ → List ℕ → ℕ → ℕ
@@ -57,7 +61,11 @@ unfoldable pub sewn : List ℕ → ℕ → List ℕ → List ℕ → List ℕ
 sewn t i p q = relink t i (sewnLink t i p q)
 
 unfoldable pub sewTable : ℕ → List ℕ → ℕ → ℕ → ℕ → List ℕ
-sewTable n t i d e = elim (partners n t i d e) [ none ↦ t | some p ↦ (elim (partners n t i e d) [ none ↦ t | some q ↦ sewn t i p q ]) ]
+sewTable n t i d e =
+    elim (partners n t i d e) [
+      | none ↦ t
+      | some p ↦ (elim (partners n t i e d) [ none ↦ t | some q ↦ sewn t i p q ])
+    ]
 
 -- ---- unsew
 

@@ -1,4 +1,5 @@
--- remove in numbers: the darts that it takes away (removed-number, remove-lives), and the entries that it changes (remove-changes).
+-- remove in numbers: the darts that it takes away (`removed-number`, `remove-lives`), and the entries that it changes
+-- (`remove-changes`).
 use Prim.Native.Nat.{ℕ, _+_, _*_, _-_, _<_}
 use mathlib.Core.Path.{_≡_, refl, sym, ap, _∙_}
 use mathlib.Core.Logic.{_≢_}
