@@ -1,0 +1,4 @@
+pub mod Listing
+pub mod Good
+pub mod Seen
+pub mod Scan

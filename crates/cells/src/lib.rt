@@ -1,0 +1,201 @@
+// One cell as a value, its darts listed by their places, and the block test.
+ghost use mathlib.Core.Path.{_≡_};
+ghost use mathlib.Core.Bool.{true};
+ghost use Prim.Native.Nat.{ℕ, _+_, _*_, _<_, _≤_};
+ghost use lib.ListN.{length, getD};
+ghost use lib.Dec.{eqb};
+ghost use Rattle.model.specs.Table.{slots, link};
+ghost use Rattle.model.specs.Map.{isMap};
+ghost use Rattle.model.specs.Cell.{cellOf, goodCell, inWrongCell, leastWrong, isBlock};
+ghost use Rattle.model.specs.Checks.{pass, dimOk, tableOk};
+ghost use Rattle.model.specs.Meaning.Maps.{MapTable};
+ghost use Rattle.cells.specs.Rows.{linkRows, stepRows, start, places};
+ghost use Rattle.cells.specs.Good.{MapDart, PlaceRow, fitsAt, seenWith, SeenGood};
+use reading::link_in;
+use reading::slots;
+use rows::LINKS_2D;
+use rows::LINKS_3D;
+use rows::STEPS_2D;
+use rows::STEPS_3D;
+
+mod rows;
+
+// The entry of an unused slot.
+const UNUSED: u32 = 4294967295;
+
+// Lists the cell of d, in dimension n: each step finds the dart of a place by one link from a place listed before.
+fn list(n: u32, table: &[u32], d: u32, steps: &[[u8; 3]], cell: &mut [u32])
+    requires { ⌜ (MapDart n (now table) d) × (now steps ≡ stepRows n) × (now cell ≡ start n d) ⌝ }
+    ensures { λ _. ⌜ now (cell .exit) ≡ places n (now (table .entry)) d ⌝ }
+{
+    for k in 0..steps.len() {
+        let step = steps[k];
+        let from = cell[step[1] as usize];
+        cell[step[0] as usize] = link_in(table, step[2] as usize, from);
+    }
+}
+
+// The darts of the cell of d by their places, n = 2.
+pub fn cell_2d(table: &[u32], d: u32) -> [u32; 8]
+    requires { ⌜ MapDart 2 (now table) d ⌝ }
+    ensures { λ r. ⌜ r ≡ places 2 (now (table .entry)) d ⌝ }
+{
+    let mut cell = [d; 8];
+    list(2, table, d, &STEPS_2D, &mut cell);
+    cell
+}
+
+// The same for n = 3.
+pub fn cell_3d(table: &[u32], d: u32) -> [u32; 48]
+    requires { ⌜ MapDart 3 (now table) d ⌝ }
+    ensures { λ r. ⌜ r ≡ places 3 (now (table .entry)) d ⌝ }
+{
+    let mut cell = [d; 48];
+    list(3, table, d, &STEPS_3D, &mut cell);
+    cell
+}
+
+// Whether link i of x leads to the dart that is listed at the place `to`.
+fn leads(table: &[u32], i: usize, x: u32, cell: &[u32], to: u8) -> bool
+    requires { ⌜ (4 * x + i < length (now table)) × (to < length (now cell)) ⌝ }
+    ensures { λ r. ⌜ r ≡ eqb (link (now (table .entry)) i x) (getD (now (cell .entry)) to 0) ⌝ }
+{
+    link_in(table, i, x) == cell[to as usize]
+}
+
+// Whether the dart at the place k has its links where the row says, and is not d, unless k is 0.
+fn fits(n: u32, table: &[u32], d: u32, cell: &[u32], k: usize, row: [u8; 3]) -> bool
+    requires { ⌜ PlaceRow n (now table) d (now cell) k row ⌝ }
+    ensures { λ r. ⌜ r ≡ fitsAt n (now (table .entry)) d k ⌝ }
+{
+    let x = cell[k];
+    let other = (k == 0) | (x != d);
+    let flat = leads(table, 0, x, cell, row[0]) & leads(table, 1, x, cell, row[1]);
+    if n == 2 {
+        return flat & other;
+    }
+    flat & leads(table, 2, x, cell, row[2]) & other
+}
+
+// Whether the cell of d, listed by its places, is good.
+fn is_good(n: u32, table: &[u32], d: u32, cell: &[u32], links: &[[u8; 3]]) -> bool
+    requires { ⌜ (MapDart n (now table) d) × (now cell ≡ places n (now table) d) × (now links ≡ linkRows n) ⌝ }
+    ensures { λ r. ⌜ r ≡ goodCell n (now (table .entry)) (cellOf n (now (table .entry)) d) ⌝ }
+{
+    for k in 0..links.len() {
+        if !fits(n, table, d, cell, k, links[k]) {
+            return false;
+        }
+    }
+    true
+}
+
+// Whether the cell of d is good, n = 2.
+pub fn is_good_2d(table: &[u32], d: u32, cell: [u32; 8]) -> bool
+    requires { ⌜ (MapDart 2 (now table) d) × (cell ≡ places 2 (now table) d) ⌝ }
+    ensures { λ r. ⌜ r ≡ goodCell 2 (now (table .entry)) (cellOf 2 (now (table .entry)) d) ⌝ }
+{
+    is_good(2, table, d, &cell, &LINKS_2D)
+}
+
+// The same for n = 3.
+pub fn is_good_3d(table: &[u32], d: u32, cell: [u32; 48]) -> bool
+    requires { ⌜ (MapDart 3 (now table) d) × (cell ≡ places 3 (now table) d) ⌝ }
+    ensures { λ r. ⌜ r ≡ goodCell 3 (now (table .entry)) (cellOf 3 (now (table .entry)) d) ⌝ }
+{
+    is_good(3, table, d, &cell, &LINKS_3D)
+}
+
+// Marks the darts as seen.
+fn mark(seen: &mut [u8], darts: &[u32])
+    requires { ⌜ ((k : ℕ) → k < length (now darts) → getD (now darts) k 0 < length (now seen)) ⌝ }
+    ensures { λ _. ⌜ now (seen .exit) ≡ seenWith (now (seen .entry)) (now (darts .entry)) ⌝ }
+{
+    for k in 0..darts.len() {
+        let x = darts[k] as usize;
+        seen[x] = 1;
+    }
+}
+
+// Whether the cell of d is good, n = 2. If so, its darts are marked as seen.
+fn visit_2d(table: &[u32], seen: &mut [u8], d: u32) -> bool
+    requires { ⌜ (MapDart 2 (now table) d) × (SeenGood 2 (now table) (now seen)) ⌝ }
+    ensures { λ r. ⌜ r ≡ goodCell 2 (now (table .entry)) (cellOf 2 (now (table .entry)) d) ⌝ }
+    ensures { λ _. ⌜ SeenGood 2 (now (table .entry)) (now (seen .exit)) ⌝ }
+{
+    let cell = cell_2d(table, d);
+    if !is_good_2d(table, d, cell) {
+        return false;
+    }
+    mark(seen, &cell);
+    true
+}
+
+// The same for n = 3.
+fn visit_3d(table: &[u32], seen: &mut [u8], d: u32) -> bool
+    requires { ⌜ (MapDart 3 (now table) d) × (SeenGood 3 (now table) (now seen)) ⌝ }
+    ensures { λ r. ⌜ r ≡ goodCell 3 (now (table .entry)) (cellOf 3 (now (table .entry)) d) ⌝ }
+    ensures { λ _. ⌜ SeenGood 3 (now (table .entry)) (now (seen .exit)) ⌝ }
+{
+    let cell = cell_3d(table, d);
+    if !is_good_3d(table, d, cell) {
+        return false;
+    }
+    mark(seen, &cell);
+    true
+}
+
+// Whether the slot d is a dart of a wrong cell. No seen dart is; a good cell that is met is marked as seen. In a map a slot
+// is unused if its link 0 is 4294967295.
+fn in_wrong_cell(n: u32, table: &[u32], seen: &mut [u8], d: u32) -> bool
+    requires { ⌜ (MapTable n (now table)) × (SeenGood n (now table) (now seen)) × (d < slots (now table)) ⌝ }
+    ensures { λ r. ⌜ r ≡ inWrongCell n (now (table .entry)) d ⌝ }
+    ensures { λ _. ⌜ SeenGood n (now (table .entry)) (now (seen .exit)) ⌝ }
+{
+    if seen[d as usize] != 0 {
+        return false;
+    }
+    if link_in(table, 0, d) == UNUSED {
+        return false;
+    }
+    if n == 2 {
+        return !visit_2d(table, seen, d);
+    }
+    !visit_3d(table, seen, d)
+}
+
+// No slot is marked as seen.
+fn clear(seen: &mut [u8], end: u32)
+    requires { ⌜ end ≤ length (now seen) ⌝ }
+    ensures { λ _. ⌜ ((k : ℕ) → k < end → getD (now (seen .exit)) k 0 ≡ 0) ⌝ }
+{
+    for k in 0..end {
+        seen[k as usize] = 0;
+    }
+}
+
+// The least live slot in a wrong cell, or the number of slots. Each cell is tested once; seen has a byte for each slot,
+// and what it held before is not read.
+pub fn least_wrong(n: u32, table: &[u32], seen: &mut [u8]) -> u32
+    requires { ⌜ (dimOk n ≡ pass) × (tableOk (now table) ≡ pass) × (isMap n (now table) ≡ true) ⌝ }
+    requires { ⌜ slots (now table) ≤ length (now seen) ⌝ }
+    ensures { λ r. ⌜ r ≡ leastWrong n (now (table .entry)) ⌝ }
+{
+    let end = slots(table);
+    clear(seen, end);
+    for d in 0..end {
+        if in_wrong_cell(n, table, seen, d) {
+            return d;
+        }
+    }
+    end
+}
+
+// Whether the map is a block map.
+pub fn is_block(n: u32, table: &[u32], seen: &mut [u8]) -> bool
+    requires { ⌜ (dimOk n ≡ pass) × (tableOk (now table) ≡ pass) × (isMap n (now table) ≡ true) ⌝ }
+    requires { ⌜ slots (now table) ≤ length (now seen) ⌝ }
+    ensures { λ r. ⌜ r ≡ isBlock n (now (table .entry)) ⌝ }
+{
+    least_wrong(n, table, seen) == slots(table)
+}
