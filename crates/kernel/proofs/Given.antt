@@ -1,4 +1,5 @@
--- What the passed checks say, as the functions below ask it: `map-given` of the block test, `flood-given` of orbit and sheet.
+-- What the passed checks say, as the crates below ask it: `map-given` and `room-given` for the block test, `flood-given` for
+-- orbit and sheet.
 use Prim.Native.Nat.{ℕ, _≤_}
 use mathlib.Core.Path.{_≡_, refl}
 use mathlib.Core.Bool.{true}
@@ -20,6 +21,10 @@ marks-given : (t m : List ℕ) → marksOk t m ≡ pass → length m ≡ slots t
 unfolding marksOk
 marks-given t m h = eqb-true _ _ (must-pass _ 3 h)
 
+-- a buffer of 65536 has room for each slot
+pub room-given : (t : List ℕ) {k : ℕ} → tableOk t ≡ pass → 65536 ≤ k → slots t ≤ k
+room-given t table long = let few = table-pass t table .1 in omega arith
+
 pub flood-given : (n : ℕ) (t m q : List ℕ) (d : ℕ) → dimOk n ≡ pass → tableOk t ≡ pass → marksOk t m ≡ pass → mapOk n t ≡ pass
     → dartOk t d ≡ pass → 65536 ≤ length q → Given n t m q d
 flood-given n t m q d dim table marks map dart long =
@@ -30,6 +35,6 @@ flood-given n t m q d dim table marks map dart long =
       few = sized .1;
       map = map-given n t map;
       long = marks-given t m marks;
-      room = omega arith;
+      room = room-given t table long;
       start = dart-pass t d dart;
     }
