@@ -1,4 +1,4 @@
--- `kernel::sheet` meets its contract: the ladder, and behind it `reach::sheet`.
+-- `kernel::sheets::sheet` meets its contract: the ladder, and behind it `reach::sheet`.
 use mathlib.Core.List.{List}
 use borrow.Author.Needs.{needs}
 use Rattle.model.specs.Checks.{Check, sheetChecks}
@@ -7,8 +7,8 @@ use Rattle.kernel.proofs.Verdicts.{passes, refuses, equal-passes, equal
 use Rattle.kernel.proofs.Verdicts.{marks-test, map-test, dart-test, block-test}
 use Rattle.kernel.proofs.Given.{map-given, room-given, flood-given}
 use Rattle.kernel.proofs.Ends.{sheet-refused, sheet-accepted}
-use Rattle.kernel.proofs.sheet.Statement.{statement}
-use Rattle.kernel.proofs.sheet.Tie as tie
+use Rattle.kernel.proofs.sheets.sheet.Statement.{statement}
+use Rattle.kernel.proofs.sheets.sheet.Tie as tie
 
 -- ---- the rungs
 

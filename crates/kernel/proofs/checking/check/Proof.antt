@@ -1,4 +1,4 @@
--- `kernel::check` meets its contract: the ladder, and behind it `cells::is_block`.
+-- `kernel::checking::check` meets its contract: the ladder, and behind it `cells::is_block`.
 use mathlib.Core.Path.{sym, _∙_}
 use mathlib.Core.List.{List}
 use borrow.Author.Needs.{needs}
@@ -7,8 +7,8 @@ use Rattle.kernel.proofs.Ladder.{Rung, ground, up, out, all-passed}
 use Rattle.kernel.proofs.Verdicts.{passes, refuses, least-passes, least-refuses, map-test}
 use Rattle.kernel.proofs.Given.{map-given, room-given}
 use Rattle.kernel.proofs.Ends.{check-refused, check-accepted}
-use Rattle.kernel.proofs.check.Statement.{statement}
-use Rattle.kernel.proofs.check.Tie as tie
+use Rattle.kernel.proofs.checking.check.Statement.{statement}
+use Rattle.kernel.proofs.checking.check.Tie as tie
 
 -- ---- the rungs
 

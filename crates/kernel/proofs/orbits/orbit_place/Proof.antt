@@ -1,4 +1,4 @@
--- `kernel::orbit_place` meets its contract.
+-- `kernel::orbits::orbit_place` meets its contract.
 use Prim.Native.Nat.{_-_}
 use mathlib.Core.Path.{_≡_}
 use native.Mathlib.Omega.{arith}
@@ -7,8 +7,8 @@ use borrow.Author.Tests.{eq-eqb, ne-eqb}
 use Rattle.model.specs.Orbit.{orbitPlace}
 use Rattle.model.proofs.Calls.Pass.{dim-pass}
 use Rattle.kernel.proofs.Masks.{mask-bound, placeByOnes, ones-place}
-use Rattle.kernel.proofs.orbit_place.Statement.{statement}
-use Rattle.kernel.proofs.orbit_place.Tie as tie
+use Rattle.kernel.proofs.orbits.orbit_place.Statement.{statement}
+use Rattle.kernel.proofs.orbits.orbit_place.Tie as tie
 
 add-result : tie.Need-add-result
 add-result c = omega (arith, trailing-le 32 (4294967295 - c .before .args .mask))

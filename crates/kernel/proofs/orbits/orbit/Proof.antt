@@ -1,4 +1,4 @@
--- `kernel::orbit` meets its contract: the ladder, and behind it `reach::orbit` and `orbit_place`.
+-- `kernel::orbits::orbit` meets its contract: the ladder, and behind it `reach::orbit` and `orbit_place`.
 use mathlib.Core.List.{List}
 use borrow.Author.Needs.{needs}
 use Rattle.model.specs.Checks.{Check, orbitChecks}
@@ -8,8 +8,8 @@ use Rattle.kernel.proofs.Verdicts.{marks-test, map-test, dart-test}
 use Rattle.kernel.proofs.Given.{flood-given}
 use Rattle.kernel.proofs.Masks.{mask-bound}
 use Rattle.kernel.proofs.Ends.{orbit-refused, orbit-accepted}
-use Rattle.kernel.proofs.orbit.Statement.{statement}
-use Rattle.kernel.proofs.orbit.Tie as tie
+use Rattle.kernel.proofs.orbits.orbit.Statement.{statement}
+use Rattle.kernel.proofs.orbits.orbit.Tie as tie
 
 -- ---- the rungs
 

@@ -1,10 +1,10 @@
--- `kernel::mask_fits` meets its contract.
+-- `kernel::orbits::mask_fits` meets its contract.
 use native.Mathlib.Omega.{arith}
 use Rattle.model.specs.Checks.{must, maskOk}
 use Rattle.model.proofs.Calls.Pass.{dim-pass}
 use Rattle.kernel.proofs.Masks.{shift-power}
-use Rattle.kernel.proofs.mask_fits.Statement.{statement}
-use Rattle.kernel.proofs.mask_fits.Tie as tie
+use Rattle.kernel.proofs.orbits.mask_fits.Statement.{statement}
+use Rattle.kernel.proofs.orbits.mask_fits.Tie as tie
 
 shl-result : tie.Need-shl-result
 shl-result c = let dim = dim-pass (c .args .n) (c .pre) in omega arith

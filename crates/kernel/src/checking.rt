@@ -1,0 +1,52 @@
+// check: whether a table is a map, and whether it is a block map.
+ghost use mathlib.Core.Path.{_≡_};
+ghost use mathlib.Core.List.{[]};
+ghost use Rattle.model.specs.Calls.{checkCall};
+ghost use Rattle.kernel.specs.Answers.{outcome};
+use crate::Answer;
+use cells::is_block;
+use reading::dim_fits;
+use reading::least_breaking;
+use reading::slots;
+use reading::table_fits;
+
+// "count 1 for a map, 2 for a block map"
+pub fn check(n: u32, table: &[u32]) -> Answer
+    ensures { λ r. ⌜ outcome r (now (table .entry)) [] [] ≡ checkCall n (now (table .entry)) ⌝ }
+{
+    if !dim_fits(n) {
+        return Answer {
+            number: 1,
+            place: 0,
+            count: 0,
+        };
+    }
+    if !table_fits(table) {
+        return Answer {
+            number: 2,
+            place: 0,
+            count: 0,
+        };
+    }
+    let least = least_breaking(n, table);
+    if least != slots(table) {
+        return Answer {
+            number: 5,
+            place: least,
+            count: 0,
+        };
+    }
+    let mut seen = [0u8; 65536];
+    if is_block(n, table, &mut seen) {
+        return Answer {
+            number: 0,
+            place: 0,
+            count: 2,
+        };
+    }
+    Answer {
+        number: 0,
+        place: 0,
+        count: 1,
+    }
+}
