@@ -5,6 +5,7 @@ pub use orbits::orbit;
 pub use sheets::sheet;
 
 mod checking;
+mod numbers;
 mod orbits;
 mod sheets;
 

@@ -6,11 +6,7 @@ ghost use Rattle.model.specs.Checks.{must, pass, dimOk, maskOk};
 ghost use Rattle.model.specs.Calls.{orbitCall};
 ghost use Rattle.kernel.specs.Answers.{outcome};
 use crate::Answer;
-use reading::dim_fits;
-use reading::least_breaking;
-use reading::live;
-use reading::slots;
-use reading::table_fits;
+use crate::numbers;
 
 // Whether check 6 passes.
 fn mask_fits(n: u32, mask: u32) -> bool
@@ -37,29 +33,17 @@ pub fn orbit(n: u32, table: &[u32], marks: &mut [u8], mask: u32, d: u32) -> Answ
     ensures { λ r. ⌜ outcome r (now (table .entry)) (now (marks .exit)) []
         ≡ orbitCall n (now (table .entry)) (now (marks .entry)) mask d ⌝ }
 {
-    if !dim_fits(n) {
-        return Answer {
-            number: 1,
-            place: 0,
-            count: 0,
-        };
+    if !reading::dim_fits(n) {
+        return numbers::WRONG_DIMENSION;
     }
-    if !table_fits(table) {
-        return Answer {
-            number: 2,
-            place: 0,
-            count: 0,
-        };
+    if !reading::table_fits(table) {
+        return numbers::WRONG_TABLE_LENGTH;
     }
     if marks.len() != table.len() / 4 {
-        return Answer {
-            number: 3,
-            place: 0,
-            count: 0,
-        };
+        return numbers::WRONG_MARKS_LENGTH;
     }
-    let least = least_breaking(n, table);
-    if least != slots(table) {
+    let least = reading::least_breaking(n, table);
+    if least != reading::slots(table) {
         return Answer {
             number: 5,
             place: least,
@@ -67,18 +51,10 @@ pub fn orbit(n: u32, table: &[u32], marks: &mut [u8], mask: u32, d: u32) -> Answ
         };
     }
     if !mask_fits(n, mask) {
-        return Answer {
-            number: 6,
-            place: 0,
-            count: 0,
-        };
+        return numbers::OUT_OF_RANGE;
     }
-    if !live(table, d) {
-        return Answer {
-            number: 7,
-            place: 0,
-            count: 0,
-        };
+    if !reading::live(table, d) {
+        return numbers::NOT_LIVE;
     }
     let mut queue = [0u32; 65536];
     let size = reach::orbit(n, table, marks, &mut queue, mask, d);

@@ -4,57 +4,36 @@ ghost use mathlib.Core.List.{[]};
 ghost use Rattle.model.specs.Calls.{sheetCall};
 ghost use Rattle.kernel.specs.Answers.{outcome};
 use crate::Answer;
-use cells::least_wrong;
-use reading::dim_fits;
-use reading::least_breaking;
-use reading::live;
-use reading::slots;
-use reading::table_fits;
+use crate::numbers;
 
 // "Marks: 1 in S, 2 for other darts of cells that hold a dart of S, 0 elsewhere. Count: size of S."
 pub fn sheet(n: u32, table: &[u32], marks: &mut [u8], d: u32) -> Answer
     ensures { λ r. ⌜ outcome r (now (table .entry)) (now (marks .exit)) []
         ≡ sheetCall n (now (table .entry)) (now (marks .entry)) d ⌝ }
 {
-    if !dim_fits(n) {
-        return Answer {
-            number: 1,
-            place: 0,
-            count: 0,
-        };
+    if !reading::dim_fits(n) {
+        return numbers::WRONG_DIMENSION;
     }
-    if !table_fits(table) {
-        return Answer {
-            number: 2,
-            place: 0,
-            count: 0,
-        };
+    if !reading::table_fits(table) {
+        return numbers::WRONG_TABLE_LENGTH;
     }
     if marks.len() != table.len() / 4 {
-        return Answer {
-            number: 3,
-            place: 0,
-            count: 0,
-        };
+        return numbers::WRONG_MARKS_LENGTH;
     }
-    let least = least_breaking(n, table);
-    if least != slots(table) {
+    let least = reading::least_breaking(n, table);
+    if least != reading::slots(table) {
         return Answer {
             number: 5,
             place: least,
             count: 0,
         };
     }
-    if !live(table, d) {
-        return Answer {
-            number: 7,
-            place: 0,
-            count: 0,
-        };
+    if !reading::live(table, d) {
+        return numbers::NOT_LIVE;
     }
     let mut seen = [0u8; 65536];
-    let wrong = least_wrong(n, table, &mut seen);
-    if wrong != slots(table) {
+    let wrong = cells::least_wrong(n, table, &mut seen);
+    if wrong != reading::slots(table) {
         return Answer {
             number: 8,
             place: wrong,
