@@ -29,15 +29,15 @@ pub record Partner (p : List ℕ) (x y : ℕ) : Type 0 where
 
 -- a couple that is set: the partner of x is y, and the others are as before
 module _ (p : List ℕ) (x y : ℕ) where
-  set-partner : x < length p → y ≢ unused → Partner (set p x y) x y
+  pub set-partner : x < length p → y ≢ unused → Partner (set p x y) x y
   set-partner l real = record { is = getD-set-same p x y unused l; real = real }
 
-  set-keeps : getD p x unused ≡ unused → (a b : ℕ) → Partner p a b → Partner (set p x y) a b
+  pub set-keeps : getD p x unused ≡ unused → (a b : ℕ) → Partner p a b → Partner (set p x y) a b
   set-keeps e a b h =
       let other : a ≢ x = λ q. h .real (sym (h .is) ∙ ap (λ (z : ℕ). getD p z unused) q ∙ e) in
       record { is = getD-set-other p x a y unused other ∙ h .is; real = h .real }
 
-  set-only : (a b : ℕ) → Partner (set p x y) a b → ((a ≡ x) × (b ≡ y)) ⊎ Partner p a b
+  pub set-only : (a b : ℕ) → Partner (set p x y) a b → ((a ≡ x) × (b ≡ y)) ⊎ Partner p a b
   set-only a b h = if-eq a x
       (λ e. let at : getD (set p x y) x unused ≡ b = ap (λ (z : ℕ). getD (set p x y) z unused) (sym e) ∙ h .is in
       if-lt x (length p) (λ l. inl (e, sym at ∙ getD-set-same p x y unused l))

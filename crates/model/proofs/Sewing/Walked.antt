@@ -24,12 +24,12 @@ use Rattle.model.proofs.Sewing.Partners.{Complete, pairUp-complete}
 -- ---- where the walk begins
 
 -- no dart has a partner
-unpaired : (k a b : ℕ) → Partner (replicate k unused) a b → ⊥
+pub unpaired : (k a b : ℕ) → Partner (replicate k unused) a b → ⊥
 unpaired zero a b h = h .real (sym (h .is))
 unpaired (suc k) zero b h = h .real (sym (h .is))
 unpaired (suc k) (suc a) b h = unpaired k a b (record { is = h .is; real = h .real })
 
-count-unpaired : (k : ℕ) → count unused (replicate k unused) ≡ k
+pub count-unpaired : (k : ℕ) → count unused (replicate k unused) ≡ k
 unfolding count
 count-unpaired zero = refl
 count-unpaired (suc k) = ap suc (count-unpaired k)
