@@ -1,0 +1,5 @@
+pub mod Relinked
+pub mod Edited
+pub mod Cases
+pub mod Pass
+pub mod Carrying
