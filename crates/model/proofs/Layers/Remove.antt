@@ -28,15 +28,15 @@ use Rattle.model.proofs.Layers.Marks.{sheet-layer}
 -- ---- the links of the new table
 
 module _ (n : ℕ) (t m : List ℕ) (x : ℕ) where
-  gone-link : (j : ℕ) → marked m x ≡ true → removedLink n t m x j ≡ unused
+  pub gone-link : (j : ℕ) → marked m x ≡ true → removedLink n t m x j ≡ unused
   unfolding removedLink
   gone-link j e = rw (e, removedLink)
 
-  stays-link : (j : ℕ) → marked m x ≡ false → j ≢ n → removedLink n t m x j ≡ link t j x
+  pub stays-link : (j : ℕ) → marked m x ≡ false → j ≢ n → removedLink n t m x j ≡ link t j x
   unfolding removedLink
   stays-link j e ne = rw (e, ne-eqb j n ne, removedLink)
 
-  found-link : marked m x ≡ false → removedLink n t m x n ≡ outside n t m (slots t) (link t n x)
+  pub found-link : marked m x ≡ false → removedLink n t m x n ≡ outside n t m (slots t) (link t n x)
   unfolding removedLink
   found-link e = rw (e, eq-eqb n n refl, removedLink)
 
@@ -51,7 +51,7 @@ module _ {n : ℕ} {t m : List ℕ} (L : Layer n t m) where
   unmarked : (x : ℕ) → live t x ≡ false → marked m x ≡ false
   unmarked x dead = test (marked m x) (λ e. absurd (clash (L .lives x e) dead)) (λ e. e)
 
-  next-lives : (x : ℕ) → marked m (link t n x) ≡ true → live t x ≡ true
+  pub next-lives : (x : ℕ) → marked m (link t n x) ≡ true → live t x ≡ true
   next-lives x e = test (live t x) (λ l. l) (λ dead.
       let below = live-in t (link t n x) whole (L .lives (link t n x) e) in
       let few = L .table .few in

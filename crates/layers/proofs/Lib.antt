@@ -1,0 +1,5 @@
+pub mod Walk
+pub mod Ranks
+pub mod Orders
+pub mod Halves
+pub mod Sheets

@@ -1,0 +1,85 @@
+-- `layers::first_outside` meets its contract. The loop's invariant: from y the walk ends where it ends from link n of x. The
+-- measure: the hops that are left of that finite path.
+use mathlib.Core.Path.{_≡_, refl, sym, ap, _∙_}
+use native.Mathlib.Omega.{arith}
+use borrow.Author.Needs.{needs}
+use Rattle.model.specs.Table.{slots, link}
+use Rattle.model.specs.Remove.{marked, outside}
+use Rattle.model.specs.Meaning.Walks.{hop}
+use Rattle.model.proofs.Operations.Frame.{outside-stops}
+use Rattle.layers.proofs.Walk.{marked-by, unmarked-by, hops, Ends, Nearer, hop-nearer, walk-out}
+use Rattle.layers.proofs.first_outside.Statement.{statement}
+use Rattle.layers.proofs.first_outside.Tie as tie
+
+abbrev Inv-loop : tie.InvT-loop
+Inv-loop n table marks x y₀ y =
+    (outside n table marks (slots table) y ≡ outside n table marks (slots table) (link table n x))
+    × Ends n table marks (slots table) y
+
+abbrev μ-loop : tie.MeasureT-loop
+μ-loop n table marks x y₀ y = hops n table marks (slots table) y
+
+link-requires : tie.Need-link-requires Inv-loop μ-loop
+link-requires c κs = let dim = c .before .before .pre .0 .table .dim in omega arith
+
+loop-holds : tie.Need-loop-holds Inv-loop μ-loop
+loop-holds c =
+    let s = c .before .before .before in
+    let at = c .link .ensures in
+    rw at (refl, walk-out (s .pre .0) (s .args .x) (s .pre .1))
+
+mark-requires : tie.Need-mark-requires Inv-loop μ-loop
+mark-requires c κs = search needs
+
+opposite-requires : tie.Need-opposite-requires Inv-loop μ-loop
+opposite-requires c κs = search needs
+
+link-requires-2 : tie.Need-link-requires-2 Inv-loop μ-loop
+link-requires-2 c κs =
+    let dim = c .before .before .before .before .before .before .before .pre .0 .table .dim in
+    omega arith
+
+-- the dart y of this turn is marked, and the next one is a hop on
+nearer : (c : tie.After-link2 Inv-loop μ-loop) →
+    let l = c .before .before .before .before in
+    let a = l .before .before .before .before .args in
+    Nearer (a .n) (a .table .now) (a .marks .now) (slots (a .table .now)) (l .loop .y) (c .link2 .result)
+unfolding hop
+nearer c =
+    let e = c .before .before in
+    let l = e .before .before in
+    let a = l .before .before .before .before .args in
+    let inside = marked-by (a .marks .now) (l .loop .y) _ (e .before .mark .ensures) (e .if1 .left) in
+    rw (c .link2 .ensures, c .before .opposite .ensures)
+    (hop-nearer (a .n) (a .table .now) (a .marks .now) (slots (a .table .now)) (l .loop .y) (l .loop .inv .1) inside)
+
+loop-less : tie.Need-loop-less Inv-loop μ-loop
+loop-less c = nearer c .fewer
+
+loop-again : tie.Need-loop-again Inv-loop μ-loop
+loop-again c =
+    let inv = c .before .before .before .before .loop .inv in
+    let e = nearer c .same in
+    (e ∙ inv .0, ap (marked _) e ∙ inv .1)
+
+returns : tie.Need-returns Inv-loop μ-loop
+returns c =
+    let l = c .before .before in
+    let s = l .before .before .before .before in
+    let out = unmarked-by (s .args .marks .now) (l .loop .y) _ (c .before .mark .ensures) (c .if1 .taken) in
+    sym (outside-stops _ _ _ (slots (s .args .table .now)) (l .loop .y) out) ∙ l .loop .inv .0
+
+pub first-outside-spec : {M : Type 1} → statement M
+first-outside-spec =
+    tie.close
+    (tie.spec
+    Inv-loop
+    μ-loop
+    link-requires
+    loop-holds
+    mark-requires
+    opposite-requires
+    link-requires-2
+    loop-less
+    loop-again
+    returns)

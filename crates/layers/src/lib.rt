@@ -1,0 +1,390 @@
+// The links that remove, add and split give a dart, one entry at a time.
+use reading::link;
+use reading::live;
+use reading::slots;
+ghost use mathlib.Core.Path.{_≡_};
+ghost use mathlib.Core.Bool.{false};
+ghost use mathlib.Core.List.{[], _∷_};
+ghost use Prim.Native.Nat.{ℕ, _*_, _/_, _%_, _≤_, _<_, min};
+ghost use lib.ListN.{length, getD, take, set};
+ghost use Rattle.model.specs.Lists.{ones, indexOf};
+ghost use Rattle.model.specs.Checks.{pass, dimOk, tableOk};
+ghost use Rattle.model.specs.Table.{slots, link, walk, unusedSlots};
+ghost use Rattle.model.specs.Remove.{opposite, marked, outside, removedLink};
+ghost use Rattle.model.specs.Cell.{cellSize};
+ghost use Rattle.model.specs.Add.{addedLink};
+ghost use Rattle.model.specs.Split.{crosses, newDart, newDartLink, halvedLink};
+ghost use Rattle.model.specs.Numbering.{corners, firstBit, swapFirst, swapLast, cellLink};
+ghost use Rattle.model.specs.Meaning.Walks.{Layer};
+ghost use Rattle.layers.specs.Ranks.{Ranked, Lists, Entered, Halving};
+ghost use Rattle.layers.specs.Orders.{orders};
+
+// The entry of an unused slot.
+const UNUSED: u32 = 4294967295;
+
+// The axis orders xyz, xzy, yxz, yzx, zxy, zyx with the first two axes exchanged, and with the last two.
+const FIRST_TWO: [u32; 6] = [2, 4, 0, 5, 1, 3];
+
+const LAST_TWO: [u32; 6] = [1, 0, 3, 2, 5, 4];
+
+// ---- remove
+
+// The mark of x; past the marks 0.
+fn mark(marks: &[u8], x: u32) -> u8
+    ensures { λ r. ⌜ r ≡ getD (now (marks .entry)) x 0 ⌝ }
+{
+    let at = x as usize;
+    if at < marks.len() { marks[at] } else { 0 }
+}
+
+// The opposite edge 1.0.1 of y.
+fn opposite_edge(table: &[u32], y: u32) -> u32
+    ensures { λ r. ⌜ r ≡ walk (now (table .entry)) (1 ∷ 0 ∷ 1 ∷ []) y ⌝ }
+{
+    link(table, 1, link(table, 0, link(table, 1, y)))
+}
+
+// The opposite side of y: 1.0.1 for n = 2 and 2.1.0.1.2 for n = 3.
+fn opposite(n: u32, table: &[u32], y: u32) -> u32
+    ensures { λ r. ⌜ r ≡ walk (now (table .entry)) (opposite n) y ⌝ }
+{
+    if n == 3 {
+        link(table, 2, opposite_edge(table, link(table, 2, y)))
+    } else {
+        opposite_edge(table, y)
+    }
+}
+
+// The first dart outside on the walk: link n of x, then (opposite side, link n) again and again. The path of hops from x is
+// finite: no dart inside comes twice.
+pub fn first_outside(n: u32, table: &[u32], marks: &[u8], x: u32) -> u32
+    requires { ⌜ Layer n (now table) (now marks) ⌝ }
+    requires { ⌜ marked (now marks) x ≡ false ⌝ }
+    ensures { λ r. ⌜ r ≡ outside n (now (table .entry)) (now (marks .entry)) (slots (now (table .entry))) (link (now (table .entry)) n x) ⌝ }
+{
+    let mut y = link(table, n as usize, x);
+    loop {
+        if mark(marks, y) == 0 {
+            break y;
+        }
+        y = link(table, n as usize, opposite(n, table, y));
+    }
+}
+
+// Link j of the slot x after remove.
+pub fn removed_link(n: u32, table: &[u32], marks: &[u8], x: u32, j: u32) -> u32
+    requires { ⌜ Layer n (now table) (now marks) ⌝ }
+    requires { ⌜ j < 4 ⌝ }
+    ensures { λ r. ⌜ r ≡ removedLink n (now (table .entry)) (now (marks .entry)) x j ⌝ }
+{
+    if mark(marks, x) != 0 {
+        UNUSED
+    } else if j == n {
+        first_outside(n, table, marks, x)
+    } else {
+        link(table, j as usize, x)
+    }
+}
+
+// ---- slots listed with their ranks
+
+// Where x is listed, it becomes the word r and r its rank; how many are listed then.
+fn enter(words: &mut [u32], rank: &mut [u32], r: u32, x: u32, listed: bool) -> u32
+    requires { ⌜ (r < 65536) × (r < length (now words)) × (x < length (now rank)) ⌝ }
+    ensures { λ s. ⌜ Entered listed r x s (now (words .entry)) (now (words .exit)) (now (rank .entry)) (now (rank .exit)) ⌝ }
+{
+    if listed {
+        words[r as usize] = x;
+        rank[x as usize] = r;
+        r + 1
+    } else {
+        r
+    }
+}
+
+// Lists the darts with the mark 1, rising; how many they are.
+pub fn list_marked(marks: &[u8], darts: &mut [u32], rank: &mut [u32]) -> u32
+    requires { ⌜ length (now marks) ≤ 65536 ⌝ }
+    requires { ⌜ (length (now marks) ≤ length (now darts)) × (length (now marks) ≤ length (now rank)) ⌝ }
+    ensures { λ r. ⌜ Lists (ones (now (marks .entry))) r (now (darts .entry)) (now (darts .exit)) (now (rank .entry)) (now (rank .exit)) ⌝ }
+{
+    let mut r: u32 = 0;
+    for x in 0..marks.len() {
+        r = enter(darts, rank, r, x as u32, marks[x] == 1);
+    }
+    r
+}
+
+// Lists the lowest unused slots, rising, at most `want` of them; how many they are.
+pub fn list_unused(table: &[u32], fresh: &mut [u32], rank: &mut [u32], want: u32) -> u32
+    requires { ⌜ tableOk (now table) ≡ pass ⌝ }
+    requires { ⌜ (min want (slots (now table)) ≤ length (now fresh)) × (slots (now table) ≤ length (now rank)) ⌝ }
+    ensures { λ r. ⌜ Lists (take want (unusedSlots (now (table .entry)))) r (now (fresh .entry)) (now (fresh .exit)) (now (rank .entry)) (now (rank .exit)) ⌝ }
+{
+    let end = slots(table);
+    let mut r: u32 = 0;
+    let mut x: u32 = 0;
+    while (x < end) & (r < want) {
+        r = enter(fresh, rank, r, x, !live(table, x));
+        x += 1;
+    }
+    r
+}
+
+// The place of x among the first `size` words, or size: the word at its rank is x only if it is listed.
+fn index_of(words: &[u32], rank: &[u32], size: u32, x: u32) -> u32
+    requires { ⌜ Ranked size (now words) (now rank) ⌝ }
+    ensures { λ r. ⌜ r ≡ indexOf x (take size (now (words .entry))) ⌝ }
+{
+    let at = x as usize;
+    if at >= rank.len() {
+        return size;
+    }
+    let r = rank[at];
+    if r >= size {
+        return size;
+    }
+    if words[r as usize] == x { r } else { size }
+}
+
+// ---- add
+
+// The number of vertices of a cell.
+fn corners(n: u32) -> u32
+    ensures { λ r. ⌜ r ≡ corners n ⌝ }
+{
+    if n == 3 { 8 } else { 4 }
+}
+
+// The bit of the first axis of an axis order.
+fn first_bit(n: u32, order: u32) -> u32
+    requires { ⌜ order < orders n ⌝ }
+    ensures { λ r. ⌜ r ≡ firstBit n order ⌝ }
+{
+    if n == 3 { 1 << (order / 2) } else { 1 << order }
+}
+
+// The axis order with the first two axes exchanged.
+fn swap_first(n: u32, order: u32) -> u32
+    requires { ⌜ order < orders n ⌝ }
+    ensures { λ r. ⌜ r ≡ swapFirst n order ⌝ }
+{
+    if n == 3 {
+        FIRST_TWO[order as usize]
+    } else {
+        1 - order
+    }
+}
+
+// The axis order with the last two axes exchanged, of three.
+fn swap_last(order: u32) -> u32
+    requires { ⌜ order < 6 ⌝ }
+    ensures { λ r. ⌜ r ≡ swapLast order ⌝ }
+{
+    LAST_TWO[order as usize]
+}
+
+// Link i of the dart k of a new cell, as a number of the same cell: by the dart's axis order and the bits of its vertex.
+pub fn cell_link(n: u32, i: u32, k: u32) -> u32
+    requires { ⌜ (dimOk n ≡ pass) × (i < 4) × (k < cellSize n) ⌝ }
+    ensures { λ r. ⌜ r ≡ cellLink n i k ⌝ }
+{
+    let corners = corners(n);
+    let mut order = k / corners;
+    let mut vertex = k % corners;
+    if i == 0 {
+        vertex ^= first_bit(n, order);
+    } else if i == 1 {
+        order = swap_first(n, order);
+    } else if (i == 2) & (n == 3) {
+        order = swap_last(order);
+    }
+    corners * order + vertex
+}
+
+// Link i of the slot d after add, where the first `size` words of fresh are the slots of the new cell.
+pub fn added_link(
+    n: u32,
+    table: &[u32],
+    fresh: &[u32],
+    rank: &[u32],
+    size: u32,
+    d: u32,
+    i: u32,
+) -> u32
+    requires { ⌜ (dimOk n ≡ pass) × (size ≡ cellSize n) × (i < 4) ⌝ }
+    requires { ⌜ Ranked size (now fresh) (now rank) ⌝ }
+    ensures { λ r. ⌜ r ≡ addedLink n (now (table .entry)) (take size (now (fresh .entry))) d i ⌝ }
+{
+    let k = index_of(fresh, rank, size, d);
+    if k < size {
+        fresh[cell_link(n, i, k) as usize]
+    } else {
+        link(table, i as usize, d)
+    }
+}
+
+// ---- split
+
+// Whether the link 1 of one of the first `size` darts has the mark 1.
+pub fn crosses(table: &[u32], marks: &[u8], darts: &[u32], size: u32) -> bool
+    requires { ⌜ size ≤ length (now darts) ⌝ }
+    ensures { λ r. ⌜ r ≡ crosses (now (table .entry)) (now (marks .entry)) (take size (now (darts .entry))) ⌝ }
+{
+    for k in 0..size {
+        if mark(marks, link(table, 1, darts[k as usize])) == 1 {
+            return true;
+        }
+    }
+    false
+}
+
+// The new dart of g: a where role is 0, b where it is 1, c where it is 2.
+fn new_dart(n: u32, darts: &[u32], fresh: &[u32], rank: &[u32], size: u32, role: u32, g: u32) -> u32
+    requires { ⌜ (Halving n size (now darts) (now fresh) (now rank)) × (role < 3) ⌝ }
+    ensures { λ r. ⌜ r ≡ newDart n (take size (now (darts .entry))) (take (n * size) (now (fresh .entry))) role g ⌝ }
+{
+    let k = n * index_of(darts, rank, size, g) + role;
+    if k < n * size {
+        fresh[k as usize]
+    } else {
+        UNUSED
+    }
+}
+
+// Link j of x, which is a(g).
+fn a_link(
+    n: u32,
+    table: &[u32],
+    darts: &[u32],
+    fresh: &[u32],
+    rank: &[u32],
+    size: u32,
+    x: u32,
+    g: u32,
+    j: u32,
+) -> u32
+    requires { ⌜ (Halving n size (now darts) (now fresh) (now rank)) × (j < 4) ⌝ }
+    ensures { λ r. ⌜ r ≡ newDartLink n (now (table .entry)) (take size (now (darts .entry))) (take (n * size) (now (fresh .entry))) x g 0 j ⌝ }
+{
+    if j == 0 {
+        g
+    } else if j == 1 {
+        new_dart(n, darts, fresh, rank, size, 1, g)
+    } else if j == 2 {
+        new_dart(n, darts, fresh, rank, size, 0, link(table, 2, g))
+    } else if n == 3 {
+        new_dart(n, darts, fresh, rank, size, 0, link(table, 3, g))
+    } else {
+        x
+    }
+}
+
+// Link j of x, which is b(g).
+fn b_link(
+    n: u32,
+    table: &[u32],
+    darts: &[u32],
+    fresh: &[u32],
+    rank: &[u32],
+    size: u32,
+    x: u32,
+    g: u32,
+    j: u32,
+) -> u32
+    requires { ⌜ (Halving n size (now darts) (now fresh) (now rank)) × (j < 4) ⌝ }
+    ensures { λ r. ⌜ r ≡ newDartLink n (now (table .entry)) (take size (now (darts .entry))) (take (n * size) (now (fresh .entry))) x g 1 j ⌝ }
+{
+    if j == 0 {
+        new_dart(n, darts, fresh, rank, size, 1, opposite_edge(table, g))
+    } else if j == 1 {
+        new_dart(n, darts, fresh, rank, size, 0, g)
+    } else if n == 3 {
+        if j == 2 {
+            new_dart(n, darts, fresh, rank, size, 2, g)
+        } else {
+            new_dart(n, darts, fresh, rank, size, 1, link(table, 3, g))
+        }
+    } else if j == 2 {
+        new_dart(n, darts, fresh, rank, size, 1, link(table, 0, g))
+    } else {
+        x
+    }
+}
+
+// Link j of c(g).
+fn c_link(
+    n: u32,
+    table: &[u32],
+    darts: &[u32],
+    fresh: &[u32],
+    rank: &[u32],
+    size: u32,
+    g: u32,
+    j: u32,
+) -> u32
+    requires { ⌜ (Halving n size (now darts) (now fresh) (now rank)) × (j < 4) ⌝ }
+    ensures { λ r. ⌜ ((x : ℕ) → r ≡ newDartLink n (now (table .entry)) (take size (now (darts .entry))) (take (n * size) (now (fresh .entry))) x g 2 j) ⌝ }
+{
+    if j == 0 {
+        new_dart(n, darts, fresh, rank, size, 2, opposite_edge(table, g))
+    } else if j == 1 {
+        new_dart(n, darts, fresh, rank, size, 2, link(table, 2, g))
+    } else if j == 2 {
+        new_dart(n, darts, fresh, rank, size, 1, g)
+    } else {
+        new_dart(n, darts, fresh, rank, size, 2, link(table, 0, g))
+    }
+}
+
+// Link j of x, which is the k-th new dart.
+fn new_link(
+    n: u32,
+    table: &[u32],
+    darts: &[u32],
+    fresh: &[u32],
+    rank: &[u32],
+    size: u32,
+    x: u32,
+    k: u32,
+    j: u32,
+) -> u32
+    requires { ⌜ (Halving n size (now darts) (now fresh) (now rank)) × (k < n * size) × (j < 4) ⌝ }
+    ensures { λ r. ⌜ r ≡ newDartLink n (now (table .entry)) (take size (now (darts .entry))) (take (n * size) (now (fresh .entry))) x (getD (take size (now (darts .entry))) (k / n) 0) (k % n) j ⌝ }
+{
+    let g = darts[(k / n) as usize];
+    let role = k % n;
+    if role == 0 {
+        a_link(n, table, darts, fresh, rank, size, x, g, j)
+    } else if role == 1 {
+        b_link(n, table, darts, fresh, rank, size, x, g, j)
+    } else {
+        c_link(n, table, darts, fresh, rank, size, g, j)
+    }
+}
+
+// Link j of the slot x after split, where the first `size` words of darts are the darts of S, and the first n * size words of
+// fresh the new darts.
+pub fn split_link(
+    n: u32,
+    table: &[u32],
+    darts: &[u32],
+    fresh: &[u32],
+    rank: &[u32],
+    size: u32,
+    x: u32,
+    j: u32,
+) -> u32
+    requires { ⌜ (Halving n size (now darts) (now fresh) (now rank)) × (j < 4) ⌝ }
+    ensures { λ r. ⌜ r ≡ halvedLink n (now (table .entry)) (take size (now (darts .entry))) (take (n * size) (now (fresh .entry))) x j ⌝ }
+{
+    let new = n * size;
+    let k = index_of(fresh, rank, new, x);
+    if k < new {
+        new_link(n, table, darts, fresh, rank, size, x, k, j)
+    } else if (j == 0) & (index_of(darts, rank, size, x) < size) {
+        new_dart(n, darts, fresh, rank, size, 0, x)
+    } else {
+        link(table, j as usize, x)
+    }
+}
