@@ -18,8 +18,11 @@ ghost use Rattle.edits.specs.Passes.{Passes};
 
 // What an operation makes of the table, from the lists that are lent with it.
 pub enum Edit {
+    Add,
     Sew(u32),
     Unsew(u32),
+    Remove,
+    Split,
 }
 
 // Whether link j of x is the link i of a live slot.
@@ -74,8 +77,11 @@ fn new_link(
     ensures { λ r. ⌜ r ≡ editLink edit n (now (table .entry)) (now (marks .entry)) (now (a .entry)) (now (b .entry)) size x j ⌝ }
 {
     match edit {
+        Edit::Add => layers::added_link(n, table, a, c, size, x, j),
         Edit::Sew(i) => after_sew(table, a, b, i, x, j),
         Edit::Unsew(i) => after_unsew(table, marks, i, x, j),
+        Edit::Remove => layers::removed_link(n, table, marks, x, j),
+        Edit::Split => layers::split_link(n, table, a, b, c, size, x, j),
     }
 }
 
