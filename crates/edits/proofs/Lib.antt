@@ -3,3 +3,5 @@ pub mod Edited
 pub mod Cases
 pub mod Pass
 pub mod Carrying
+pub mod Tables
+pub mod Fitting

@@ -56,7 +56,7 @@ pub record FitUnsew (t : List ℕ) (i : ℕ) (m : List ℕ) : Type 0 where
   pub relinks : Relinks t i (unsewnLink t i m)
   pub long : length m ≡ slots t
 
-unfoldable pub Fit : Edit → ℕ → List ℕ → List ℕ → List ℕ → List ℕ → List ℕ → ℕ → Type 0
+abbrev pub Fit : Edit → ℕ → List ℕ → List ℕ → List ℕ → List ℕ → List ℕ → ℕ → Type 0
 Fit Add n t m a b c size = FitAdd n a c size
 Fit (Sew i) n t m a b c size = FitSew t i a b
 Fit (Unsew i) n t m a b c size = FitUnsew t i m

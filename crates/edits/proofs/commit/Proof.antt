@@ -8,7 +8,7 @@ use Rattle.model.specs.Journal.{cursor}
 use Rattle.journal.proofs.Commits.{fits-room}
 use Rattle.edits.specs.Edits.{editTable}
 use Rattle.edits.proofs.Edited.{edit-long}
-use Rattle.edits.proofs.Carrying.{carried-refused, draft-closes, record-puts, carried-written}
+use Rattle.edits.proofs.Carrying.{refusal-carried, draft-closes, record-puts, record-carried}
 use Rattle.edits.proofs.commit.Statement.{statement}
 use Rattle.edits.proofs.commit.Tie as tie
 
@@ -39,7 +39,7 @@ same-length-2 c = search needs
 returns : tie.Need-returns
 returns c =
     let f = c .before in
-    carried-refused _ _ _ _ (f .before .before .count-changes .ensures) _ (f .record-fits .ensures) (not-true _ (c .if1 .taken))
+    refusal-carried _ _ _ _ (f .before .before .count-changes .ensures) _ (f .record-fits .ensures) (not-true _ (c .if1 .taken))
 
 slice-read-start : tie.Need-slice-read-start
 slice-read-start c = search needs
@@ -100,7 +100,7 @@ returns-2 c =
     let e = written w in
     let f = e .before in
     let count = f .before .before .count-changes .ensures in
-    carried-written _ _ _ _ count _ (f .record-fits .ensures) (long f) (start f .pre .1 .1)
+    record-carried _ _ _ _ count _ (f .record-fits .ensures) (long f) (start f .pre .1 .1)
     (not-false _ (e .if1 .left)) _ (k .close-record .ensures _ _ (w .write-changes .ensures) count) _ (p .put-record .ensures)
 
 pub commit-spec : {M : Type 1} → statement M

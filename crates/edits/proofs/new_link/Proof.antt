@@ -33,7 +33,6 @@ enum-told : tie.Need-enum-told
 enum-told c = search needs
 
 added-link-requires : tie.Need-added-link-requires
-unfolding Fit
 added-link-requires c κs =
     let s = start (c .before .before) in
     let f = fits s (c .enum-told .given .1) in
@@ -43,7 +42,6 @@ enum-known-edit : tie.Need-enum-known-edit
 enum-known-edit c = search needs
 
 after-sew-requires : tie.Need-after-sew-requires
-unfolding Fit
 after-sew-requires c κs =
     let k = c .before in
     let s = start (k .before .before) in
@@ -53,7 +51,6 @@ enum-known-edit-2 : tie.Need-enum-known-edit-2
 enum-known-edit-2 c = search needs
 
 after-unsew-requires : tie.Need-after-unsew-requires
-unfolding Fit
 after-unsew-requires c κs =
     let k = c .before in
     let s = start (k .before .before) in
@@ -63,7 +60,6 @@ enum-told-2 : tie.Need-enum-told-2
 enum-told-2 c = search needs
 
 removed-link-requires : tie.Need-removed-link-requires
-unfolding Fit
 removed-link-requires c κs =
     let s = start (c .before .before) in
     (fits s (c .enum-told2 .given .1), s .pre .1)
@@ -72,7 +68,6 @@ enum-told-3 : tie.Need-enum-told-3
 enum-told-3 c = search needs
 
 split-link-requires : tie.Need-split-link-requires
-unfolding Fit
 split-link-requires c κs =
     let s = start (c .before .before) in
     (fits s (c .enum-told3 .given .1), s .pre .1)
