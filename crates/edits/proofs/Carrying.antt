@@ -14,6 +14,7 @@ use Rattle.model.proofs.History.Record.{length-record}
 use Rattle.journal.specs.Records.{drafted, within}
 use Rattle.journal.proofs.Drafts.{draft-keeps}
 use Rattle.journal.proofs.Commits.{fits-room, written-fits, written-put}
+use Rattle.edits.specs.Passes.{Room}
 use Rattle.edits.specs.Carried.{Carried}
 
 module _ (t u j : List ℕ) (k : ℕ) (count : k ≡ length (changesFrom 0 t u))
@@ -26,7 +27,7 @@ module _ (t u j : List ℕ) (k : ℕ) (count : k ≡ length (changesFrom 0 t u))
     refusal-carried h = record { count = count; tested = sym h ∙ record-tested; table = refl; journal = refl }
 
     module _ (long : length t ≡ length u) (rule : JournalRule j) (fits : r ≡ true) where
-      room : cursor j + (3 * length (changesFrom 0 t u) + 2) ≤ length j
+      room : Room t u j
       room = fits-room t u j k count r tested fits
 
       -- what `close_record` requires of the draft
@@ -55,7 +56,8 @@ module _ (t u j : List ℕ) (k : ℕ) (count : k ≡ length (changesFrom 0 t u))
 
 -- ---- the model's `commit`
 
-module _ {t u j t′ j′ : List ℕ} {fits : Bool} {k : ℕ} (c : Carried t u j t′ j′ fits k) (m : List ℕ) (p : ℕ) (size : List Change → ℕ)
+module _ {t u j t′ j′ : List ℕ} {fits : Bool} {k : ℕ} (c : Carried t u j t′ j′ fits k) (m : List ℕ) (p : ℕ)
+    (size : List Change → ℕ)
   where
     pub carried-accepted : fits ≡ true → commit t u m j p size
         ≡ record { number = 0; place = p; count = size (changesFrom 0 t u); table = t′; marks = m; journal = j′ }

@@ -13,6 +13,7 @@ module _ (edit : Edit) (n : ℕ) (t m a b : List ℕ) (size : ℕ) where
   unfolding editTable retable
   edit-long = sym (length-tab _ (length t))
 
-  pub edit-entry : (e : ℕ) → e < length t → getD (editTable edit n t m a b size) e 0 ≡ editLink edit n t m a b size (e / 4) (e % 4)
+  pub edit-entry : (e : ℕ) → e < length t
+      → getD (editTable edit n t m a b size) e 0 ≡ editLink edit n t m a b size (e / 4) (e % 4)
   unfolding editTable retable
   edit-entry e h = getD-tab _ (length t) e 0 h

@@ -1,17 +1,17 @@
 -- The two rising passes: the one that counts the changes, entry by entry, and the one that writes them.
-use Prim.Native.Nat.{ℕ, _+_, _*_, _≤_, _<_}
+use Prim.Native.Nat.{ℕ, _+_, _≤_, _<_}
 use mathlib.Core.Path.{_≡_, sym, ap, _∙_}
 use mathlib.Core.Logic.{_≢_}
 use mathlib.Core.List.{List, [], _∷_, _++_}
 use native.Mathlib.Numerals.{add-one}
 use native.Mathlib.Omega.{arith}
 use lib.ListN.{length, getD}
-use Rattle.model.specs.Journal.{Change, cursor, changesFrom}
+use Rattle.model.specs.Journal.{Change}
 use Rattle.journal.specs.Records.{changesBelow, drafted, Scanned}
 use Rattle.journal.proofs.Changes.{below-same, below-count, below-most}
 use Rattle.journal.proofs.Drafts.{draft-keeps}
 use Rattle.journal.proofs.Scans.{scan-same, scan-more}
-use Rattle.edits.specs.Passes.{Passes}
+use Rattle.edits.specs.Passes.{Room, Passes}
 
 module _ (t u : List ℕ) (long : length t ≡ length u) (e k : ℕ) (inside : e < length t)
     (counted : k ≡ length (changesBelow e t u)) (x y : ℕ) (old : x ≡ getD t e 0) (new : y ≡ getD u e 0)
@@ -41,8 +41,7 @@ module _ (e x y done : ℕ) (w : List ℕ) where
       (λ i cs p q. rw (← old, ← new) (wrote i cs p q))
 
 -- where the record has room, the pass keeps the length
-pub scan-length : (t u j : List ℕ) → length t ≡ length u → cursor j + (3 * length (changesFrom 0 t u) + 2) ≤ length j
-    → (e k : ℕ) (w : List ℕ) → e ≤ length t → Scanned t u j e k w → length w ≡ length j
+pub scan-length : (t u j : List ℕ) → length t ≡ length u → Room t u j → (e k : ℕ) (w : List ℕ) → e ≤ length t → Scanned t u j e k w → length w ≡ length j
 scan-length t u j long room e k w h s =
     let most = below-most t u long e h in
     ap length (s .draft) ∙ draft-keeps j (changesBelow e t u) (omega arith) .1

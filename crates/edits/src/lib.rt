@@ -14,7 +14,7 @@ ghost use Rattle.reading.specs.Sized.{Sized};
 ghost use Rattle.journal.specs.Records.{drafted};
 ghost use Rattle.edits.specs.Edits.{editLink, editTable, Fit, FitSew, FitUnsew};
 ghost use Rattle.edits.specs.Carried.{Carried};
-ghost use Rattle.edits.specs.Passes.{Passes};
+ghost use Rattle.edits.specs.Passes.{Room, Passes};
 
 // What an operation makes of the table, from the lists that are lent with it.
 pub enum Edit {
@@ -39,7 +39,8 @@ fn relinks(table: &[u32], i: u32, x: u32, j: u32) -> bool
 // Link j of the slot x after sew by link i, from the partners there and back.
 fn after_sew(table: &[u32], there: &[u32], back: &[u32], i: u32, x: u32, j: u32) -> u32
     requires { ⌜ (FitSew (now table) i (now there) (now back)) × (j < 4) ⌝ }
-    ensures { λ r. ⌜ r ≡ relinkAt (now (table .entry)) i (sewnLink (now (table .entry)) i (now (there .entry)) (now (back .entry))) x j ⌝ }
+    ensures { λ r. ⌜ r ≡ relinkAt (now (table .entry)) i
+        (sewnLink (now (table .entry)) i (now (there .entry)) (now (back .entry))) x j ⌝ }
 {
     if relinks(table, i, x, j) {
         sides::sewn_link(table, there, back, i, x)
@@ -99,7 +100,8 @@ fn new_entry(
 ) -> u32
     requires { ⌜ Fit edit n (now table) (now marks) (now a) (now b) (now c) size ⌝ }
     requires { ⌜ (Sized (now table)) × (e < length (now table)) ⌝ }
-    ensures { λ r. ⌜ r ≡ getD (editTable edit n (now (table .entry)) (now (marks .entry)) (now (a .entry)) (now (b .entry)) size) e 0 ⌝ }
+    ensures { λ r. ⌜ r
+        ≡ getD (editTable edit n (now (table .entry)) (now (marks .entry)) (now (a .entry)) (now (b .entry)) size) e 0 ⌝ }
 {
     new_link(
         edit,
@@ -168,8 +170,7 @@ fn write_changes(
 )
     requires { ⌜ Fit edit n (now table) (now marks) (now a) (now b) (now c) size ⌝ }
     requires { ⌜ Sized (now table) ⌝ }
-    requires { ⌜ cursor (now journal) + (3 * length (changesFrom 0 (now table) (editTable edit n (now table) (now marks) (now a) (now b) size)) + 2)
-        ≤ length (now journal) ⌝ }
+    requires { ⌜ Room (now table) (editTable edit n (now table) (now marks) (now a) (now b) size) (now journal) ⌝ }
     ensures { λ _. ⌜ now (journal .exit) ≡ drafted (now (journal .entry)) (changesFrom 0 (now (table .entry))
         (editTable edit n (now (table .entry)) (now (marks .entry)) (now (a .entry)) (now (b .entry)) size)) ⌝ }
 {

@@ -12,7 +12,8 @@ sewn-link-requires : tie.Need-sewn-link-requires
 sewn-link-requires c κs =
     let s = c .before .before .before .before .before in
     let fit = s .pre .0 in
-    (relinks-at (fit .relinks) (s .args .x) (s .args .j) (sym (c .before .relinks .ensures) ∙ c .if1 .taken), fit .long-there, fit .long-back)
+    let here = sym (c .before .relinks .ensures) ∙ c .if1 .taken in
+    (relinks-at (fit .relinks) (s .args .x) (s .args .j) here, fit .long-there, fit .long-back)
 
 link-requires : tie.Need-link-requires
 link-requires c κs = search needs
@@ -20,12 +21,14 @@ link-requires c κs = search needs
 returns : tie.Need-returns
 returns c =
     let s = c .before .before .before .before .before .before in
-    c .sewn-link .ensures ∙ relinks-here (s .pre .0 .relinks) (s .args .x) (s .args .j) (sym (c .before .before .relinks .ensures) ∙ c .before .if1 .taken)
+    let here = sym (c .before .before .relinks .ensures) ∙ c .before .if1 .taken in
+    c .sewn-link .ensures ∙ relinks-here (s .pre .0 .relinks) (s .args .x) (s .args .j) here
 
 returns-2 : tie.Need-returns-2
 returns-2 c =
     let s = c .before .before .before .before .before .before in
-    c .link .ensures ∙ relinks-elsewhere (s .pre .0 .relinks) (s .args .x) (s .args .j) (s .pre .1) (sym (c .before .before .relinks .ensures) ∙ c .before .if1 .left)
+    let elsewhere = sym (c .before .before .relinks .ensures) ∙ c .before .if1 .left in
+    c .link .ensures ∙ relinks-elsewhere (s .pre .0 .relinks) (s .args .x) (s .args .j) (s .pre .1) elsewhere
 
 pub after-sew-spec : {M : Type 1} → statement M
 after-sew-spec = tie.close (tie.spec relinks-requires sewn-link-requires link-requires returns returns-2)

@@ -12,7 +12,8 @@ unsewn-link-requires : tie.Need-unsewn-link-requires
 unsewn-link-requires c κs =
     let s = c .before .before .before .before in
     let fit = s .pre .0 in
-    (relinks-at (fit .relinks) (s .args .x) (s .args .j) (sym (c .before .relinks .ensures) ∙ c .if1 .taken), fit .long)
+    let here = sym (c .before .relinks .ensures) ∙ c .if1 .taken in
+    (relinks-at (fit .relinks) (s .args .x) (s .args .j) here, fit .long)
 
 link-requires : tie.Need-link-requires
 link-requires c κs = search needs
@@ -20,12 +21,14 @@ link-requires c κs = search needs
 returns : tie.Need-returns
 returns c =
     let s = c .before .before .before .before .before in
-    c .unsewn-link .ensures ∙ relinks-here (s .pre .0 .relinks) (s .args .x) (s .args .j) (sym (c .before .before .relinks .ensures) ∙ c .before .if1 .taken)
+    let here = sym (c .before .before .relinks .ensures) ∙ c .before .if1 .taken in
+    c .unsewn-link .ensures ∙ relinks-here (s .pre .0 .relinks) (s .args .x) (s .args .j) here
 
 returns-2 : tie.Need-returns-2
 returns-2 c =
     let s = c .before .before .before .before .before in
-    c .link .ensures ∙ relinks-elsewhere (s .pre .0 .relinks) (s .args .x) (s .args .j) (s .pre .1) (sym (c .before .before .relinks .ensures) ∙ c .before .if1 .left)
+    let elsewhere = sym (c .before .before .relinks .ensures) ∙ c .before .if1 .left in
+    c .link .ensures ∙ relinks-elsewhere (s .pre .0 .relinks) (s .args .x) (s .args .j) (s .pre .1) elsewhere
 
 pub after-unsew-spec : {M : Type 1} → statement M
 after-unsew-spec = tie.close (tie.spec relinks-requires unsewn-link-requires link-requires returns returns-2)

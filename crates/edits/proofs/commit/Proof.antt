@@ -1,12 +1,9 @@
 -- `edits::commit` meets its contract.
-use mathlib.Core.Path.{_≡_, refl, sym, _∙_}
 use native.Mathlib.Omega.{arith}
-use lib.ListN.{length}
 use borrow.Author.Needs.{needs}
 use borrow.Author.Tests.{not-true, not-false}
 use Rattle.model.specs.Journal.{cursor}
 use Rattle.journal.proofs.Commits.{fits-room}
-use Rattle.edits.specs.Edits.{editTable}
 use Rattle.edits.proofs.Edited.{edit-long}
 use Rattle.edits.proofs.Carrying.{refusal-carried, draft-closes, record-puts, record-carried}
 use Rattle.edits.proofs.commit.Statement.{statement}
@@ -15,14 +12,6 @@ use Rattle.edits.proofs.commit.Tie as tie
 -- the function's entry, from where the record was tested
 abbrev start : tie.After-record-fits → tie.Start
 start f = f .before .before .before .before .before .before .before .before .before .before
-
--- the table after the edit is as long as before
-long : (f : tie.After-record-fits)
-    → let a = start f .args in
-    length (a .table .now) ≡ length (editTable (a .edit) (a .n) (a .table .now) (a .marks .now) (a .a .now) (a .b .now) (a .size))
-long f =
-    let a = start f .args in
-    edit-long (a .edit) (a .n) (a .table .now) (a .marks .now) (a .a .now) (a .b .now) (a .size)
 
 count-changes-requires : tie.Need-count-changes-requires
 count-changes-requires c κs = search needs
@@ -52,9 +41,8 @@ write-changes-requires c κs =
     let e = c .before .before .before in
     let f = e .before in
     let p = start f .pre in
-    let room =
-    fits-room _ _ _ _ (f .before .before .count-changes .ensures) _ (f .record-fits .ensures) (not-false _ (e .if1 .left)) in
-    (p .0, (p .1 .0, room))
+    let count = f .before .before .count-changes .ensures in
+    (p .0, (p .1 .0, fits-room _ _ _ _ count _ (f .record-fits .ensures) (not-false _ (e .if1 .left))))
 
 -- where the test has passed, from where the triples stand, and from where the record stands
 abbrev written : tie.After-write-changes → tie.Else1
@@ -68,7 +56,8 @@ close-record-requires c κs =
     let w = c .before .before .before in
     let e = written w in
     let f = e .before in
-    draft-closes _ _ _ _ (f .before .before .count-changes .ensures) _ (f .record-fits .ensures) (long f) (start f .pre .1 .1)
+    let count = f .before .before .count-changes .ensures in
+    draft-closes _ _ _ _ count _ (f .record-fits .ensures) (edit-long _ _ _ _ _ _ _) (start f .pre .1 .1)
     (not-false _ (e .if1 .left)) _ (w .write-changes .ensures)
 
 cast-put-record : tie.Need-cast-put-record
@@ -82,7 +71,7 @@ put-record-requires c κs =
     let e = written w in
     let f = e .before in
     let count = f .before .before .count-changes .ensures in
-    record-puts _ _ _ _ count _ (f .record-fits .ensures) (long f) (start f .pre .1 .1)
+    record-puts _ _ _ _ count _ (f .record-fits .ensures) (edit-long _ _ _ _ _ _ _) (start f .pre .1 .1)
     (not-false _ (e .if1 .left)) _ (k .close-record .ensures _ _ (w .write-changes .ensures) count)
 
 same-length-3 : tie.Need-same-length-3
@@ -100,7 +89,7 @@ returns-2 c =
     let e = written w in
     let f = e .before in
     let count = f .before .before .count-changes .ensures in
-    record-carried _ _ _ _ count _ (f .record-fits .ensures) (long f) (start f .pre .1 .1)
+    record-carried _ _ _ _ count _ (f .record-fits .ensures) (edit-long _ _ _ _ _ _ _) (start f .pre .1 .1)
     (not-false _ (e .if1 .left)) _ (k .close-record .ensures _ _ (w .write-changes .ensures) count) _ (p .put-record .ensures)
 
 pub commit-spec : {M : Type 1} → statement M

@@ -1,13 +1,13 @@
 -- `edits::count_changes` meets its contract. The loop's invariant: k entries below e are changed.
-use Prim.Native.Nat.{ℕ, _≤_, _-_}
+use Prim.Native.Nat.{_≤_, _-_}
 use mathlib.Core.Path.{_≡_, refl, sym, ap, _∙_}
 use mathlib.Core.Logic.{⊎-elim}
 use native.Mathlib.Omega.{arith}
 use lib.ListN.{length}
 use borrow.Author.Needs.{needs}
 use Rattle.journal.specs.Records.{changesBelow}
-use Rattle.edits.specs.Edits.{editTable}
 use Rattle.journal.proofs.Changes.{below-none, below-all}
+use Rattle.edits.specs.Edits.{editTable}
 use Rattle.edits.proofs.Edited.{edit-long}
 use Rattle.edits.proofs.Pass.{count-same, count-other}
 use Rattle.edits.proofs.count_changes.Statement.{statement}
@@ -20,18 +20,10 @@ Inv-loop edit n table marks a b c size k₀ e₀ e-end k e =
 abbrev μ-loop : tie.MeasureT-loop
 μ-loop edit n table marks a b c size k₀ e₀ e-end k e = length table - e
 
--- the table after the edit is as long as before
-long : (s : tie.After-shared-slice-known5 Inv-loop μ-loop)
-    → let a = s .before .before .before .before .before .args in
-    length (a .table .now) ≡ length (editTable (a .edit) (a .n) (a .table .now) (a .marks .now) (a .a .now) (a .b .now) (a .size))
-long s =
-    let a = s .before .before .before .before .before .args in
-    edit-long (a .edit) (a .n) (a .table .now) (a .marks .now) (a .a .now) (a .b .now) (a .size)
-
 loop-holds : tie.Need-loop-holds Inv-loop μ-loop
 loop-holds c =
-    let a = c .before .before .before .before .before .args in
-    (omega arith, omega arith, sym (ap length (below-none (a .table .now) _ (long c))))
+    let t = c .before .before .before .before .before .args .table .now in
+    (omega arith, omega arith, sym (ap length (below-none t _ (edit-long _ _ _ _ _ _ _))))
 
 mul-if1 : tie.Need-mul-if1 Inv-loop μ-loop
 mul-if1 c = search needs
@@ -62,29 +54,27 @@ loop-again c =
     let i = c .before .before .before in
     let l = i .before .loop in
     let t = i .before .before .before .before .before .before .before .args .table .now in
-    let now = long (i .before .before) in
+    let long = edit-long _ _ _ _ _ _ _ in
     let new = c .before .new-entry .ensures in
     ⊎-elim
     (λ w. (
       omega arith,
       omega arith,
-      w .1 ∙ count-other t _ now (l .e) (l .k) (i .loop-test .taken) (l .inv .2) _ _ refl new (w .0 .taken),
+      w .1 ∙ count-other t _ long (l .e) (l .k) (i .loop-test .taken) (l .inv .2) _ _ refl new (w .0 .taken),
     ))
     (λ w. (
       omega arith,
       omega arith,
-      w .1 ∙ count-same t _ now (l .e) (l .k) (i .loop-test .taken) (l .inv .2) _ _ refl new (w .0 .left),
+      w .1 ∙ count-same t _ long (l .e) (l .k) (i .loop-test .taken) (l .inv .2) _ _ refl new (w .0 .left),
     ))
     (c .if1 .came)
 
 returns : tie.Need-returns Inv-loop μ-loop
 returns c =
     let l = c .before in
-    let a = l .before .before .before .before .before .before .args in
-    let t = a .table .now in
+    let t = l .before .before .before .before .before .before .args .table .now in
     let end : l .loop .e ≡ length t = omega arith in
-    let k = rw end at (l .loop .inv .2) in
-    k ∙ ap length (below-all t _ (long (l .before)))
+    rw end at (l .loop .inv .2) ∙ ap length (below-all t _ (edit-long _ _ _ _ _ _ _))
 
 pub count-changes-spec : {M : Type 1} → statement M
 count-changes-spec =

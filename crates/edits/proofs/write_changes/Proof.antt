@@ -23,16 +23,8 @@ abbrev μ-loop : tie.MeasureT-loop
 abbrev start : tie.After-shared-slice-known5 Inv-loop μ-loop → tie.Start Inv-loop μ-loop
 start s = s .before .before .before .before .before .before
 
--- the table after the edit is as long as before
-long : (s : tie.After-shared-slice-known5 Inv-loop μ-loop)
-    → let a = start s .args in
-    length (a .table .now) ≡ length (editTable (a .edit) (a .n) (a .table .now) (a .marks .now) (a .a .now) (a .b .now) (a .size))
-long s =
-    let a = start s .args in
-    edit-long (a .edit) (a .n) (a .table .now) (a .marks .now) (a .a .now) (a .b .now) (a .size)
-
 loop-holds : tie.Need-loop-holds Inv-loop μ-loop
-loop-holds c = (omega arith, omega arith, scan-none _ _ _ (long c))
+loop-holds c = (omega arith, omega arith, scan-none _ _ _ (edit-long _ _ _ _ _ _ _))
 
 new-entry-requires : tie.Need-new-entry-requires Inv-loop μ-loop
 new-entry-requires c κs =
@@ -53,9 +45,8 @@ write-entry-requires c κs =
     let fits = p .1 .0 .fits in
     let few = p .1 .0 .few in (
       (omega arith, l .loop .inv .1),
-      λ h.
-          scan-room _ _ _ (long (l .before)) (l .loop .e) (l .loop .done) (l .loop .journal) (n .before .loop-test .taken) 0
-          (l .loop .inv .2) (λ q. h (q ∙ sym (n .new-entry .ensures))) (p .1 .1),
+      λ h. scan-room _ _ _ (edit-long _ _ _ _ _ _ _) (l .loop .e) (l .loop .done) (l .loop .journal)
+          (n .before .loop-test .taken) 0 (l .loop .inv .2) (λ q. h (q ∙ sym (n .new-entry .ensures))) (p .1 .1),
     )
 
 add-e : tie.Need-add-e Inv-loop μ-loop
@@ -69,24 +60,23 @@ loop-again c =
     let w = c .before .before in
     let n = w .before .before .before in
     let i = n .before in
-    let l = i .before in (
-      omega arith,
-      w .write-entry .ensures .0,
-      w .write-entry .ensures .1 _ _ _ (long (l .before)) (i .loop-test .taken) refl (n .new-entry .ensures) (l .loop .inv .2),
-    )
+    let scanned = i .before .loop .inv .2 in
+    let done = w .write-entry .ensures in
+    (omega arith, done .0, done .1 _ _ _ (edit-long _ _ _ _ _ _ _) (i .loop-test .taken) refl (n .new-entry .ensures) scanned)
 
 same-length : tie.Need-same-length Inv-loop μ-loop
 same-length c =
     let l = c .before in
-    scan-length _ _ _ (long (l .before)) (start (l .before) .pre .1 .1) (l .loop .e) (l .loop .done) (l .loop .journal) (l .loop .inv .0)
-    (l .loop .inv .2)
+    let room = start (l .before) .pre .1 .1 in
+    let inv = l .loop .inv in
+    scan-length _ _ _ (edit-long _ _ _ _ _ _ _) room (l .loop .e) (l .loop .done) (l .loop .journal) (inv .0) (inv .2)
 
 returns : tie.Need-returns Inv-loop μ-loop
 returns c =
     let l = c .before in
     let t = start (l .before) .args .table .now in
     let end : l .loop .e ≡ length t = omega arith in
-    scan-all t _ _ (long (l .before)) (rw end at (l .loop .inv .2)) .0
+    scan-all t _ _ (edit-long _ _ _ _ _ _ _) (rw end at (l .loop .inv .2)) .0
 
 pub write-changes-spec : {M : Type 1} → statement M
 write-changes-spec =
