@@ -1,0 +1,69 @@
+-- The end of an operation over plain lists: what `commit` leaves (`refusal-carried`, `record-carried`), and that this is the
+-- model's `commit` (`carried-accepted`, `carried-refused`).
+use Prim.Native.Nat.{ℕ, _+_, _*_, _-_, _≤_}
+use mathlib.Core.Path.{_≡_, refl, sym, ap, _∙_}
+use mathlib.Core.Bool.{Bool, true, false}
+use mathlib.Core.List.{List}
+use native.Mathlib.Omega.{arith}
+use lib.ListN.{length}
+use lib.Dec.{leb}
+use Rattle.model.specs.Journal.{Change, cursor, changesFrom, changesAt, put, recordOf, written}
+use Rattle.model.specs.Calls.{commit, refused}
+use Rattle.model.specs.Meaning.Numbers.{JournalRule}
+use Rattle.model.proofs.History.Record.{length-record}
+use Rattle.journal.specs.Records.{drafted, within}
+use Rattle.journal.proofs.Drafts.{draft-keeps}
+use Rattle.journal.proofs.Commits.{fits-room, written-fits, written-put}
+use Rattle.edits.specs.Passes.{Room}
+use Rattle.edits.specs.Carried.{Carried}
+
+module _ (t u j : List ℕ) (k : ℕ) (count : k ≡ length (changesFrom 0 t u))
+    (r : Bool) (tested : r ≡ leb (3 * k + 2) (length j - cursor j))
+  where
+    record-tested : r ≡ leb (length (recordOf (changesFrom 0 t u))) (length j - cursor j)
+    record-tested = rw (length-record (changesFrom 0 t u), ← count) tested
+
+    pub refusal-carried : r ≡ false → Carried t u j t j false k
+    refusal-carried h = record { count = count; tested = sym h ∙ record-tested; table = refl; journal = refl }
+
+    module _ (long : length t ≡ length u) (rule : JournalRule j) (fits : r ≡ true) where
+      room : Room t u j
+      room = fits-room t u j k count r tested fits
+
+      -- what `close_record` requires of the draft
+      pub draft-closes : (w : List ℕ) → w ≡ drafted j (changesFrom 0 t u)
+          → (cursor w + (3 * k + 2) ≤ length w) × (length w ≤ 1048576)
+      draft-closes w draft =
+          let kept = draft-keeps j (changesFrom 0 t u) room in
+          let c = ap cursor draft ∙ kept .0 in
+          let l = ap length draft ∙ kept .1 in
+          let h = room in
+          (omega (arith, count), omega (arith, rule .few))
+
+      -- v is the journal with the record, t′ the table with its new values
+      module _ (v : List ℕ) (closed : v ≡ written j (recordOf (changesFrom 0 t u))) where
+        -- what `put_record` requires
+        pub record-puts : (cursor j + (3 * k + 2) ≤ length v) × (within (length t) (changesAt v (cursor j) k) ≡ true)
+        record-puts = written-fits t u j long (rule .low) room (cursor j) k v refl count closed
+
+        pub record-carried : (t′ : List ℕ) → t′ ≡ put true (changesAt v (cursor j) k) t → Carried t u j t′ v true k
+        record-carried t′ h = record {
+          count = count;
+          tested = sym fits ∙ record-tested;
+          table = written-put t u j long (rule .low) room (cursor j) k v refl count closed t′ h;
+          journal = closed;
+        }
+
+-- ---- the model's `commit`
+
+module _ {t u j t′ j′ : List ℕ} {fits : Bool} {k : ℕ} (c : Carried t u j t′ j′ fits k) (m : List ℕ) (p : ℕ)
+    (size : List Change → ℕ)
+  where
+    pub carried-accepted : fits ≡ true → commit t u m j p size
+        ≡ record { number = 0; place = p; count = size (changesFrom 0 t u); table = t′; marks = m; journal = j′ }
+    unfolding commit
+    carried-accepted h = rw (← c .tested, h, commit, c .table, h, c .journal, h)
+
+    pub carried-refused : fits ≡ false → commit t u m j p size ≡ refused 15 0 t′ m j′
+    unfolding commit
+    carried-refused h = rw (← c .tested, h, commit, c .table, h, c .journal, h)

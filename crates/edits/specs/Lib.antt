@@ -1,0 +1,3 @@
+pub mod Edits
+pub mod Passes
+pub mod Carried
