@@ -8,12 +8,11 @@ use borrow.Author.Tests.{eq-eqb, eqb-true}
 use Rattle.model.specs.Table.{link, live, relinkAt}
 use Rattle.model.proofs.Lists.Scan.{and-l, and-r, if-eq}
 use Rattle.model.proofs.Maps.Rules.{dead-link, at-same, at-other}
-use Rattle.sides.specs.Given.{At}
 use Rattle.edits.specs.Edits.{Relinks}
 
 module _ {t : List ℕ} {i : ℕ} {g : ℕ → ℕ} (h : Relinks t i g) (x j : ℕ) where
-  pub relinks-at : (eqb j i && live t x) ≡ true → At t i x
-  relinks-at e = record { linked = h .linked; index = h .index; lives = and-r (eqb j i) (live t x) e }
+  pub relinks-live : (eqb j i && live t x) ≡ true → live t x ≡ true
+  relinks-live e = and-r (eqb j i) (live t x) e
 
   pub relinks-here : (eqb j i && live t x) ≡ true → g x ≡ relinkAt t i g x j
   relinks-here e = rw (eqb-true j i (and-l (eqb j i) (live t x) e)) (sym (at-same t i g x))

@@ -1,7 +1,8 @@
 -- `edits::after_sew` meets its contract.
 use mathlib.Core.Path.{sym, _∙_}
 use borrow.Author.Needs.{needs}
-use Rattle.edits.proofs.Relinked.{relinks-at, relinks-here, relinks-elsewhere}
+use Rattle.model.proofs.Maps.Rules.{live-in}
+use Rattle.edits.proofs.Relinked.{relinks-live, relinks-here, relinks-elsewhere}
 use Rattle.edits.proofs.after_sew.Statement.{statement}
 use Rattle.edits.proofs.after_sew.Tie as tie
 
@@ -13,7 +14,14 @@ sewn-link-requires c κs =
     let s = c .before .before .before .before .before in
     let fit = s .pre .0 in
     let here = sym (c .before .relinks .ensures) ∙ c .if1 .taken in
-    (relinks-at (fit .relinks) (s .args .x) (s .args .j) here, fit .long-there, fit .long-back)
+    let whole = fit .relinks .linked .fits in
+    record {
+      fits = whole;
+      long-there = fit .long-there;
+      long-back = fit .long-back;
+      index = fit .relinks .index;
+      inside = live-in (s .args .table .now) (s .args .x) whole (relinks-live (fit .relinks) (s .args .x) (s .args .j) here);
+    }
 
 link-requires : tie.Need-link-requires
 link-requires c κs = search needs

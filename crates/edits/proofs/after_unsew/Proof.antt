@@ -1,7 +1,7 @@
 -- `edits::after_unsew` meets its contract.
 use mathlib.Core.Path.{sym, _∙_}
 use borrow.Author.Needs.{needs}
-use Rattle.edits.proofs.Relinked.{relinks-at, relinks-here, relinks-elsewhere}
+use Rattle.edits.proofs.Relinked.{relinks-live, relinks-here, relinks-elsewhere}
 use Rattle.edits.proofs.after_unsew.Statement.{statement}
 use Rattle.edits.proofs.after_unsew.Tie as tie
 
@@ -13,7 +13,12 @@ unsewn-link-requires c κs =
     let s = c .before .before .before .before in
     let fit = s .pre .0 in
     let here = sym (c .before .relinks .ensures) ∙ c .if1 .taken in
-    (relinks-at (fit .relinks) (s .args .x) (s .args .j) here, fit .long)
+    record {
+      linked = fit .relinks .linked;
+      long = fit .long;
+      index = fit .relinks .index;
+      lives = relinks-live (fit .relinks) (s .args .x) (s .args .j) here;
+    }
 
 link-requires : tie.Need-link-requires
 link-requires c κs = search needs
