@@ -1,0 +1,60 @@
+-- The ladder of a call: its refusals are early returns in the order of the numbers, and each rung says that one check more
+-- has passed. A call's proof (proofs/orbit/Proof.antt is an example) goes so:
+--   1. `checks`: the model's checks of the call, from the function's entry.
+--   2. For each test that is left, at the record `Else..` of its branch, the rung `Rung checks k`: the rung before, from
+--      further down the chain of `.before`, and `up` with the law of Verdicts.antt for that form of test. The rungs
+--      are `abbrev`, so that their entry computes to the function's.
+--   3. For each test that is taken, its `returns`: the call's `-refused` law of Ends.antt, of `out` at the rung before, with
+--      the same law's twin.
+--   4. What a callee asks: `search` finds a passed check in `passed` of the rung, and Given.antt has what is more than that.
+--   5. The last `returns`: the call's `-accepted` law, of `all-passed` at the last rung and of what the callees ensure.
+-- Where a call has a second list of checks behind the first (split), it has a second ladder with an entry of its own.
+use Prim.Native.Nat.{ℕ, zero, suc}
+use mathlib.Core.Path.{_≡_, refl, sym}
+use mathlib.Core.List.{List, [], _∷_}
+use lib.ListN.{getD, take}
+use Rattle.model.specs.Checks.{Check, pass, refuse, andThen, inOrder}
+use Rattle.model.proofs.Calls.Checks.{not-pass}
+
+-- ---- checks that pass
+
+-- each of them passes
+abbrev pub Passed : List Check → Type 0
+Passed [] = Unit {0}
+Passed (c ∷ cs) = (c ≡ pass) × Passed cs
+
+pub all-passed : (cs : List Check) → Passed cs → inOrder cs ≡ pass
+unfolding inOrder andThen
+all-passed [] p = refl
+all-passed (c ∷ cs) p = rw (p .0) (all-passed cs (p .1))
+
+pub one-more : (cs : List Check) (k : ℕ) → Passed (take k cs) → getD cs k pass ≡ pass → Passed (take (suc k) cs)
+one-more [] k p e = tt
+one-more (c ∷ cs) zero p e = (e, tt)
+one-more (c ∷ cs) (suc k) p e = (p .0, one-more cs k (p .1) e)
+
+first-refusal : (cs : List Check) (k : ℕ) {z q : ℕ} → Passed (take k cs) → getD cs k pass ≡ refuse z q → inOrder cs ≡ refuse z q
+unfolding inOrder andThen
+first-refusal [] k p e = not-pass (sym e)
+first-refusal (c ∷ cs) zero p e = rw e
+first-refusal (c ∷ cs) (suc k) p e = rw (p .0) (first-refusal cs k (p .1) e)
+
+-- ---- rungs; S is what is known at a function's entry, and with it the checks are
+
+-- the first k checks have passed
+pub record Rung {S : Type 0} (checks : S → List Check) (k : ℕ) : Type 0 where
+  pub entry : S
+  pub passed : Passed (take k (checks entry))
+
+module _ {S : Type 0} {checks : S → List Check} where
+  abbrev pub ground : S → Rung checks 0
+  ground s = record { entry = s; passed = tt }
+
+  -- the next check passes
+  abbrev pub up : {k : ℕ} (r : Rung checks k) → getD (checks (r .entry)) k pass ≡ pass → Rung checks (suc k)
+  up {k} r e = record { entry = r .entry; passed = one-more (checks (r .entry)) k (r .passed) e }
+
+  -- the next check refuses
+  pub out : {k : ℕ} (r : Rung checks k) {z q : ℕ} → getD (checks (r .entry)) k pass ≡ refuse z q
+      → inOrder (checks (r .entry)) ≡ refuse z q
+  out {k} r e = first-refusal (checks (r .entry)) k (r .passed) e

@@ -1,0 +1,5 @@
+pub mod Ladder
+pub mod Verdicts
+pub mod Given
+pub mod Ends
+pub mod Masks

@@ -1,0 +1,37 @@
+// "Numbers a call gives back": the refusals whose place is 0. Those by 5 and 8 have a place of their own.
+use crate::Answer;
+
+// 1: "n not 2 or 3"
+pub const WRONG_DIMENSION: Answer = Answer {
+    number: 1,
+    place: 0,
+    count: 0,
+};
+
+// 2: "table length no multiple of 4, or above 262,144"
+pub const WRONG_TABLE_LENGTH: Answer = Answer {
+    number: 2,
+    place: 0,
+    count: 0,
+};
+
+// 3: "marks length differs from slots"
+pub const WRONG_MARKS_LENGTH: Answer = Answer {
+    number: 3,
+    place: 0,
+    count: 0,
+};
+
+// 6: "i above n, or mask above 2^(n+1) - 1"
+pub const OUT_OF_RANGE: Answer = Answer {
+    number: 6,
+    place: 0,
+    count: 0,
+};
+
+// 7: "d or e not a live slot"
+pub const NOT_LIVE: Answer = Answer {
+    number: 7,
+    place: 0,
+    count: 0,
+};
