@@ -4,8 +4,9 @@ use mathlib.Core.Path.{_≡_, refl, sym}
 use mathlib.Core.Bool.{Bool, true, false}
 use mathlib.Core.List.{List}
 use lib.ListN.{length}
-use Rattle.model.specs.Table.{slots}
+use Rattle.model.specs.Table.{slots, live}
 use Rattle.model.specs.Sew.{partners, isPaired, sewTable}
+use Rattle.model.specs.Meaning.Maps.{MapTable}
 use Rattle.model.proofs.Lists.Scan.{clash}
 use Rattle.sides.specs.Given.{Sides, Ready}
 use Rattle.sides.specs.Paired.{found, Paired}
@@ -16,14 +17,14 @@ use Rattle.sides.proofs.Entries.{map-linked}
 pub sides-back : {n : ℕ} {t : List ℕ} {i mask d e : ℕ} → Sides n t i mask d e → Sides n t i mask e d
 sides-back s = record { left = s .right; right = s .left; permits = s .permits }
 
-pub sides-ready : {n : ℕ} {t p q : List ℕ} {i mask d e : ℕ} → Sides n t i mask d e → length p ≡ slots t → slots t ≤ length q
-    → Ready t p q d e
-sides-ready s long room = record {
-  linked = map-linked (s .left .table);
+pub table-ready : {n : ℕ} {t p q : List ℕ} {d e : ℕ} → MapTable n t → length p ≡ slots t → slots t ≤ length q
+    → live t d ≡ true → live t e ≡ true → Ready t p q d e
+table-ready table long room left right = record {
+  linked = map-linked table;
   long = long;
   room = room;
-  left = s .left .lives;
-  right = s .right .lives;
+  left = left;
+  right = right;
 }
 
 -- ---- what they give

@@ -33,12 +33,11 @@ module _ {t : List ℕ} (linked : Linked t) (x j : ℕ) (lives : live t x ≡ tr
   pub link-low : link t j x < slots t
   link-low = live-in t (link t j x) (linked .fits) (linked .goes x j lives low)
 
--- the links j of x and y, as a couple
-pub step-meets : {t p q : List ℕ} {r x y j a b : ℕ} → Stepping t p q r x y → j < 4 → a ≡ link t j x → b ≡ link t j y
-    → Meeting p q r a b
-step-meets {x = x} {y = y} {j = j} s low ea eb = record {
+-- in a walk, two slots as a couple
+pub slots-meet : {t p q : List ℕ} {r x y a b : ℕ} → Stepping t p q r x y → a < slots t → b < slots t → Meeting p q r a b
+slots-meet s a-in b-in = record {
   listed = s .listed;
   room = rw (s .ready .long) (s .ready .room);
-  inside = rw (ea, s .ready .long) (link-low (s .ready .linked) x j (s .ready .left) low);
-  real = λ h. let l = link-low (s .ready .linked) y j (s .ready .right) low in let f = s .ready .linked .few in omega arith;
+  inside = rw (s .ready .long) a-in;
+  real = λ h. let f = s .ready .linked .few in omega arith;
 }

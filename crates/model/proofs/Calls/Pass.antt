@@ -36,12 +36,12 @@ use Rattle.model.proofs.Calls.Checks.{must-at-0, not-pass, passed-at, p
 
 -- ---- what a passed check says
 
-mustAt-pass : (b : Bool) (k p : ℕ) → mustAt b k p ≡ pass → b ≡ true
+pub mustAt-pass : (b : Bool) (k p : ℕ) → mustAt b k p ≡ pass → b ≡ true
 unfolding mustAt
 mustAt-pass true k p h = refl
 mustAt-pass false k p h = not-pass h
 
-must-pass : (b : Bool) (k : ℕ) → must b k ≡ pass → b ≡ true
+pub must-pass : (b : Bool) (k : ℕ) → must b k ≡ pass → b ≡ true
 must-pass b k h = mustAt-pass b k 0 (sym (must-at-0 b k) ∙ h)
 
 pub dim-pass : (n : ℕ) → dimOk n ≡ pass → Dim n

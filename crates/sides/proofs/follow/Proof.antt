@@ -1,8 +1,11 @@
 -- `sides::follow` meets its contract.
+use Prim.Native.Nat.{_+_, _*_, _<_}
+use lib.ListN.{length}
 use borrow.Author.Tests.{eq-eqb, ne-eqb}
 use borrow.Author.Needs.{needs}
+use Rattle.model.specs.Table.{slots}
 use Rattle.model.specs.Orbit.{bit}
-use Rattle.sides.proofs.Entries.{live-entry, step-meets}
+use Rattle.sides.proofs.Entries.{live-entry, link-low, slots-meet}
 use Rattle.sides.proofs.Adding.{by-adds, by-none}
 use Rattle.sides.proofs.follow.Statement.{statement}
 use Rattle.sides.proofs.follow.Tie as tie
@@ -10,23 +13,34 @@ use Rattle.sides.proofs.follow.Tie as tie
 shr-if1 : tie.Need-shr-if1
 shr-if1 c = search needs
 
+-- the entries of x and y are in the table
+record Entries (p : tie.Start) : Type 0 where
+  of-x : 4 * p .args .x + p .args .j < length (p .args .table .now)
+  of-y : 4 * p .args .y + p .args .j < length (p .args .table .now)
+
+entries : (p : tie.Start) → Entries p
+entries p =
+    let s = p .pre .0 .ready in record {
+      of-x = live-entry (s .linked) (p .args .x) (p .args .j) (s .left) (p .pre .1);
+      of-y = live-entry (s .linked) (p .args .y) (p .args .j) (s .right) (p .pre .1);
+    }
+
 link-in-requires : tie.Need-link-in-requires
-link-in-requires c κs =
-    let p = c .before .before .before .before in
-    let s = p .pre .0 .ready in
-    live-entry (s .linked) (p .args .x) (p .args .j) (s .left) (p .pre .1)
+link-in-requires c κs = let e = entries (c .before .before .before .before) in search needs
 
 link-in-requires-2 : tie.Need-link-in-requires-2
-link-in-requires-2 c κs =
-    let p = c .before .before .before .before .before in
-    let s = p .pre .0 .ready in
-    live-entry (s .linked) (p .args .y) (p .args .j) (s .right) (p .pre .1)
+link-in-requires-2 c κs = let e = entries (c .before .before .before .before .before) in search needs
 
 meet-requires : tie.Need-meet-requires
 meet-requires c κs =
-    let b = c .before .before in
-    let p = b .before .before .before .before .before .before in
-    step-meets (p .pre .0) (p .pre .1) (b .before .link-in .ensures) (b .link-in2 .ensures)
+    let l = c .before .before in
+    let p = l .before .before .before .before .before .before in
+    let s = p .pre .0 .ready in
+    let of-x = link-low (s .linked) (p .args .x) (p .args .j) (s .left) (p .pre .1) in
+    let of-y = link-low (s .linked) (p .args .y) (p .args .j) (s .right) (p .pre .1) in
+    let a : l .before .link-in .result < slots (p .args .table .now) = rw (l .before .link-in .ensures) search in
+    let b : l .link-in2 .result < slots (p .args .table .now) = rw (l .link-in2 .ensures) search in
+    slots-meet (p .pre .0) (search) (search)
 
 same-length : tie.Need-same-length
 same-length c = search needs

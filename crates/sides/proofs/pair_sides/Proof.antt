@@ -1,13 +1,15 @@
 -- `sides::pair_sides` meets its contract.
 use borrow.Author.Needs.{needs}
-use Rattle.sides.proofs.BothWays.{sides-back, sides-ready, none-there, then-back}
+use Rattle.sides.proofs.BothWays.{sides-back, table-ready, none-there, then-back}
 use Rattle.sides.proofs.pair_sides.Statement.{statement}
 use Rattle.sides.proofs.pair_sides.Tie as tie
 
 pair-up-requires : tie.Need-pair-up-requires
 pair-up-requires c κs =
     let g = c .before .before .before .before .before .before .pre in
-    sides-ready (g .sides) (g .long-there) (g .room)
+    let left = g .sides .left .lives in
+    let right = g .sides .right .lives in
+    table-ready (g .sides .left .table) (g .long-there) (g .room) (search) (search)
 
 -- the function's entry, from where the walk there has returned
 abbrev there : tie.After-pair-up → tie.Start
@@ -17,7 +19,9 @@ pair-up-requires-2 : tie.Need-pair-up-requires-2
 pair-up-requires-2 c κs =
     let u = c .before .before .before .before .before .before .before in
     let g = there u .pre in
-    sides-ready (sides-back (g .sides)) (g .long-back) (rw (u .pair-up .kept .1 .1 .0) (g .room))
+    let left = g .sides .left .lives in
+    let right = g .sides .right .lives in
+    table-ready (g .sides .left .table) (g .long-back) (rw (u .pair-up .kept .1 .1 .0) (g .room)) (search) (search)
 
 same-length : tie.Need-same-length
 same-length c = search needs
