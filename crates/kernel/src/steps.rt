@@ -1,4 +1,4 @@
-// undo and redo: the record before the cursor is taken back, or the one at the cursor put again.
+// undo and redo: the record before the cursor is taken back, or the one at the cursor put again. `step` is both.
 ghost use Prim.Native.Nat.{_+_, _*_, _≤_};
 ghost use mathlib.Core.Path.{_≡_};
 ghost use mathlib.Core.List.{[]};
@@ -8,7 +8,8 @@ ghost use Rattle.kernel.specs.Answers.{outcome};
 use crate::Answer;
 use crate::numbers;
 
-// The record of k changes at the word a: new values where redo is true, else old ones. The cursor goes to the word `to`.
+// Puts the new values (redo), or the old ones, of the record of k changes at the word a, and moves the cursor to `to`. If
+// the record is broken or the result no map, table and journal are left as they were: 17.
 fn step(
     redo: bool,
     n: u32,
@@ -39,7 +40,7 @@ fn step(
     }
 }
 
-// "Undo puts back old values": of the record before the cursor. "Count: entries changed."
+// Puts back the old values of the record before the cursor, and moves the cursor before it. "Count: entries changed."
 pub fn undo(n: u32, table: &mut [u32], journal: &mut [u32]) -> Answer
     ensures { λ r. ⌜ outcome r (now (table .exit)) [] (now (journal .exit))
         ≡ undoCall n (now (table .entry)) (now (journal .entry)) ⌝ }
@@ -76,7 +77,7 @@ pub fn undo(n: u32, table: &mut [u32], journal: &mut [u32]) -> Answer
     )
 }
 
-// The same of the record at the cursor, whose new values are put.
+// Puts back the new values of the record at the cursor, and moves the cursor behind it. "Count: entries changed."
 pub fn redo(n: u32, table: &mut [u32], journal: &mut [u32]) -> Answer
     ensures { λ r. ⌜ outcome r (now (table .exit)) [] (now (journal .exit))
         ≡ redoCall n (now (table .entry)) (now (journal .entry)) ⌝ }
