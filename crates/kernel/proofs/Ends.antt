@@ -1,14 +1,16 @@
 -- How a call ends, from its checks: `orbit-refused`, `orbit-accepted` and the like.
-use Prim.Native.Nat.{ℕ}
-use mathlib.Core.Path.{_≡_, refl, sym}
+use Prim.Native.Nat.{ℕ, _+_, _*_, _-_}
+use mathlib.Core.Path.{_≡_, refl, sym, ap, _∙_}
 use mathlib.Core.Bool.{Bool, true, false}
 use mathlib.Core.List.{List, []}
+use lib.ListN.{getD}
 use Rattle.model.specs.Lists.{count}
 use Rattle.model.specs.Cell.{isBlock}
 use Rattle.model.specs.Orbit.{orbit, orbitPlace}
 use Rattle.model.specs.Sheet.{sheet, sheetMarks}
-use Rattle.model.specs.Checks.{pass, refuse, inOrder, checkChecks, orbitChecks, sheetChecks}
-use Rattle.model.specs.Calls.{refused, checkCall, orbitCall, sheetCall}
+use Rattle.model.specs.Journal.{cursor}
+use Rattle.model.specs.Checks.{pass, refuse, inOrder, checkChecks, orbitChecks, sheetChecks, stepChecks, undoOk, redoOk}
+use Rattle.model.specs.Calls.{Outcome, refused, checkCall, orbitCall, sheetCall, stepOutcome, undoCall, redoCall}
 use Rattle.kernel.specs.declared.Answer.{Answer}
 use Rattle.kernel.specs.Answers.{outcome}
 
@@ -48,3 +50,31 @@ module _ (n : ℕ) (t : List ℕ) where
         → (s ≡ sheetMarks n t (sheet n t d)) × (k ≡ count 1 (sheet n t d)) → outcome (accepted 0 k) t s [] ≡ sheetCall n t m d
     unfolding sheetCall
     sheet-accepted e marked = rw (e, sheetCall, marked .0, marked .1)
+
+  module _ (j : List ℕ) where
+    -- the table was taken back, or never changed
+    pub step-refused : (redo : Bool) (a k to : ℕ) {t′ : List ℕ} → t′ ≡ t → stepOutcome redo n t j a k to ≡ refused 17 0 t [] j
+        → outcome (refusal 17 0) t′ [] j ≡ stepOutcome redo n t j a k to
+    unfolding refused
+    step-refused redo a k to same e = ap (λ u. outcome (refusal 17 0) u [] j) same ∙ sym e
+
+    pub undo-refused : {k p : ℕ} → inOrder (stepChecks n t j (undoOk j)) ≡ refuse k p
+        → outcome (refusal k p) t [] j ≡ undoCall n t j
+    unfolding undoCall refused
+    undo-refused e = rw (e, undoCall)
+
+    pub undo-accepted : {r : Outcome} (a k : ℕ) → inOrder (stepChecks n t j (undoOk j)) ≡ pass → k ≡ getD j (cursor j - 1) 0
+        → a ≡ cursor j - (3 * k + 2) → r ≡ stepOutcome false n t j a k a → r ≡ undoCall n t j
+    unfolding undoCall
+    undo-accepted a k e count start step = step ∙ rw (e, undoCall, start, count)
+
+    pub redo-refused : {k p : ℕ} → inOrder (stepChecks n t j (redoOk j)) ≡ refuse k p
+        → outcome (refusal k p) t [] j ≡ redoCall n t j
+    unfolding redoCall refused
+    redo-refused e = rw (e, redoCall)
+
+    pub redo-accepted : {r : Outcome} (to : ℕ) → inOrder (stepChecks n t j (redoOk j)) ≡ pass
+        → to ≡ cursor j + (3 * getD j (cursor j) 0 + 2)
+        → r ≡ stepOutcome true n t j (cursor j) (getD j (cursor j) 0) to → r ≡ redoCall n t j
+    unfolding redoCall
+    redo-accepted to e behind step = step ∙ rw (e, redoCall, behind)

@@ -1,18 +1,20 @@
 -- What a branch of the code says of a check, whether it is left (the check passes) or taken (it refuses): `passes`, `refuses`
--- for a test that is a Boolean, `equal-passes`, `equal-refuses` for two numbers, `least-passes`, `least-refuses` for a least
--- slot and the number of slots. `marks-test` and the like say by which test a check goes.
+-- for a test that is a Boolean, `equal-passes`, `equal-refuses`, `differ-passes`, `differ-refuses` for two numbers,
+-- `least-passes`, `least-refuses` for a least slot and the number of slots. `marks-test` and the like say by which test a
+-- check goes.
 use Prim.Native.Nat.{ℕ, _/_}
 use mathlib.Core.Path.{_≡_, refl, sym, ap, _∙_}
 use mathlib.Core.Logic.{_≢_}
 use mathlib.Core.Bool.{Bool, true, false, not}
 use mathlib.Core.List.{List}
-use lib.ListN.{length}
+use lib.ListN.{length, getD}
 use lib.Dec.{eqb}
 use borrow.Author.Tests.{eq-eqb, ne-eqb, not-true, not-false}
 use Rattle.model.specs.Table.{slots, live}
 use Rattle.model.specs.Map.{leastBreaking}
 use Rattle.model.specs.Cell.{leastWrong}
-use Rattle.model.specs.Checks.{Check, pass, refuse, must, mustAt, marksOk, mapOk, dartOk, blockOk}
+use Rattle.model.specs.Journal.{cursor, end}
+use Rattle.model.specs.Checks.{Check, pass, refuse, must, mustAt, marksOk, mapOk, dartOk, blockOk, undoOk, redoOk}
 
 -- ---- branches; z is the number of the check c
 
@@ -33,6 +35,15 @@ equal-passes x y z e h = sym e ∙ rw (eq-eqb x y h)
 pub equal-refuses : (x y z : ℕ) {c : Check} → must (eqb x y) z ≡ c → x ≢ y → c ≡ refuse z 0
 unfolding must
 equal-refuses x y z e h = sym e ∙ rw (ne-eqb x y h)
+
+-- `if x == y`
+pub differ-passes : (x y z : ℕ) {c : Check} → must (not (eqb x y)) z ≡ c → x ≢ y → c ≡ pass
+unfolding must
+differ-passes x y z e h = sym e ∙ rw (ne-eqb x y h)
+
+pub differ-refuses : (x y z : ℕ) {c : Check} → must (not (eqb x y)) z ≡ c → x ≡ y → c ≡ refuse z 0
+unfolding must
+differ-refuses x y z e h = sym e ∙ rw (eq-eqb x y h)
 
 -- `if a != b`, where a is the least slot x that is wrong, or the number of slots y, and b is y
 pub least-passes : (x y z : ℕ) {c : Check} {a b : ℕ} → mustAt (eqb x y) z x ≡ c → a ≡ x → b ≡ y → a ≡ b → c ≡ pass
@@ -60,3 +71,11 @@ dart-test t d e = ap (λ b. must b 7) e
 pub block-test : (n : ℕ) (t : List ℕ) → mustAt (eqb (leastWrong n t) (slots t)) 8 (leastWrong n t) ≡ blockOk n t
 unfolding blockOk
 block-test n t = refl
+
+pub undo-test : (j : List ℕ) → must (not (eqb (getD j 0 0) 2)) 16 ≡ undoOk j
+unfolding undoOk cursor
+undo-test j = refl
+
+pub redo-test : (j : List ℕ) → must (not (eqb (getD j 0 0) (getD j 1 0))) 16 ≡ redoOk j
+unfolding redoOk cursor end
+redo-test j = refl

@@ -3,11 +3,14 @@
 pub use checking::check;
 pub use orbits::orbit;
 pub use sheets::sheet;
+pub use steps::redo;
+pub use steps::undo;
 
 mod checking;
 mod numbers;
 mod orbits;
 mod sheets;
+mod steps;
 
 // "Every call gives number, place, count."
 pub struct Answer {

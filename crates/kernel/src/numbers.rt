@@ -22,6 +22,13 @@ pub const WRONG_MARKS_LENGTH: Answer = Answer {
     count: 0,
 };
 
+// 4: "journal length or its two words out of rule"
+pub const WRONG_JOURNAL: Answer = Answer {
+    number: 4,
+    place: 0,
+    count: 0,
+};
+
 // 6: "i above n, or mask above 2^(n+1) - 1"
 pub const OUT_OF_RANGE: Answer = Answer {
     number: 6,
@@ -32,6 +39,20 @@ pub const OUT_OF_RANGE: Answer = Answer {
 // 7: "d or e not a live slot"
 pub const NOT_LIVE: Answer = Answer {
     number: 7,
+    place: 0,
+    count: 0,
+};
+
+// 16: "cursor 2 (undo); cursor = end (redo)"
+pub const NO_RECORD: Answer = Answer {
+    number: 16,
+    place: 0,
+    count: 0,
+};
+
+// 17: "record broken, or result no map"
+pub const BROKEN_RECORD: Answer = Answer {
+    number: 17,
     place: 0,
     count: 0,
 };
