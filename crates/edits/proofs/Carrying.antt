@@ -1,7 +1,7 @@
 -- The end of an operation over plain lists: what `commit` leaves (`refusal-carried`, `record-carried`), and that this is the
 -- model's `commit` (`carried-accepted`, `carried-refused`).
 use Prim.Native.Nat.{ℕ, _+_, _*_, _-_, _≤_}
-use mathlib.Core.Path.{_≡_, refl, sym, ap, _∙_}
+use mathlib.Core.Path.{_≡_, refl, sym, ap, subst, _∙_}
 use mathlib.Core.Bool.{Bool, true, false}
 use mathlib.Core.List.{List}
 use native.Mathlib.Omega.{arith}
@@ -55,6 +55,9 @@ module _ (t u j : List ℕ) (k : ℕ) (count : k ≡ length (changesFrom 0 t u))
         }
 
 -- ---- the model's `commit`
+
+pub carried-same : {t u v j t′ j′ : List ℕ} {fits : Bool} {k : ℕ} → u ≡ v → Carried t u j t′ j′ fits k → Carried t v j t′ j′ fits k
+carried-same {t} {j = j} {t′} {j′} {fits} {k} same c = subst (λ (w : List ℕ). Carried t w j t′ j′ fits k) same c
 
 module _ {t u j t′ j′ : List ℕ} {fits : Bool} {k : ℕ} (c : Carried t u j t′ j′ fits k) (m : List ℕ) (p : ℕ)
     (size : List Change → ℕ)
