@@ -1,15 +1,16 @@
--- The links after split and add, as the code finds them: words of a list's front (`word-in`, `word-out`), whether a sheet crosses
--- itself, dart by dart (`crosses-here`, `crosses-on`, `crosses-end`), and the three cases of a slot (`new-link`, `cut-link`, `stay-link`).
-use Prim.Native.Nat.{ℕ, suc, _+_, _*_, _/_, _%_, _≤_, _<_}
-use mathlib.Core.Path.{_≡_, refl, sym, ap, _∙_}
+-- The links after split and add, as the code finds them: words of a list's front (`word-in`, `word-out`); whether a sheet crosses
+-- itself, dart by dart (`crosses-here`, `crosses-on`, `crosses-end`); the cases of a slot after split (`new-link`, `cut-link`,
+-- `stay-link`) and after add (`cell-new`, `cell-stays`).
+use Prim.Native.Nat.{ℕ, _+_, _*_, _/_, _%_, _≤_, _<_}
+use mathlib.Core.Path.{_≡_, sym, _∙_}
 use mathlib.Core.Bool.{true, false, _&&_}
-use mathlib.Core.List.{List, [], _∷_}
+use mathlib.Core.List.{List}
 use native.Mathlib.Nat.{mul-le-mul}
 use native.Mathlib.Numerals.{add-one}
 use native.Mathlib.Omega.{arith}
 use lib.Dec.{eqb, ltb}
 use lib.ListN.{length, getD, take, drop, length-take, drop-of-length-le, List·getD-eq-default}
-use lib.Seq.{drop-cons, getD-take, length-take-le}
+use lib.Seq.{drop-cons, getD-take}
 use borrow.Author.Tests.{lt-ltb, le-ltb}
 use Rattle.model.specs.Lists.{indexOf}
 use Rattle.model.specs.Table.{unused, link}

@@ -1,23 +1,24 @@
--- The numbering of a new cell by axis orders and vertices, as the code works it out: the bit of the first axis (`first-bit-solid`,
--- `first-bit-flat`), the flip of a bit (`flip-xor`), and link i of a dart by its order and vertex (`link-zero` and the others).
+-- The numbering of a new cell by axis orders and vertices, as the code works it out: the rows of the orders (`axis-solid`,
+-- `swap-first-solid` and the others), the flip of a bit (`flip-axis`), link i of a dart by its order and vertex (`link-zero` and
+-- the others).
 use Prim.Native.Nat.{ℕ, _+_, _*_, _-_, _/_, _%_, _^_, _≤_, _<_}
-use mathlib.Core.Path.{_≡_, refl, sym, ap, _∙_}
+use mathlib.Core.Path.{_≡_, refl, ap}
 use mathlib.Core.Logic.{_≢_}
-use mathlib.Core.Bool.{true, false, _&&_}
+use mathlib.Core.Bool.{Bool, true, false, _&&_}
 use mathlib.Core.List.{[], _∷_}
 use native.Mathlib.Omega.{arith}
 use native.Mathlib.Nat.{div-add-mod, mod-lt}
 use lib.ListN.{getD}
 use lib.Bits.{bitXor}
-use lib.Dec.{eqb}
-use borrow.Author.Tests.{eqb-true, ne-eqb}
+use lib.Dec.{eqb, ltb}
+use borrow.Author.Tests.{eqb-true, ltb-true, ne-eqb}
 use Rattle.model.specs.Lists.{allBelow, allFrom}
 use Rattle.model.specs.Cell.{cellSize}
 use Rattle.model.specs.Numbering.{corners, flip, firstBit, swapFirst, swapLast, cellLink}
 use Rattle.model.specs.Meaning.Maps.{Dim}
 use Rattle.model.proofs.Lists.Scan.{and-l, and-r, below-at, below-both}
 use Rattle.model.proofs.Maps.Dim.{two-cases}
-use Rattle.layers.specs.Orders.{orders}
+use Rattle.layers.specs.Orders.{orders, firstAxis}
 
 -- ---- axis orders
 
@@ -47,15 +48,20 @@ module _ (n : ℕ) where
     unfolding swapFirst
     swap-first-flat e = rw (ne-eqb n 3 e, swapFirst)
 
-    pub first-bit-solid : n ≡ 3 → p < orders n → 1 * 2 ^ (p / 2) % 4294967296 ≡ firstBit n p
-    unfolding firstBit allBelow allFrom
-    first-bit-solid e h = rw e (eqb-true _ _
-        (below-at (λ p. eqb (1 * 2 ^ (p / 2) % 4294967296) (firstBit 3 p)) 6 refl p (rw (orders-solid e) at h)))
+    pub axis-solid : n ≡ 3 → getD (0 ∷ 0 ∷ 1 ∷ 1 ∷ 2 ∷ 2 ∷ []) p 0 ≡ firstAxis n p
+    unfolding firstAxis
+    axis-solid e = rw e
 
-    pub first-bit-flat : n ≢ 3 → p < orders n → 1 * 2 ^ p % 4294967296 ≡ firstBit n p
-    unfolding firstBit allBelow allFrom
-    first-bit-flat e h = rw (ne-eqb n 3 e, firstBit) (eqb-true _ _
-        (below-at (λ p. eqb (1 * 2 ^ p % 4294967296) (getD (1 ∷ 2 ∷ []) p 0)) 2 refl p (rw (orders-flat e) at h)))
+    pub axis-flat : n ≢ 3 → p ≡ firstAxis n p
+    unfolding firstAxis
+    axis-flat e = rw (ne-eqb n 3 e, firstAxis)
+
+-- the number that has only the bit of the first axis
+abbrev pub axisBit : ℕ → ℕ → ℕ
+axisBit n p = 1 * 2 ^ firstAxis n p % 4294967296
+
+flips : ℕ → ℕ → ℕ → Bool
+flips n p s = eqb (bitXor s (axisBit n p)) (flip (firstBit n p) s)
 
 module _ (n : ℕ) (dim : Dim n) where
   pub corners-some : 0 < corners n
@@ -73,24 +79,30 @@ module _ (n : ℕ) (dim : Dim n) where
   pub vertex-in : (k : ℕ) → k % corners n < corners n
   vertex-in k = mod-lt k corners-some
 
-  flips : allBelow (orders n) (λ p. allBelow (corners n) (λ s. eqb (bitXor s (firstBit n p)) (flip (firstBit n p) s))) ≡ true
-  unfolding allBelow allFrom orders corners firstBit flip
-  flips = two-cases n dim
-      (λ n. allBelow (orders n) (λ p. allBelow (corners n) (λ s. eqb (bitXor s (firstBit n p)) (flip (firstBit n p) s))) ≡ true)
-      refl refl
+  pub axis-few : (p : ℕ) → p < orders n → firstAxis n p < 32
+  unfolding orders firstAxis allBelow allFrom
+  axis-few p h = ltb-true _ _ (below-at (λ p. ltb (firstAxis n p) 32) (orders n) small p h)
+    where
+      small : allBelow (orders n) (λ p. ltb (firstAxis n p) 32) ≡ true
+      small = two-cases n dim (λ n. allBelow (orders n) (λ p. ltb (firstAxis n p) 32) ≡ true) refl refl
 
-  pub flip-xor : (p s : ℕ) → p < orders n → s < corners n → bitXor s (firstBit n p) ≡ flip (firstBit n p) s
-  flip-xor p s hp hs = eqb-true _ _
-      (below-both (λ p s. eqb (bitXor s (firstBit n p)) (flip (firstBit n p) s)) (orders n) (corners n) flips p s hp hs)
+  -- the exclusive or with the bit of the first axis flips that bit
+  pub flip-axis : (p s : ℕ) → p < orders n → s < corners n → bitXor s (axisBit n p) ≡ flip (firstBit n p) s
+  unfolding flips orders corners firstAxis firstBit flip allBelow allFrom
+  flip-axis p s hp hs = eqb-true _ _ (below-both (flips n) (orders n) (corners n) all p s hp hs)
+    where
+      all : allBelow (orders n) (λ p. allBelow (corners n) (flips n p)) ≡ true
+      all = two-cases n dim (λ n. allBelow (orders n) (λ p. allBelow (corners n) (flips n p)) ≡ true) refl refl
 
 -- ---- link i of the dart k, by its order and vertex
 
 module _ (n k : ℕ) (dim : Dim n) (low : k < cellSize n) where
   module _ (c o v : ℕ) (is : c ≡ corners n) where
-    pub link-zero : (b : ℕ) → b ≡ firstBit n (k / c) → o ≡ k / c → v ≡ bitXor (k % c) b → c * o + v ≡ cellLink n 0 k
+    pub link-zero : (a : ℕ) → a ≡ firstAxis n (k / c) → o ≡ k / c → v ≡ bitXor (k % c) (1 * 2 ^ a % 4294967296)
+        → c * o + v ≡ cellLink n 0 k
     unfolding cellLink
-    link-zero b eb eo ev = rw (eo, ev, eb, is)
-        (ap (λ (s : ℕ). corners n * (k / corners n) + s) (flip-xor n dim _ _ (order-in n dim k low) (vertex-in n dim k)))
+    link-zero a ea eo ev = rw (eo, ev, ea, is)
+        (ap (λ (s : ℕ). corners n * (k / corners n) + s) (flip-axis n dim _ _ (order-in n dim k low) (vertex-in n dim k)))
 
     pub link-one : o ≡ swapFirst n (k / c) → v ≡ k % c → c * o + v ≡ cellLink n 1 k
     unfolding cellLink

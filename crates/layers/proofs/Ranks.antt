@@ -1,6 +1,6 @@
 -- Lists of slots with their ranks. The place of a slot by its rank (`ranked-at`, `ranked-out`); the places of the ones of a list,
 -- listed one by one (`listing-none`, `listing-more`) and at the end (`listing-all`, `listing-first`).
-use Prim.Native.Nat.{ℕ, zero, suc, _+_, _≤_, _<_}
+use Prim.Native.Nat.{ℕ, suc, _+_, _≤_, _<_}
 use mathlib.Core.Path.{_≡_, refl, sym, ap, _∙_, subst}
 use mathlib.Core.Logic.{_⊎_, inl, inr, _≢_, ⊎-elim}
 use mathlib.Core.Bool.{Bool, true, false, not, _&&_}
@@ -14,7 +14,6 @@ use lib.Seq.{take-suc, take-all, take-append-seam, take-suc-set, getD-take, getD
 use borrow.Author.Tests.{ltb-true, ltb-false}
 use Rattle.model.specs.Lists.{tabulate, onesFrom, ones, indexOf}
 use Rattle.model.specs.Table.{slots, live}
-use Rattle.model.specs.Meaning.Sets.{Marked}
 use Rattle.model.proofs.Lists.Scan.{test, if-eq, and-l, and-r, length-tab, getD-tab}
 use Rattle.model.proofs.Lists.Ones.{index-in, getD-index, getD-in, index-out, in-or, ones-of}
 use Rattle.model.proofs.Sets.Closure.{marked-in}
@@ -25,7 +24,9 @@ use Rattle.layers.specs.Ranks.{Ranked, Lists, Entered}
 index-most : (x : ℕ) (l : List ℕ) → indexOf x l ≤ length l
 unfolding indexOf
 index-most x [] = omega arith
-index-most x (y ∷ l) = let rec = index-most x l in test (eqb x y) (λ e. rw (e, indexOf) (omega arith)) (λ e. rw (e, indexOf) (omega arith))
+index-most x (y ∷ l) =
+    let rec = index-most x l in
+    test (eqb x y) (λ e. rw (e, indexOf) (omega arith)) (λ e. rw (e, indexOf) (omega arith))
 
 module _ {size : ℕ} {words rank : List ℕ} (R : Ranked size words rank) where
   pub front-long : length (take size words) ≡ size

@@ -1,10 +1,10 @@
--- What a caller of the code for split needs: the marks of a sheet tell its darts (`marks-ones`, `marks-crosses`), and the two lists
--- made one after the other are those of split (`lists-halving`).
-use Prim.Native.Nat.{ℕ, zero, suc, _*_, _≤_, _<_}
+-- What a caller of the code for split needs: the marks of a sheet tell its darts (`marks-ones`, `marks-crosses`), and the two
+-- lists made one after the other are those of split (`lists-halving`).
+use Prim.Native.Nat.{ℕ, suc, _*_, _≤_, _<_}
 use mathlib.Core.Path.{_≡_, refl, sym, ap, ap₂, _∙_}
 use mathlib.Core.Logic.{_↔_}
-use mathlib.Core.Bool.{Bool, true, false, _||_}
-use mathlib.Core.List.{List, [], _∷_, List·Memᴰ as In}
+use mathlib.Core.Bool.{_||_}
+use mathlib.Core.List.{List, [], _∷_}
 use native.Mathlib.Omega.{arith}
 use lib.Dec.{eqb}
 use lib.ListN.{length, getD, take}
@@ -21,7 +21,7 @@ use Rattle.model.proofs.Lists.Scan.{test, clash}
 use Rattle.model.proofs.Lists.Ones.{ones-of, vacant-frees}
 use Rattle.model.proofs.Layers.Sheet.{sheet-least, sheet-live}
 use Rattle.model.proofs.Layers.Marks.{marks-one, sheet-layer}
-use Rattle.layers.specs.Ranks.{Ranked, Lists, Halving}
+use Rattle.layers.specs.Ranks.{Lists, Halving}
 use Rattle.layers.proofs.Ranks.{listed-in}
 
 -- ---- two lists of marks with the same ones

@@ -1,7 +1,7 @@
 -- The walk across removed cells, hop by hop: as long as it is inside, a hop brings it nearer to its end (`hop-nearer`). From
--- each slot that remains it ends (`walk-out`).
+-- each slot that remains it ends (`walk-out`). The opposite side and the marks, as the code reads them.
 use Prim.Native.Nat.{ℕ, zero, suc, _<_}
-use mathlib.Core.Path.{_≡_, refl, sym, ap, _∙_}
+use mathlib.Core.Path.{_≡_, sym, ap, _∙_}
 use mathlib.Core.Bool.{true, false}
 use mathlib.Core.Logic.{_≢_}
 use mathlib.Core.List.{List, [], _∷_}
@@ -67,8 +67,9 @@ module _ (n : ℕ) (t m : List ℕ) where
       let rec = more-fuel fuel (hop n t y) in
       test (marked m y)
       (λ h.
-      let r = rec (ap (marked m) (sym (on-outside fuel y h)) ∙ e) in
-      (on-outside (suc fuel) y h ∙ r .0 ∙ sym (on-outside fuel y h), on-hops (suc fuel) y h ∙ ap suc (r .1) ∙ sym (on-hops fuel y h)))
+      let step = on-outside fuel y h in
+      let (same, near) = rec (ap (marked m) (sym step) ∙ e) in
+      (on-outside (suc fuel) y h ∙ same ∙ sym step, on-hops (suc fuel) y h ∙ ap suc near ∙ sym (on-hops fuel y h)))
       (λ h. (outside-stops n t m (suc (suc fuel)) y h ∙ sym (outside-stops n t m (suc fuel) y h), rw (h, hops)))
 
   -- the walk ends where it ends from y, and fewer hops are left from z

@@ -1,4 +1,4 @@
-// The links that remove, add and split give a dart, one entry at a time.
+// The links that remove, add and split give, one entry at a time, and the lists that they are found by.
 use reading::link;
 use reading::live;
 use reading::slots;
@@ -6,7 +6,7 @@ ghost use mathlib.Core.Path.{_≡_};
 ghost use mathlib.Core.Bool.{false};
 ghost use mathlib.Core.List.{[], _∷_};
 ghost use Prim.Native.Nat.{ℕ, _*_, _/_, _%_, _≤_, _<_, min};
-ghost use lib.ListN.{length, getD, take, set};
+ghost use lib.ListN.{length, getD, take};
 ghost use Rattle.model.specs.Lists.{ones, indexOf};
 ghost use Rattle.model.specs.Checks.{pass, dimOk, tableOk};
 ghost use Rattle.model.specs.Table.{slots, link, walk, unusedSlots};
@@ -14,20 +14,24 @@ ghost use Rattle.model.specs.Remove.{opposite, marked, outside, removedLink};
 ghost use Rattle.model.specs.Cell.{cellSize};
 ghost use Rattle.model.specs.Add.{addedLink};
 ghost use Rattle.model.specs.Split.{crosses, newDart, newDartLink, halvedLink};
-ghost use Rattle.model.specs.Numbering.{corners, firstBit, swapFirst, swapLast, cellLink};
-ghost use Rattle.model.specs.Meaning.Walks.{Layer};
+ghost use Rattle.model.specs.Numbering.{corners, swapFirst, swapLast, cellLink};
+ghost use Rattle.model.specs.Meaning.Walks.{Layer, hop};
 ghost use Rattle.layers.specs.Ranks.{Ranked, Lists, Entered, Halving};
-ghost use Rattle.layers.specs.Orders.{orders};
+ghost use Rattle.layers.specs.Orders.{orders, firstAxis};
 
 // The entry of an unused slot.
 const UNUSED: u32 = 4294967295;
 
-// The axis orders xyz, xzy, yxz, yzx, zxy, zyx with the first two axes exchanged, and with the last two.
+// Of the axis orders xyz, xzy, yxz, yzx, zxy, zyx: the first axis.
+const FIRST_AXIS: [u32; 6] = [0, 0, 1, 1, 2, 2];
+
+// The same orders with the first two axes exchanged.
 const FIRST_TWO: [u32; 6] = [2, 4, 0, 5, 1, 3];
 
+// And with the last two exchanged.
 const LAST_TWO: [u32; 6] = [1, 0, 3, 2, 5, 4];
 
-// ---- remove
+// ---- marks, and the opposite edge
 
 // The mark of x; past the marks 0.
 fn mark(marks: &[u8], x: u32) -> u8
@@ -44,6 +48,8 @@ fn opposite_edge(table: &[u32], y: u32) -> u32
     link(table, 1, link(table, 0, link(table, 1, y)))
 }
 
+// ---- remove
+
 // The opposite side of y: 1.0.1 for n = 2 and 2.1.0.1.2 for n = 3.
 fn opposite(n: u32, table: &[u32], y: u32) -> u32
     ensures { λ r. ⌜ r ≡ walk (now (table .entry)) (opposite n) y ⌝ }
@@ -55,19 +61,28 @@ fn opposite(n: u32, table: &[u32], y: u32) -> u32
     }
 }
 
-// The first dart outside on the walk: link n of x, then (opposite side, link n) again and again. The path of hops from x is
-// finite: no dart inside comes twice.
+// One hop of the walk: opposite side, link n.
+fn hop(n: u32, table: &[u32], y: u32) -> u32
+    requires { ⌜ n < 4 ⌝ }
+    ensures { λ r. ⌜ r ≡ hop n (now (table .entry)) y ⌝ }
+{
+    link(table, n as usize, opposite(n, table, y))
+}
+
+// The first dart outside on the walk: link n of x, then (opposite side, link n) again and again. The path of hops is finite: it
+// comes to no dart twice.
 pub fn first_outside(n: u32, table: &[u32], marks: &[u8], x: u32) -> u32
     requires { ⌜ Layer n (now table) (now marks) ⌝ }
     requires { ⌜ marked (now marks) x ≡ false ⌝ }
-    ensures { λ r. ⌜ r ≡ outside n (now (table .entry)) (now (marks .entry)) (slots (now (table .entry))) (link (now (table .entry)) n x) ⌝ }
+    ensures { λ r. ⌜ r ≡ outside n (now (table .entry)) (now (marks .entry)) (slots (now (table .entry)))
+        (link (now (table .entry)) n x) ⌝ }
 {
     let mut y = link(table, n as usize, x);
     loop {
         if mark(marks, y) == 0 {
             break y;
         }
-        y = link(table, n as usize, opposite(n, table, y));
+        y = hop(n, table, y);
     }
 }
 
@@ -106,7 +121,8 @@ fn enter(words: &mut [u32], rank: &mut [u32], r: u32, x: u32, listed: bool) -> u
 pub fn list_marked(marks: &[u8], darts: &mut [u32], rank: &mut [u32]) -> u32
     requires { ⌜ length (now marks) ≤ 65536 ⌝ }
     requires { ⌜ (length (now marks) ≤ length (now darts)) × (length (now marks) ≤ length (now rank)) ⌝ }
-    ensures { λ r. ⌜ Lists (ones (now (marks .entry))) r (now (darts .entry)) (now (darts .exit)) (now (rank .entry)) (now (rank .exit)) ⌝ }
+    ensures { λ r. ⌜ Lists (ones (now (marks .entry))) r
+        (now (darts .entry)) (now (darts .exit)) (now (rank .entry)) (now (rank .exit)) ⌝ }
 {
     let mut r: u32 = 0;
     for x in 0..marks.len() {
@@ -119,7 +135,8 @@ pub fn list_marked(marks: &[u8], darts: &mut [u32], rank: &mut [u32]) -> u32
 pub fn list_unused(table: &[u32], fresh: &mut [u32], rank: &mut [u32], want: u32) -> u32
     requires { ⌜ tableOk (now table) ≡ pass ⌝ }
     requires { ⌜ (min want (slots (now table)) ≤ length (now fresh)) × (slots (now table) ≤ length (now rank)) ⌝ }
-    ensures { λ r. ⌜ Lists (take want (unusedSlots (now (table .entry)))) r (now (fresh .entry)) (now (fresh .exit)) (now (rank .entry)) (now (rank .exit)) ⌝ }
+    ensures { λ r. ⌜ Lists (take want (unusedSlots (now (table .entry)))) r
+        (now (fresh .entry)) (now (fresh .exit)) (now (rank .entry)) (now (rank .exit)) ⌝ }
 {
     let end = slots(table);
     let mut r: u32 = 0;
@@ -156,12 +173,16 @@ fn corners(n: u32) -> u32
     if n == 3 { 8 } else { 4 }
 }
 
-// The bit of the first axis of an axis order.
-fn first_bit(n: u32, order: u32) -> u32
+// The first axis of an axis order: 0 for x, 1 for y, 2 for z.
+fn first_axis(n: u32, order: u32) -> u32
     requires { ⌜ order < orders n ⌝ }
-    ensures { λ r. ⌜ r ≡ firstBit n order ⌝ }
+    ensures { λ r. ⌜ r ≡ firstAxis n order ⌝ }
 {
-    if n == 3 { 1 << (order / 2) } else { 1 << order }
+    if n == 3 {
+        FIRST_AXIS[order as usize]
+    } else {
+        order
+    }
 }
 
 // The axis order with the first two axes exchanged.
@@ -193,7 +214,7 @@ pub fn cell_link(n: u32, i: u32, k: u32) -> u32
     let mut order = k / corners;
     let mut vertex = k % corners;
     if i == 0 {
-        vertex ^= first_bit(n, order);
+        vertex ^= 1 << first_axis(n, order);
     } else if i == 1 {
         order = swap_first(n, order);
     } else if (i == 2) & (n == 3) {
@@ -226,7 +247,7 @@ pub fn added_link(
 
 // ---- split
 
-// Whether the link 1 of one of the first `size` darts has the mark 1.
+// Whether some g among the first `size` darts has g.1 with the mark 1.
 pub fn crosses(table: &[u32], marks: &[u8], darts: &[u32], size: u32) -> bool
     requires { ⌜ size ≤ length (now darts) ⌝ }
     ensures { λ r. ⌜ r ≡ crosses (now (table .entry)) (now (marks .entry)) (take size (now (darts .entry))) ⌝ }
@@ -252,7 +273,7 @@ fn new_dart(n: u32, darts: &[u32], fresh: &[u32], rank: &[u32], size: u32, role:
     }
 }
 
-// Link j of x, which is a(g).
+// Link j of x, which is a(g): a(g).0 = g, a(g).1 = b(g), a(g).2 = a(g.2), a(g).3 = a(g.3), but for n = 2 the dart itself.
 fn a_link(
     n: u32,
     table: &[u32],
@@ -265,7 +286,8 @@ fn a_link(
     j: u32,
 ) -> u32
     requires { ⌜ (Halving n size (now darts) (now fresh) (now rank)) × (j < 4) ⌝ }
-    ensures { λ r. ⌜ r ≡ newDartLink n (now (table .entry)) (take size (now (darts .entry))) (take (n * size) (now (fresh .entry))) x g 0 j ⌝ }
+    ensures { λ r. ⌜ r ≡ newDartLink n (now (table .entry))
+        (take size (now (darts .entry))) (take (n * size) (now (fresh .entry))) x g 0 j ⌝ }
 {
     if j == 0 {
         g
@@ -280,7 +302,8 @@ fn a_link(
     }
 }
 
-// Link j of x, which is b(g).
+// Link j of x, which is b(g): b(g).0 = b(g.1.0.1), b(g).1 = a(g); for n = 3 b(g).2 = c(g) and b(g).3 = b(g.3); for n = 2
+// b(g).2 = b(g.0) and link 3 is the dart itself.
 fn b_link(
     n: u32,
     table: &[u32],
@@ -293,7 +316,8 @@ fn b_link(
     j: u32,
 ) -> u32
     requires { ⌜ (Halving n size (now darts) (now fresh) (now rank)) × (j < 4) ⌝ }
-    ensures { λ r. ⌜ r ≡ newDartLink n (now (table .entry)) (take size (now (darts .entry))) (take (n * size) (now (fresh .entry))) x g 1 j ⌝ }
+    ensures { λ r. ⌜ r ≡ newDartLink n (now (table .entry))
+        (take size (now (darts .entry))) (take (n * size) (now (fresh .entry))) x g 1 j ⌝ }
 {
     if j == 0 {
         new_dart(n, darts, fresh, rank, size, 1, opposite_edge(table, g))
@@ -312,7 +336,7 @@ fn b_link(
     }
 }
 
-// Link j of c(g).
+// Link j of c(g): c(g).0 = c(g.1.0.1), c(g).1 = c(g.2), c(g).2 = b(g), c(g).3 = c(g.0).
 fn c_link(
     n: u32,
     table: &[u32],
@@ -324,7 +348,8 @@ fn c_link(
     j: u32,
 ) -> u32
     requires { ⌜ (Halving n size (now darts) (now fresh) (now rank)) × (j < 4) ⌝ }
-    ensures { λ r. ⌜ ((x : ℕ) → r ≡ newDartLink n (now (table .entry)) (take size (now (darts .entry))) (take (n * size) (now (fresh .entry))) x g 2 j) ⌝ }
+    ensures { λ r. ⌜ ((x : ℕ) → r ≡ newDartLink n (now (table .entry))
+        (take size (now (darts .entry))) (take (n * size) (now (fresh .entry))) x g 2 j) ⌝ }
 {
     if j == 0 {
         new_dart(n, darts, fresh, rank, size, 2, opposite_edge(table, g))
@@ -350,7 +375,9 @@ fn new_link(
     j: u32,
 ) -> u32
     requires { ⌜ (Halving n size (now darts) (now fresh) (now rank)) × (k < n * size) × (j < 4) ⌝ }
-    ensures { λ r. ⌜ r ≡ newDartLink n (now (table .entry)) (take size (now (darts .entry))) (take (n * size) (now (fresh .entry))) x (getD (take size (now (darts .entry))) (k / n) 0) (k % n) j ⌝ }
+    ensures { λ r. ⌜ r ≡ newDartLink n (now (table .entry))
+        (take size (now (darts .entry))) (take (n * size) (now (fresh .entry)))
+        x (getD (take size (now (darts .entry))) (k / n) 0) (k % n) j ⌝ }
 {
     let g = darts[(k / n) as usize];
     let role = k % n;
@@ -376,7 +403,8 @@ pub fn split_link(
     j: u32,
 ) -> u32
     requires { ⌜ (Halving n size (now darts) (now fresh) (now rank)) × (j < 4) ⌝ }
-    ensures { λ r. ⌜ r ≡ halvedLink n (now (table .entry)) (take size (now (darts .entry))) (take (n * size) (now (fresh .entry))) x j ⌝ }
+    ensures { λ r. ⌜ r ≡ halvedLink n (now (table .entry))
+        (take size (now (darts .entry))) (take (n * size) (now (fresh .entry))) x j ⌝ }
 {
     let new = n * size;
     let k = index_of(fresh, rank, new, x);

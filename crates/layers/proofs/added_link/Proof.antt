@@ -28,7 +28,8 @@ goes c =
     let s = c .before .before .before .before .before .before in
     let a = s .args in
     let dim = dim-passed (a .n) (s .pre .0 .0) in
-    rw (c .cell-link .ensures, s .pre .0 .1) (row-goes (a .n) (c .before .before .index-of .result) dim (omega arith) (a .i) (s .pre .0 .2))
+    let k = c .before .before .index-of .result in
+    rw (c .cell-link .ensures, s .pre .0 .1) (row-goes (a .n) k dim (omega arith) (a .i) (s .pre .0 .2))
 
 shared-slice-read-result : tie.Need-shared-slice-read-result
 shared-slice-read-result c = let low = goes (c .before) in omega arith
@@ -45,7 +46,7 @@ returns c =
     let long = front-long (s .pre .1) in
     word-in (a .fresh .now) (a .size) _ (s .pre .1 .long) (goes l)
     ∙ rw (l .cell-link .ensures)
-    (cell-new (a .n) (a .table .now) (take (a .size) (a .fresh .now)) (a .d) (a .i) (i .index-of .result) (i .index-of .ensures) (omega arith))
+    (cell-new (a .n) (a .table .now) (take (a .size) (a .fresh .now)) (a .d) (a .i) _ (i .index-of .ensures) (omega arith))
 
 returns-2 : tie.Need-returns-2
 returns-2 c =
@@ -54,7 +55,7 @@ returns-2 c =
     let a = s .args in
     let long = front-long (s .pre .1) in
     c .link .ensures
-    ∙ cell-stays (a .n) (a .table .now) (take (a .size) (a .fresh .now)) (a .d) (a .i) (i .index-of .result) (i .index-of .ensures) (omega arith)
+    ∙ cell-stays (a .n) (a .table .now) (take (a .size) (a .fresh .now)) (a .d) (a .i) _ (i .index-of .ensures) (omega arith)
 
 pub added-link-spec : {M : Type 1} → statement M
 added-link-spec =

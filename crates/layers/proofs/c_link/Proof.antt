@@ -6,6 +6,25 @@ use Rattle.model.specs.Split.{newDartLink}
 use Rattle.layers.proofs.c_link.Statement.{statement}
 use Rattle.layers.proofs.c_link.Tie as tie
 
+returns : tie.Need-returns
+unfolding newDartLink
+returns c x = rw (c .before .before .if1 .taken) (cc)
+
+returns-2 : tie.Need-returns-2
+unfolding newDartLink
+returns-2 c x = rw (c .before .before .if2 .taken) (cc)
+
+returns-3 : tie.Need-returns-3
+unfolding newDartLink
+returns-3 c x = rw (c .before .if3 .taken) (c .new-dart3 .ensures)
+
+returns-4 : tie.Need-returns-4
+unfolding newDartLink
+returns-4 c x =
+    let e = c .before .before in
+    let three : e .before .before .before .before .before .before .before .args .j ≡ 3 = omega arith in
+    rw (three) (cc)
+
 opposite-edge-requires : tie.Need-opposite-edge-requires
 opposite-edge-requires c κs = search needs
 
@@ -26,25 +45,6 @@ link-requires-2 c κs = search needs
 
 new-dart-requires-4 : tie.Need-new-dart-requires-4
 new-dart-requires-4 c κs = search needs
-
-returns : tie.Need-returns
-unfolding newDartLink
-returns c x = rw (c .before .before .if1 .taken, ← c .before .opposite-edge .ensures) (c .new-dart .ensures)
-
-returns-2 : tie.Need-returns-2
-unfolding newDartLink
-returns-2 c x = rw (c .before .before .if2 .taken, ← c .before .link .ensures) (c .new-dart2 .ensures)
-
-returns-3 : tie.Need-returns-3
-unfolding newDartLink
-returns-3 c x = rw (c .before .if3 .taken) (c .new-dart3 .ensures)
-
-returns-4 : tie.Need-returns-4
-unfolding newDartLink
-returns-4 c x =
-    let e = c .before .before in
-    let three : e .before .before .before .before .before .before .before .args .j ≡ 3 = omega arith in
-    rw (three, ← c .before .link2 .ensures) (c .new-dart4 .ensures)
 
 pub c-link-spec : {M : Type 1} → statement M
 c-link-spec =

@@ -13,7 +13,8 @@ use Rattle.model.proofs.Lists.Scan.{and-r}
 use Rattle.model.proofs.Cells.Rows.{row-goes}
 use Rattle.reading.proofs.Passed.{dim-passed}
 use Rattle.layers.specs.Orders.{orders}
-use Rattle.layers.proofs.Orders.{orders-solid, corners-some, size-few, order-in, link-zero, link-one, link-two, link-rest}
+use Rattle.layers.proofs.Orders.{orders-solid, corners-some, size-few, order-in, axis-few}
+use Rattle.layers.proofs.Orders.{link-zero, link-one, link-two, link-rest}
 use Rattle.layers.proofs.cell_link.Statement.{statement}
 use Rattle.layers.proofs.cell_link.Tie as tie
 
@@ -32,8 +33,14 @@ low c =
     let s = c .before in
     rw (c .corners .ensures) (order-in (s .args .n) (dim-passed (s .args .n) (s .pre .0)) (s .args .k) (s .pre .2))
 
-first-bit-requires : tie.Need-first-bit-requires
-first-bit-requires c κs = low (c .before)
+first-axis-requires : tie.Need-first-axis-requires
+first-axis-requires c κs = low (c .before)
+
+shl-vertex : tie.Need-shl-vertex
+shl-vertex c =
+    let d = c .before .before in
+    let s = d .before in
+    rw (c .first-axis .ensures) (axis-few (s .args .n) (dim-passed (s .args .n) (s .pre .0)) _ (low d))
 
 swap-first-requires : tie.Need-swap-first-requires
 swap-first-requires c κs = low (c .before .before)
@@ -93,7 +100,8 @@ cell-link-spec =
     corners-requires
     div-order
     rem-vertex
-    first-bit-requires
+    first-axis-requires
+    shl-vertex
     swap-first-requires
     swap-last-requires
     mul-result

@@ -5,7 +5,6 @@ use native.Mathlib.Omega.{arith}
 use borrow.Author.Needs.{needs}
 use Rattle.model.specs.Table.{slots, link}
 use Rattle.model.specs.Remove.{marked, outside}
-use Rattle.model.specs.Meaning.Walks.{hop}
 use Rattle.model.proofs.Operations.Frame.{outside-stops}
 use Rattle.layers.proofs.Walk.{marked-by, unmarked-by, hops, Ends, Nearer, hop-nearer, walk-out}
 use Rattle.layers.proofs.first_outside.Statement.{statement}
@@ -31,26 +30,20 @@ loop-holds c =
 mark-requires : tie.Need-mark-requires Inv-loop μ-loop
 mark-requires c κs = search needs
 
-opposite-requires : tie.Need-opposite-requires Inv-loop μ-loop
-opposite-requires c κs = search needs
+hop-requires : tie.Need-hop-requires Inv-loop μ-loop
+hop-requires c κs = let dim = c .before .before .before .before .before .before .pre .0 .table .dim in omega arith
 
-link-requires-2 : tie.Need-link-requires-2 Inv-loop μ-loop
-link-requires-2 c κs =
-    let dim = c .before .before .before .before .before .before .before .pre .0 .table .dim in
-    omega arith
-
--- the dart y of this turn is marked, and the next one is a hop on
-nearer : (c : tie.After-link2 Inv-loop μ-loop) →
-    let l = c .before .before .before .before in
+-- the dart y of this turn is marked, and the next one is nearer to the end
+nearer : (c : tie.After-hop Inv-loop μ-loop) →
+    let l = c .before .before .before in
     let a = l .before .before .before .before .args in
-    Nearer (a .n) (a .table .now) (a .marks .now) (slots (a .table .now)) (l .loop .y) (c .link2 .result)
-unfolding hop
+    Nearer (a .n) (a .table .now) (a .marks .now) (slots (a .table .now)) (l .loop .y) (c .hop .result)
 nearer c =
-    let e = c .before .before in
+    let e = c .before in
     let l = e .before .before in
     let a = l .before .before .before .before .args in
     let inside = marked-by (a .marks .now) (l .loop .y) _ (e .before .mark .ensures) (e .if1 .left) in
-    rw (c .link2 .ensures, c .before .opposite .ensures)
+    rw (c .hop .ensures)
     (hop-nearer (a .n) (a .table .now) (a .marks .now) (slots (a .table .now)) (l .loop .y) (l .loop .inv .1) inside)
 
 loop-less : tie.Need-loop-less Inv-loop μ-loop
@@ -58,7 +51,7 @@ loop-less c = nearer c .fewer
 
 loop-again : tie.Need-loop-again Inv-loop μ-loop
 loop-again c =
-    let inv = c .before .before .before .before .loop .inv in
+    let inv = c .before .before .before .loop .inv in
     let e = nearer c .same in
     (e ∙ inv .0, ap (marked _) e ∙ inv .1)
 
@@ -78,8 +71,7 @@ first-outside-spec =
     link-requires
     loop-holds
     mark-requires
-    opposite-requires
-    link-requires-2
+    hop-requires
     loop-less
     loop-again
     returns)

@@ -1,13 +1,13 @@
 -- `layers::list_unused` meets its contract. The loop's invariant: the unused slots before x are listed.
 use Prim.Native.Nat.{_≤_, _<_, _-_}
-use mathlib.Core.Path.{_≡_, sym, ap, _∙_}
+use mathlib.Core.Path.{sym, ap, _∙_}
 use mathlib.Core.Bool.{not}
 use native.Mathlib.Omega.{arith}
-use lib.ListN.{length}
 use borrow.Author.Needs.{needs}
 use Rattle.model.specs.Table.{slots, unusedSlots}
 use Rattle.reading.proofs.Passed.{table-passed}
-use Rattle.layers.proofs.Ranks.{Listing, listing-none, listing-more, listing-first, unusedMarks, unused-long, unused-mark, entered-few, goes-on, stops}
+use Rattle.layers.proofs.Ranks.{Listing, listing-none, listing-more, listing-first, entered-few}
+use Rattle.layers.proofs.Ranks.{unusedMarks, unused-long, unused-mark, goes-on, stops}
 use Rattle.layers.proofs.list_unused.Statement.{statement}
 use Rattle.layers.proofs.list_unused.Tie as tie
 
@@ -67,8 +67,9 @@ loop-again c =
     let u = l .before .before .before .before .before .args .table .now in
     let long = unused-long u in
     let few = entered-few (not (v .live .result)) (l .loop .r) (e .enter .result) (e .enter .ensures .size) in
-    let is = ap not (v .live .ensures) ∙ unused-mark u (l .loop .x) (t .0) in (
-      listing-more (l .loop .inv .0) _ _ (omega arith) is (omega (arith, lists .long)) (omega (arith, lists .rank-long)) (e .enter .ensures),
+    let is = ap not (v .live .ensures) ∙ unused-mark u (l .loop .x) (t .0) in
+    let more = listing-more (l .loop .inv .0) _ _ (omega arith) is in (
+      more (omega (arith, lists .long)) (omega (arith, lists .rank-long)) (e .enter .ensures),
       omega (arith, l .before .slots .ensures),
       omega arith,
     )

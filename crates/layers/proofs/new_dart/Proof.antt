@@ -1,6 +1,5 @@
 -- `layers::new_dart` meets its contract.
-use Prim.Native.Nat.{_*_, _+_, _≤_}
-use mathlib.Core.Path.{sym, ap, _∙_}
+use Prim.Native.Nat.{_*_, _≤_}
 use native.Mathlib.Omega.{arith}
 use borrow.Author.Needs.{needs}
 use Rattle.model.specs.Split.{newDart}
@@ -18,7 +17,8 @@ place-few : (c : tie.After-index-of) → c .before .before .before .before .args
 place-few c =
     let s = c .before .before .before .before in
     let h = s .pre .0 in
-    few-new (s .args .n) (dim-passed (s .args .n) (h .dim)) _ (s .args .size) (rw (c .index-of .ensures) (index-few (h .old) (s .args .g))) (h .few)
+    let dim = dim-passed (s .args .n) (h .dim) in
+    few-new (s .args .n) dim _ (s .args .size) (rw (c .index-of .ensures) (index-few (h .old) (s .args .g))) (h .few)
 
 new-few : (c : tie.After-index-of) → let a = c .before .before .before .before .args in a .n * a .size ≤ 196608
 new-few c =
@@ -49,7 +49,8 @@ unfolding newDart
 returns c =
     let i = c .before .before in
     let s = i .before .before .before .before in
-    rw (← i .index-of .ensures) (word-in (s .args .fresh .now) (s .args .n * s .args .size) _ (s .pre .0 .new .long) (omega arith))
+    let a = s .args in
+    rw (← i .index-of .ensures) (word-in (a .fresh .now) (a .n * a .size) _ (s .pre .0 .new .long) (omega arith))
 
 returns-2 : tie.Need-returns-2
 unfolding newDart

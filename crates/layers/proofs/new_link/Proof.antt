@@ -10,7 +10,9 @@ use Rattle.layers.proofs.new_link.Statement.{statement}
 use Rattle.layers.proofs.new_link.Tie as tie
 
 -- n is not 0, and the dart is one of the listed
-small : (c : tie.After-shared-slice-known4) → let a = c .before .before .before .before .args in (0 < a .n) × (a .k / a .n < a .size)
+small : (c : tie.After-shared-slice-known4) →
+    let a = c .before .before .before .before .args in
+    (0 < a .n) × (a .k / a .n < a .size)
 small c =
     let s = c .before .before .before .before in
     let dim = dim-passed (s .args .n) (s .pre .0 .dim) in

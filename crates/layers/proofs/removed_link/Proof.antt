@@ -1,7 +1,6 @@
 -- `layers::removed_link` meets its contract.
-use mathlib.Core.Path.{refl, sym, ap, _∙_}
+use mathlib.Core.Path.{sym, _∙_}
 use borrow.Author.Needs.{needs}
-use Rattle.model.specs.Remove.{removedLink}
 use Rattle.model.proofs.Layers.Remove.{gone-link, stays-link, found-link}
 use Rattle.layers.proofs.Walk.{marked-by, unmarked-by}
 use Rattle.layers.proofs.removed_link.Statement.{statement}
