@@ -1,5 +1,5 @@
 -- The ladder of a call: its refusals are early returns in the order of the numbers, and each rung says that one check more
--- has passed. A call's proof (proofs/orbit/Proof.antt is an example) goes so:
+-- has passed. A call's proof (proofs/orbits/orbit/Proof.antt is an example) goes so:
 --   1. `checks`: the model's checks of the call, from the function's entry.
 --   2. For each test that is left, at the record `Else..` of its branch, the rung `Rung checks k`: the rung before, from
 --      further down the chain of `.before`, and `up` with the law of Verdicts.antt for that form of test. The rungs

@@ -5,7 +5,7 @@ use native.Mathlib.Omega.{arith}
 use lib.ListN.{take}
 use borrow.Author.Needs.{needs}
 use Rattle.model.proofs.Cells.Rows.{row-goes}
-use Rattle.reading.proofs.Passed.{dim-passed}
+use Rattle.model.proofs.Calls.Pass.{dim-pass}
 use Rattle.layers.proofs.Ranks.{front-long}
 use Rattle.layers.proofs.Halves.{word-in, cell-new, cell-stays}
 use Rattle.layers.proofs.added_link.Statement.{statement}
@@ -27,7 +27,7 @@ goes : (c : tie.After-cell-link) → c .cell-link .result < c .before .before .b
 goes c =
     let s = c .before .before .before .before .before .before in
     let a = s .args in
-    let dim = dim-passed (a .n) (s .pre .0 .0) in
+    let dim = dim-pass (a .n) (s .pre .0 .0) in
     let k = c .before .before .index-of .result in
     rw (c .cell-link .ensures, s .pre .0 .1) (row-goes (a .n) k dim (omega arith) (a .i) (s .pre .0 .2))
 

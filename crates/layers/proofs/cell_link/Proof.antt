@@ -11,7 +11,7 @@ use Rattle.model.specs.Numbering.{corners, cellLink}
 use Rattle.model.specs.Meaning.Maps.{Dim}
 use Rattle.model.proofs.Lists.Scan.{and-r}
 use Rattle.model.proofs.Cells.Rows.{row-goes}
-use Rattle.reading.proofs.Passed.{dim-passed}
+use Rattle.model.proofs.Calls.Pass.{dim-pass}
 use Rattle.layers.specs.Orders.{orders}
 use Rattle.layers.proofs.Orders.{orders-solid, corners-some, size-few, order-in, axis-few}
 use Rattle.layers.proofs.Orders.{link-zero, link-one, link-two, link-rest}
@@ -22,7 +22,7 @@ corners-requires : tie.Need-corners-requires
 corners-requires c κs = search needs
 
 div-order : tie.Need-div-order
-div-order c = let s = c .before in rw (c .corners .ensures) (corners-some (s .args .n) (dim-passed (s .args .n) (s .pre .0)))
+div-order c = let s = c .before in rw (c .corners .ensures) (corners-some (s .args .n) (dim-pass (s .args .n) (s .pre .0)))
 
 rem-vertex : tie.Need-rem-vertex
 rem-vertex c = div-order c
@@ -31,7 +31,7 @@ rem-vertex c = div-order c
 low : (c : tie.After-corners) → let a = c .before .args in a .k / c .corners .result < orders (a .n)
 low c =
     let s = c .before in
-    rw (c .corners .ensures) (order-in (s .args .n) (dim-passed (s .args .n) (s .pre .0)) (s .args .k) (s .pre .2))
+    rw (c .corners .ensures) (order-in (s .args .n) (dim-pass (s .args .n) (s .pre .0)) (s .args .k) (s .pre .2))
 
 first-axis-requires : tie.Need-first-axis-requires
 first-axis-requires c κs = low (c .before)
@@ -40,7 +40,7 @@ shl-vertex : tie.Need-shl-vertex
 shl-vertex c =
     let d = c .before .before in
     let s = d .before in
-    rw (c .first-axis .ensures) (axis-few (s .args .n) (dim-passed (s .args .n) (s .pre .0)) _ (low d))
+    rw (c .first-axis .ensures) (axis-few (s .args .n) (dim-pass (s .args .n) (s .pre .0)) _ (low d))
 
 swap-first-requires : tie.Need-swap-first-requires
 swap-first-requires c κs = low (c .before .before)
@@ -68,7 +68,7 @@ linked c =
     k = c .before .before .args .k
 
     dim : Dim n
-    dim = dim-passed n (c .before .before .pre .0)
+    dim = dim-pass n (c .before .before .pre .0)
 
     in-cell : k < cellSize n
     in-cell = c .before .before .pre .2
@@ -79,7 +79,7 @@ linked c =
 small : (c : tie.Joined1) → c .before .corners .result * c .if1 .order + c .if1 .vertex < 48
 small c =
     let s = c .before .before in
-    let dim = dim-passed (s .args .n) (s .pre .0) in
+    let dim = dim-pass (s .args .n) (s .pre .0) in
     let few = size-few (s .args .n) dim in
     let goes = row-goes (s .args .n) (s .args .k) dim (s .pre .2) (s .args .i) (s .pre .1) in
     rw (linked c) (omega arith)

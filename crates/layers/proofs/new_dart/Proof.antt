@@ -3,7 +3,7 @@ use Prim.Native.Nat.{_*_, _≤_}
 use native.Mathlib.Omega.{arith}
 use borrow.Author.Needs.{needs}
 use Rattle.model.specs.Split.{newDart}
-use Rattle.reading.proofs.Passed.{dim-passed}
+use Rattle.model.proofs.Calls.Pass.{dim-pass}
 use Rattle.layers.proofs.Ranks.{index-few}
 use Rattle.layers.proofs.Halves.{few-new, word-in, word-out}
 use Rattle.layers.proofs.new_dart.Statement.{statement}
@@ -17,14 +17,14 @@ place-few : (c : tie.After-index-of) → c .before .before .before .before .args
 place-few c =
     let s = c .before .before .before .before in
     let h = s .pre .0 in
-    let dim = dim-passed (s .args .n) (h .dim) in
+    let dim = dim-pass (s .args .n) (h .dim) in
     few-new (s .args .n) dim _ (s .args .size) (rw (c .index-of .ensures) (index-few (h .old) (s .args .g))) (h .few)
 
 new-few : (c : tie.After-index-of) → let a = c .before .before .before .before .args in a .n * a .size ≤ 196608
 new-few c =
     let s = c .before .before .before .before in
     let h = s .pre .0 in
-    few-new (s .args .n) (dim-passed (s .args .n) (h .dim)) _ (s .args .size) (omega arith) (h .few)
+    few-new (s .args .n) (dim-pass (s .args .n) (h .dim)) _ (s .args .size) (omega arith) (h .few)
 
 mul-k : tie.Need-mul-k
 mul-k c = let low = place-few c in omega arith

@@ -4,7 +4,7 @@ use mathlib.Core.Path.{_≡_}
 use native.Mathlib.Omega.{arith}
 use lib.Seq.{getD-take}
 use borrow.Author.Needs.{needs}
-use Rattle.reading.proofs.Passed.{dim-passed}
+use Rattle.model.proofs.Calls.Pass.{dim-pass}
 use Rattle.layers.proofs.Halves.{old-in, role-in}
 use Rattle.layers.proofs.new_link.Statement.{statement}
 use Rattle.layers.proofs.new_link.Tie as tie
@@ -15,7 +15,7 @@ small : (c : tie.After-shared-slice-known4) →
     (0 < a .n) × (a .k / a .n < a .size)
 small c =
     let s = c .before .before .before .before in
-    let dim = dim-passed (s .args .n) (s .pre .0 .dim) in
+    let dim = dim-pass (s .args .n) (s .pre .0 .dim) in
     (omega arith, old-in (s .args .n) dim (s .args .k) (s .args .size) (s .pre .1))
 
 div-g : tie.Need-div-g
@@ -62,7 +62,7 @@ returns-3 c =
     let s = e .before .before .before .before .before .before .before in
     let a = s .args in
     let low = small (e .before .before .before) in
-    let dim = dim-passed (a .n) (s .pre .0 .dim) in
+    let dim = dim-pass (a .n) (s .pre .0 .dim) in
     let below = role-in (a .n) dim (a .k) in
     let two : a .k % a .n ≡ 2 = omega arith in
     rw (getD-take (a .size) (a .darts .now) (a .k / a .n) 0 (low .1), two) (c .c-link .ensures (a .x))

@@ -4,7 +4,7 @@ use mathlib.Core.Path.{_∙_}
 use native.Mathlib.Omega.{arith}
 use lib.ListN.{take}
 use borrow.Author.Needs.{needs}
-use Rattle.reading.proofs.Passed.{dim-passed}
+use Rattle.model.proofs.Calls.Pass.{dim-pass}
 use Rattle.layers.proofs.Ranks.{front-long}
 use Rattle.layers.proofs.Halves.{few-new, new-link, cut-link, stay-link}
 use Rattle.layers.proofs.split_link.Statement.{statement}
@@ -14,7 +14,7 @@ mul-new : tie.Need-mul-new
 mul-new c =
     let s = c .before .before .before .before in
     let h = s .pre .0 in
-    let few = few-new (s .args .n) (dim-passed (s .args .n) (h .dim)) (s .args .size) (s .args .size) (omega arith) (h .few) in
+    let few = few-new (s .args .n) (dim-pass (s .args .n) (h .dim)) (s .args .size) (s .args .size) (omega arith) (h .few) in
     omega arith
 
 index-of-requires : tie.Need-index-of-requires

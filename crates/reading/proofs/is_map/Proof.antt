@@ -6,7 +6,8 @@ use native.Mathlib.Omega.{arith}
 use borrow.Author.Count.{below-none, below-more}
 use borrow.Author.Tests.{not-true, not-false}
 use Rattle.reading.specs.Near.{keepsNear}
-use Rattle.reading.proofs.Passed.{dim-passed, table-passed}
+use Rattle.model.proofs.Calls.Pass.{dim-pass}
+use Rattle.reading.proofs.Passed.{table-passed}
 use Rattle.reading.proofs.Neighbours.{near-map, broken-map}
 use Rattle.reading.proofs.is_map.Statement.{statement}
 use Rattle.reading.proofs.is_map.Tie as tie
@@ -34,7 +35,7 @@ returns c =
     let l = c .before .before .before in
     let s = l .before .before .before in
     let a = s .args in
-    sym (broken-map (a .n) (a .table .now) (dim-passed (a .n) (s .pre .0)) (table-passed (a .table .now) (s .pre .1)) (l .loop .d)
+    sym (broken-map (a .n) (a .table .now) (dim-pass (a .n) (s .pre .0)) (table-passed (a .table .now) (s .pre .1)) (l .loop .d)
     (sym (c .before .keeps-near .ensures) ∙ not-true _ (c .if1 .taken)))
 
 add-d : tie.Need-add-d Inv-loop μ-loop
@@ -57,7 +58,7 @@ returns-2 c =
     let l = c .before in
     let s = l .before .before .before in
     let a = s .args in
-    sym (near-map (a .n) (a .table .now) (dim-passed (a .n) (s .pre .0)) (table-passed (a .table .now) (s .pre .1))
+    sym (near-map (a .n) (a .table .now) (dim-pass (a .n) (s .pre .0)) (table-passed (a .table .now) (s .pre .1))
     (λ k h. l .loop .inv .1 k (omega (arith, l .before .slots .ensures))))
 
 pub is-map-spec : {M : Type 1} → statement M

@@ -2,7 +2,7 @@
 use mathlib.Core.Path.{sym, _∙_}
 use native.Mathlib.Omega.{arith}
 use Rattle.reading.specs.Near.{Row}
-use Rattle.reading.proofs.Passed.{dim-passed}
+use Rattle.model.proofs.Calls.Pass.{dim-pass}
 use Rattle.reading.proofs.Neighbours.{below, row-range, row-unused, near-in, near-out}
 use Rattle.reading.proofs.keeps_near.Statement.{statement}
 use Rattle.reading.proofs.keeps_near.Tie as tie
@@ -47,7 +47,7 @@ returns c =
     let s = t .before .before .before .before .before .before in
     let a = s .args in
     let inside = row-range _ _ _ _ _ _ (row (t .before)) _ (rw (s .pre .1 .0) at (t .if1 .taken)) in
-    c .near-rules .ensures ∙ sym (near-in (a .n) (a .table .now) (dim-passed (a .n) (s .pre .0 .0)) (s .pre .0 .1) (a .d) inside)
+    c .near-rules .ensures ∙ sym (near-in (a .n) (a .table .now) (dim-pass (a .n) (s .pre .0 .0)) (s .pre .0 .1) (a .d) inside)
 
 returns-2 : tie.Need-returns-2
 returns-2 c =
@@ -56,7 +56,7 @@ returns-2 c =
     let below-end = rw (s .pre .1 .0) at (s .pre .1 .1) in
     let outside = row-range _ _ _ _ _ _ (row (c .before)) _ (rw (s .pre .1 .0) at (c .if1 .left)) in
     row-unused _ _ _ _ _ _ (row (c .before))
-    ∙ near-out (a .n) (a .table .now) (dim-passed (a .n) (s .pre .0 .0)) (s .pre .0 .1) (a .d) below-end outside
+    ∙ near-out (a .n) (a .table .now) (dim-pass (a .n) (s .pre .0 .0)) (s .pre .0 .1) (a .d) below-end outside
 
 pub keeps-near-spec : {M : Type 1} → statement M
 keeps-near-spec =

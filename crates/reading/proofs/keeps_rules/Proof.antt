@@ -2,7 +2,7 @@
 use mathlib.Core.Path.{_∙_}
 use borrow.Author.Needs.{needs}
 use Rattle.model.specs.Map.{linked, crossed}
-use Rattle.reading.proofs.Passed.{dim-passed}
+use Rattle.model.proofs.Calls.Pass.{dim-pass}
 use Rattle.reading.proofs.Rules.{rules-flat, rules-solid, keeps-rules}
 use Rattle.reading.proofs.keeps_rules.Statement.{statement}
 use Rattle.reading.proofs.keeps_rules.Tie as tie
@@ -43,7 +43,7 @@ returns c =
     rw (c₁ .linked .ensures, c₂ .linked2 .ensures, c₃ .linked3 .ensures, c₄ .linked4 .ensures)
     (rw (c₅ .crossed .ensures, c .link .ensures)
     (rules-flat (a .n) (linked (a .table .now) (a .d)) (crossed (a .table .now) (a .d)) _ (c .before .if1 .taken)
-    ∙ keeps-rules (a .n) (a .table .now) (a .d) (dim-passed (a .n) (s .pre .0))))
+    ∙ keeps-rules (a .n) (a .table .now) (a .d) (dim-pass (a .n) (s .pre .0))))
 
 returns-2 : tie.Need-returns-2
 returns-2 c =
@@ -58,7 +58,7 @@ returns-2 c =
     rw (c₁ .linked .ensures, c₂ .linked2 .ensures, c₃ .linked3 .ensures, c₄ .linked4 .ensures)
     (rw (c₅ .crossed .ensures, c₆ .crossed2 .ensures, c .crossed3 .ensures)
     (rules-solid (a .n) (linked (a .table .now) (a .d)) (crossed (a .table .now) (a .d)) _ (c₆ .before .if1 .left)
-    ∙ keeps-rules (a .n) (a .table .now) (a .d) (dim-passed (a .n) (s .pre .0))))
+    ∙ keeps-rules (a .n) (a .table .now) (a .d) (dim-pass (a .n) (s .pre .0))))
 
 pub keeps-rules-spec : {M : Type 1} → statement M
 keeps-rules-spec =
