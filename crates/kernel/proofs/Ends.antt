@@ -1,6 +1,7 @@
--- How a call ends, from its checks: `orbit-refused`, `orbit-accepted` and the like.
+-- How a call ends, from its checks: refused by the first that does not pass (`orbit-refused` and the like), or accepted
+-- (`orbit-accepted` and the like).
 use Prim.Native.Nat.{ℕ}
-use mathlib.Core.Path.{_≡_, refl, sym}
+use mathlib.Core.Path.{_≡_}
 use mathlib.Core.Bool.{Bool, true, false}
 use mathlib.Core.List.{List, []}
 use Rattle.model.specs.Lists.{count}

@@ -1,7 +1,7 @@
 -- What the passed checks say, as the crates below ask it: `map-given` and `room-given` for the block test, `flood-given` for
 -- orbit and sheet.
 use Prim.Native.Nat.{ℕ, _≤_}
-use mathlib.Core.Path.{_≡_, refl}
+use mathlib.Core.Path.{_≡_}
 use mathlib.Core.Bool.{true}
 use mathlib.Core.List.{List}
 use native.Mathlib.Omega.{arith}

@@ -6,15 +6,15 @@ mod maps;
 
 // ---- the calls, printed
 
-fn value(words: &[u8], value: u32) {
+fn say_number(words: &[u8], number: u32) {
     io::write_all(1, words);
-    io::print_decimal(1, value as u64);
+    io::print_decimal(1, number as u64);
 }
 
 fn say(answer: kernel::Answer) {
-    value(b": number ", answer.number);
-    value(b", place ", answer.place);
-    value(b", count ", answer.count);
+    say_number(b": number ", answer.number);
+    say_number(b", place ", answer.place);
+    say_number(b", count ", answer.count);
 }
 
 fn say_marks(marks: &[u8]) {
@@ -32,7 +32,7 @@ fn each_mark(marks: &[u8]) {
 }
 
 fn say_mark(mark: u8) {
-    value(b" ", mark as u32);
+    say_number(b" ", mark as u32);
 }
 
 fn title(words: &[u8]) {
@@ -41,22 +41,22 @@ fn title(words: &[u8]) {
 }
 
 fn check(n: u32, table: &[u32]) {
-    value(b"  check n ", n);
+    say_number(b"  check n ", n);
     say(kernel::check(n, table));
     io::write_all(1, b"\n");
 }
 
 fn orbit(n: u32, table: &[u32], marks: &mut [u8], mask: u32, d: u32) {
-    value(b"  orbit n ", n);
-    value(b", mask ", mask);
-    value(b", d ", d);
+    say_number(b"  orbit n ", n);
+    say_number(b", mask ", mask);
+    say_number(b", d ", d);
     say(kernel::orbit(n, table, marks, mask, d));
     say_marks(marks);
 }
 
 fn sheet(n: u32, table: &[u32], marks: &mut [u8], d: u32) {
-    value(b"  sheet n ", n);
-    value(b", d ", d);
+    say_number(b"  sheet n ", n);
+    say_number(b", d ", d);
     say(kernel::sheet(n, table, marks, d));
     say_marks(marks);
 }
