@@ -1,14 +1,15 @@
--- The ladder of a call: its refusals are early returns in the order of the numbers, and each rung says that one check more
--- has passed. A call's proof (proofs/orbits/orbit/Proof.antt is an example) goes so:
+-- The ladder of a call: its refusals are early returns in the order of the numbers, and at each rung one check more has
+-- passed. So goes the proof of a call (proofs/orbits/orbit/Proof.antt is an example):
 --   1. `checks`: the model's checks of the call, from the function's entry.
---   2. For each test that is left, at the record `Else..` of its branch, the rung `Rung checks k`: the rung before, from
---      further down the chain of `.before`, and `up` with the law of Verdicts.antt for that form of test. The rungs
---      are `abbrev`, so that their entry computes to the function's.
---   3. For each test that is taken, its `returns`: the call's `-refused` law of Ends.antt, of `out` at the rung before, with
---      the same law's twin.
---   4. What a callee asks: `search` finds a passed check in `passed` of the rung, and Given.antt has what is more than that.
---   5. The last `returns`: the call's `-accepted` law, of `all-passed` at the last rung and of what the callees ensure.
--- Where a call has a second list of checks behind the first (split), it has a second ladder with an entry of its own.
+--   2. For each test that is left, at the record `Else..` of its branch: its rung, `Rung checks k`. That is the rung before, a
+--      few steps down the chain of `.before`, and `up` with the law of Verdicts.antt for this form of test. Rungs are
+--      `abbrev`, so that their entry computes to the function's entry.
+--   3. For each test that is taken, at the record `Then..`: the call's `-refused` law (Ends.antt), of `out` at the rung
+--      before, with the twin of that law of Verdicts.antt.
+--   4. For what a callee asks: `search` finds a passed check in `passed` of the rung; Given.antt has what goes beyond that.
+--   5. At the last return: the call's `-accepted` law, of `all-passed` at the last rung and of what the callees ensure.
+-- A slice that is lent as `&mut` and read on the way adds needs `same-length` to the returns behind: `search needs`. Checks
+-- that stand behind the first list (those of split) are a second ladder, whose entry is the record where the first one ends.
 use Prim.Native.Nat.{ℕ, zero, suc}
 use mathlib.Core.Path.{_≡_, refl, sym}
 use mathlib.Core.List.{List, [], _∷_}
@@ -33,13 +34,14 @@ one-more [] k p e = tt
 one-more (c ∷ cs) zero p e = (e, tt)
 one-more (c ∷ cs) (suc k) p e = (p .0, one-more cs k (p .1) e)
 
-first-refusal : (cs : List Check) (k : ℕ) {z q : ℕ} → Passed (take k cs) → getD cs k pass ≡ refuse z q → inOrder cs ≡ refuse z q
+first-refusal : (cs : List Check) (k : ℕ) {z q : ℕ} → Passed (take k cs) → getD cs k pass ≡ refuse z q
+    → inOrder cs ≡ refuse z q
 unfolding inOrder andThen
 first-refusal [] k p e = not-pass (sym e)
 first-refusal (c ∷ cs) zero p e = rw e
 first-refusal (c ∷ cs) (suc k) p e = rw (p .0) (first-refusal cs k (p .1) e)
 
--- ---- rungs; S is what is known at a function's entry, and with it the checks are
+-- ---- rungs; S is the record of a function's entry
 
 -- the first k checks have passed
 pub record Rung {S : Type 0} (checks : S → List Check) (k : ℕ) : Type 0 where

@@ -1,10 +1,10 @@
 -- A mask: its bound (`mask-bound`), and the place of its orbit by counting ones and trailing zeros (`ones-place`), by one
 -- computed test of all masks.
-use Prim.Native.Nat.{ℕ, suc, _+_, _*_, _-_, _%_, _^_, _<_}
-use mathlib.Core.Path.{_≡_, refl, sym}
-use mathlib.Core.Bool.{Bool, true, false, not}
+use Prim.Native.Nat.{ℕ, _+_, _*_, _-_, _%_, _^_, _<_}
+use mathlib.Core.Path.{_≡_, refl}
+use mathlib.Core.Bool.{Bool, true, false}
 use lib.Dec.{eqb}
-use lib.Count.{ones, onesIn, trailingZeros, under}
+use lib.Count.{ones, onesIn, trailingZeros}
 use borrow.Author.Tests.{eqb-true, ltb-true}
 use Rattle.model.specs.Lists.{least, leastFrom, allBelow, allFrom}
 use Rattle.model.specs.Reach.{links, linksFrom}
@@ -26,10 +26,13 @@ mask-bound n mask h = ltb-true _ _ (must-pass _ 6 h)
 unfoldable pub placeByOnes : ℕ → ℕ → ℕ
 placeByOnes n mask = elim (eqb (ones mask) n) [ true ↦ trailingZeros 32 (4294967295 - mask) + 1 | false ↦ 0 ]
 
-same-place : (n : ℕ) → Dim n → allBelow (2 ^ (n + 1)) (λ mask. eqb (placeByOnes n mask) (orbitPlace n mask)) ≡ true
-unfolding placeByOnes ones onesIn trailingZeros orbitPlace orbitWords links linksFrom bit least leastFrom allBelow allFrom
-same-place n dim =
-    two-cases n dim (λ n. allBelow (2 ^ (n + 1)) (λ mask. eqb (placeByOnes n mask) (orbitPlace n mask)) ≡ true) refl refl
+samePlace : ℕ → ℕ → Bool
+samePlace n mask = eqb (placeByOnes n mask) (orbitPlace n mask)
+
+all-same : (n : ℕ) → Dim n → allBelow (2 ^ (n + 1)) (samePlace n) ≡ true
+unfolding samePlace placeByOnes ones onesIn trailingZeros orbitPlace orbitWords links linksFrom bit least leastFrom allBelow allFrom
+all-same n dim = two-cases n dim (λ n. allBelow (2 ^ (n + 1)) (samePlace n) ≡ true) refl refl
 
 pub ones-place : (n mask : ℕ) → Dim n → mask < 2 ^ (n + 1) → placeByOnes n mask ≡ orbitPlace n mask
-ones-place n mask dim h = eqb-true _ _ (below-at (λ mask. eqb (placeByOnes n mask) (orbitPlace n mask)) (2 ^ (n + 1)) (same-place n dim) mask h)
+unfolding samePlace
+ones-place n mask dim h = eqb-true _ _ (below-at (samePlace n) (2 ^ (n + 1)) (all-same n dim) mask h)

@@ -1,76 +1,88 @@
-// Runs check, orbit and sheet on small maps, on a table of 65,536 slots and on input that they refuse, and prints what they
-// answer: number, place and count, and the marks where they are few.
-use kernel::Answer;
+// Runs check, orbit and sheet on small maps, on a table of 65,536 slots and on input that they refuse, and prints for each
+// call what it was given and what it answers: number, place, count, and the marks where they are few.
 use maps::UNUSED;
 
 mod maps;
 
-// ---- printing
+// ---- the calls, printed
 
-fn say(words: &[u8], answer: Answer) {
+fn say_number(words: &[u8], number: u32) {
     io::write_all(1, words);
-    io::write_all(1, b": no=");
-    io::print_decimal(1, answer.number as u64);
-    io::write_all(1, b" at=");
-    io::print_decimal(1, answer.place as u64);
-    io::write_all(1, b" n=");
-    io::print_decimal(1, answer.count as u64);
-    io::write_all(1, b"\n");
+    io::print_decimal(1, number as u64);
 }
 
-fn say_mark(mark: u8) {
-    io::write_all(1, b" ");
-    io::print_decimal(1, mark as u64);
+fn say(answer: kernel::Answer) {
+    say_number(b": number ", answer.number);
+    say_number(b", place ", answer.place);
+    say_number(b", count ", answer.count);
 }
 
 fn say_marks(marks: &[u8]) {
-    io::write_all(1, b"  marks");
-    for k in 0..marks.len() {
-        say_mark(marks[k]);
+    if marks.len() < 49 {
+        io::write_all(1, b", marks");
+        each_mark(marks);
     }
     io::write_all(1, b"\n");
 }
 
-fn check(words: &[u8], n: u32, table: &[u32]) {
-    say(words, kernel::check(n, table));
+fn each_mark(marks: &[u8]) {
+    for k in 0..marks.len() {
+        say_mark(marks[k]);
+    }
 }
 
-fn orbit(words: &[u8], n: u32, table: &[u32], marks: &mut [u8], mask: u32, d: u32) {
-    say(words, kernel::orbit(n, table, marks, mask, d));
+fn say_mark(mark: u8) {
+    say_number(b" ", mark as u32);
 }
 
-fn sheet(words: &[u8], n: u32, table: &[u32], marks: &mut [u8], d: u32) {
-    say(words, kernel::sheet(n, table, marks, d));
+fn title(words: &[u8]) {
+    io::write_all(1, words);
+    io::write_all(1, b"\n");
+}
+
+fn check(n: u32, table: &[u32]) {
+    say_number(b"  check n ", n);
+    say(kernel::check(n, table));
+    io::write_all(1, b"\n");
+}
+
+fn orbit(n: u32, table: &[u32], marks: &mut [u8], mask: u32, d: u32) {
+    say_number(b"  orbit n ", n);
+    say_number(b", mask ", mask);
+    say_number(b", d ", d);
+    say(kernel::orbit(n, table, marks, mask, d));
+    say_marks(marks);
+}
+
+fn sheet(n: u32, table: &[u32], marks: &mut [u8], d: u32) {
+    say_number(b"  sheet n ", n);
+    say_number(b", d ", d);
+    say(kernel::sheet(n, table, marks, d));
+    say_marks(marks);
 }
 
 // ---- maps
 
 fn one_quad() {
+    title(b"a quad");
     let mut table = [UNUSED; 32];
     let mut marks = [9u8; 8];
     maps::quad(&mut table, 0);
-    check(b"quad, check", 2, &table);
-    quad_sheets(&table, &mut marks);
-    quad_orbits(&table, &mut marks);
+    read_quad(&table, &mut marks);
 }
 
-fn quad_sheets(table: &[u32], marks: &mut [u8]) {
-    sheet(b"quad, sheet 0", 2, table, marks, 0);
-    say_marks(marks);
-    sheet(b"quad, sheet 7", 2, table, marks, 7);
-    say_marks(marks);
-}
-
-fn quad_orbits(table: &[u32], marks: &mut [u8]) {
-    orbit(b"quad, orbit 0 from 6", 2, table, marks, 0, 6);
-    say_marks(marks);
-    orbit(b"quad, orbit 1 from 2", 2, table, marks, 1, 2);
-    say_marks(marks);
-    orbit(b"quad, orbit 7 from 0", 2, table, marks, 7, 0);
-    say_marks(marks);
+fn read_quad(table: &[u32], marks: &mut [u8]) {
+    check(2, table);
+    check(3, table);
+    sheet(2, table, marks, 0);
+    sheet(2, table, marks, 7);
+    orbit(2, table, marks, 0, 6);
+    orbit(2, table, marks, 1, 2);
+    orbit(2, table, marks, 7, 0);
 }
 
 fn three_quads() {
+    title(b"three quads in a row");
     let mut table = [UNUSED; 96];
     let mut marks = [9u8; 24];
     maps::quad(&mut table, 0);
@@ -78,196 +90,160 @@ fn three_quads() {
     maps::quad(&mut table, 16);
     maps::beside(&mut table, 0, 8);
     maps::beside(&mut table, 8, 16);
-    check(b"three quads, check", 2, &table);
-    three_quads_sheets(&table, &mut marks);
-    three_quads_orbits(&table, &mut marks);
+    read_three_quads(&table, &mut marks);
 }
 
-fn three_quads_sheets(table: &[u32], marks: &mut [u8]) {
-    sheet(b"three quads, sheet 12", 2, table, marks, 12);
-    say_marks(marks);
-    sheet(b"three quads, sheet 8", 2, table, marks, 8);
-    say_marks(marks);
+// The sheets along and across, and the vertex, the edge and the face of dart 5.
+fn read_three_quads(table: &[u32], marks: &mut [u8]) {
+    check(2, table);
+    sheet(2, table, marks, 12);
+    sheet(2, table, marks, 8);
+    orbit(2, table, marks, 6, 5);
+    orbit(2, table, marks, 5, 5);
+    orbit(2, table, marks, 3, 5);
 }
 
-// The vertex, the edge and the face of dart 5.
-fn three_quads_orbits(table: &[u32], marks: &mut [u8]) {
-    orbit(b"three quads, orbit 6 from 5", 2, table, marks, 6, 5);
-    say_marks(marks);
-    orbit(b"three quads, orbit 5 from 5", 2, table, marks, 5, 5);
-    say_marks(marks);
-    orbit(b"three quads, orbit 3 from 5", 2, table, marks, 3, 5);
-    say_marks(marks);
-}
-
-// A quad whose layer crosses itself: two of its sides are sewn to each other.
 fn crossed_quad() {
+    title(b"a quad whose layer crosses itself");
     let mut table = [UNUSED; 32];
     let mut marks = [9u8; 8];
     maps::quad(&mut table, 0);
     maps::sew(&mut table, 5, 2);
     maps::sew(&mut table, 7, 3);
-    check(b"crossed quad, check", 2, &table);
-    sheet(b"crossed quad, sheet 0", 2, &table, &mut marks, 0);
-    say_marks(&marks);
+    check(2, &table);
+    sheet(2, &table, &mut marks, 0);
 }
 
-// Three columns of two quads in a ring: plain, the two rows are two sheets; closed with a twist, they are one.
+// Two rows of quads in a ring: closed plainly, the rows are two sheets; closed with a twist, they are one.
 fn bands() {
+    title(b"two rows of three quads, closed to a band");
     let mut table = [UNUSED; 192];
     let mut marks = [9u8; 48];
-    maps::column(&mut table, 0);
-    maps::column(&mut table, 16);
-    maps::column(&mut table, 32);
-    maps::columns_beside(&mut table, 0, 16);
-    maps::columns_beside(&mut table, 16, 32);
-    maps::columns_beside(&mut table, 32, 0);
-    sheet(b"plain band, sheet 4", 2, &table, &mut marks, 4);
-    maps::twisted(&mut table, 32, 8);
-    maps::twisted(&mut table, 40, 0);
-    check(b"twisted band, check", 2, &table);
-    sheet(b"twisted band, sheet 4", 2, &table, &mut marks, 4);
-    sheet(b"twisted band, sheet 0", 2, &table, &mut marks, 0);
-    say_marks(&marks);
+    maps::band(&mut table);
+    sheet(2, &table, &mut marks, 4);
+    title(b"the same, closed with a twist");
+    maps::twist(&mut table);
+    check(2, &table);
+    sheet(2, &table, &mut marks, 4);
+    sheet(2, &table, &mut marks, 0);
 }
 
 fn hexahedron() {
+    title(b"a hexahedron, and its faces as quads");
     let mut table = [UNUSED; 192];
     let mut marks = [9u8; 48];
     maps::hexahedron(&mut table);
-    hexahedron_in_3d(&table, &mut marks);
-    check(b"its faces as quads, check", 2, &table);
-    sheet(b"its faces as quads, sheet 0", 2, &table, &mut marks, 0);
+    read_hexahedron(&table, &mut marks);
 }
 
-fn hexahedron_in_3d(table: &[u32], marks: &mut [u8]) {
-    check(b"hexahedron, check", 3, table);
-    sheet(b"hexahedron, sheet 0", 3, table, marks, 0);
-    say_marks(marks);
-    orbit(b"hexahedron, orbit 14 from 0", 3, table, marks, 14, 0);
-    say_marks(marks);
-    orbit(b"hexahedron, orbit 7 from 47", 3, table, marks, 7, 47);
-    orbit(b"hexahedron, orbit 15 from 47", 3, table, marks, 15, 47);
+fn read_hexahedron(table: &[u32], marks: &mut [u8]) {
+    check(3, table);
+    sheet(3, table, marks, 0);
+    orbit(3, table, marks, 14, 0);
+    orbit(3, table, marks, 7, 47);
+    orbit(3, table, marks, 15, 47);
+    check(2, table);
+    sheet(2, table, marks, 0);
 }
 
 fn long_row() {
+    title(b"8192 quads in a row, and 65535.3 = 0");
     let mut table = [UNUSED; 262144];
     let mut marks = [9u8; 65536];
-    maps::row(&mut table);
-    check(b"65536 slots, check", 2, &table);
-    sheet(b"65536 slots, sheet 65535", 2, &table, &mut marks, 65535);
-    sheet(b"65536 slots, sheet 0", 2, &table, &mut marks, 0);
-    orbit(
-        b"65536 slots, orbit 7 from 65535",
-        2,
-        &table,
-        &mut marks,
-        7,
-        65535,
-    );
-    maps::link(&mut table, 3, 65535, 0);
-    check(b"65536 slots, 65535.3 = 0, check", 2, &table);
+    read_long_row(&mut table, &mut marks);
 }
 
-fn empty_table() {
+fn read_long_row(table: &mut [u32], marks: &mut [u8]) {
+    maps::row(table);
+    check(2, table);
+    sheet(2, table, marks, 65535);
+    sheet(2, table, marks, 0);
+    orbit(2, table, marks, 7, 65535);
+    maps::link(table, 3, 65535, 0);
+    check(2, table);
+}
+
+fn no_slots() {
+    title(b"no slot");
     let table = [0u32; 0];
     let mut marks = [0u8; 0];
-    check(b"no slot, check", 2, &table);
-    check(b"no slot, check in 3D", 3, &table);
-    orbit(b"no slot, orbit 7 from 0", 2, &table, &mut marks, 7, 0);
-    sheet(b"no slot, sheet 0", 2, &table, &mut marks, 0);
+    check(2, &table);
+    check(3, &table);
+    orbit(2, &table, &mut marks, 7, 0);
+    sheet(2, &table, &mut marks, 0);
 }
 
 // ---- refusals
 
-fn dimensions(table: &[u32], marks: &mut [u8]) {
-    check(b"n = 0, check", 0, table);
-    check(b"n = 1, check", 1, table);
-    orbit(b"n = 4, orbit 7 from 0", 4, table, marks, 7, 0);
-    sheet(b"n = 4294967295, sheet 0", 4294967295, table, marks, 0);
-    check(b"quad in 3D, check", 3, table);
-}
-
-fn lengths(table: &[u32]) {
-    let odd = [UNUSED; 31];
-    let long = [UNUSED; 262148];
-    let mut few = [9u8; 7];
-    let mut many = [9u8; 9];
-    check(b"31 entries, check", 2, &odd);
-    orbit(b"31 entries, orbit 7 from 0", 2, &odd, &mut few, 7, 0);
-    sheet(b"262148 entries, sheet 0", 2, &long, &mut few, 0);
-    orbit(b"7 marks, orbit 7 from 0", 2, table, &mut few, 7, 0);
-    say_marks(&few);
-    sheet(b"9 marks, sheet 0", 2, table, &mut many, 0);
-    say_marks(&many);
-}
-
-fn ranges(table: &[u32], marks: &mut [u8]) {
-    orbit(b"mask 8, orbit from 0", 2, table, marks, 8, 0);
-    orbit(b"mask 16 in 3D, orbit from 0", 3, table, marks, 16, 0);
-    orbit(
-        b"mask 4294967295, orbit from 0",
-        2,
-        table,
-        marks,
-        4294967295,
-        0,
-    );
-    orbit(b"d = 8, orbit 7", 2, table, marks, 7, 8);
-    sheet(b"d = 4294967295, sheet", 2, table, marks, 4294967295);
-    say_marks(marks);
-}
-
-fn refusals() {
+fn quad_refused() {
+    title(b"a quad: n, mask and d out of range");
     let mut table = [UNUSED; 32];
     let mut marks = [9u8; 8];
     maps::quad(&mut table, 0);
-    dimensions(&table, &mut marks);
-    lengths(&table);
-    ranges(&table, &mut marks);
+    wrong_dimensions(&table, &mut marks);
+    wrong_arguments(&table, &mut marks);
+    wrong_marks(&table);
+}
+
+fn wrong_dimensions(table: &[u32], marks: &mut [u8]) {
+    check(0, table);
+    check(1, table);
+    orbit(4, table, marks, 7, 0);
+    sheet(4294967295, table, marks, 0);
+}
+
+fn wrong_arguments(table: &[u32], marks: &mut [u8]) {
+    orbit(2, table, marks, 8, 0);
+    orbit(3, table, marks, 16, 0);
+    orbit(2, table, marks, 4294967295, 8);
+    orbit(2, table, marks, 7, 8);
+    sheet(2, table, marks, 4294967295);
+}
+
+fn wrong_marks(table: &[u32]) {
+    title(b"a quad: 7 and 9 marks");
+    let mut few = [9u8; 7];
+    let mut many = [9u8; 9];
+    orbit(2, table, &mut few, 8, 8);
+    sheet(2, table, &mut many, 0);
+}
+
+fn wrong_lengths() {
+    title(b"31 and 262148 entries");
+    let odd = [UNUSED; 31];
+    let long = [UNUSED; 262148];
+    let mut marks = [9u8; 7];
+    check(2, &odd);
+    orbit(2, &odd, &mut marks, 7, 0);
+    sheet(2, &long, &mut marks, 0);
 }
 
 fn no_map() {
+    title(b"a quad: 1.2 unused, 3.0 = 8, 3.0 = 4294967294");
     let mut table = [UNUSED; 32];
     let mut marks = [9u8; 8];
     maps::quad(&mut table, 0);
     maps::link(&mut table, 2, 1, UNUSED);
-    check(b"1.2 unused, check", 2, &table);
+    check(2, &table);
     maps::quad(&mut table, 0);
     maps::link(&mut table, 0, 3, 8);
-    orbit(b"3.0 = 8, orbit 7 from 0", 2, &table, &mut marks, 7, 0);
+    orbit(2, &table, &mut marks, 8, 0);
     maps::link(&mut table, 0, 3, 4294967294);
-    sheet(b"3.0 = 4294967294, sheet 0", 2, &table, &mut marks, 0);
-    say_marks(&marks);
+    sheet(2, &table, &mut marks, 8);
 }
 
-// Of two quads the second has a free edge 0.
 fn no_block_map() {
+    title(b"a quad, a quad with 8.0 = 8 and 9.0 = 9, and 8 unused slots");
     let mut table = [UNUSED; 96];
     let mut marks = [9u8; 24];
     maps::quad(&mut table, 0);
     maps::quad(&mut table, 8);
     maps::link(&mut table, 0, 8, 8);
     maps::link(&mut table, 0, 9, 9);
-    check(b"a quad and half a quad, check", 2, &table);
-    orbit(
-        b"a quad and half a quad, orbit 3 from 8",
-        2,
-        &table,
-        &mut marks,
-        3,
-        8,
-    );
-    say_marks(&marks);
-    sheet(b"a quad and half a quad, sheet 0", 2, &table, &mut marks, 0);
-    sheet(
-        b"a quad and half a quad, sheet 16",
-        2,
-        &table,
-        &mut marks,
-        16,
-    );
-    say_marks(&marks);
+    check(2, &table);
+    sheet(2, &table, &mut marks, 0);
+    sheet(2, &table, &mut marks, 16);
+    orbit(2, &table, &mut marks, 3, 8);
 }
 
 fn main() {
@@ -277,8 +253,9 @@ fn main() {
     bands();
     hexahedron();
     long_row();
-    empty_table();
-    refusals();
+    no_slots();
+    quad_refused();
+    wrong_lengths();
     no_map();
     no_block_map();
 }

@@ -1,6 +1,6 @@
 -- `kernel::orbits::mask_fits` meets its contract.
 use native.Mathlib.Omega.{arith}
-use Rattle.model.specs.Checks.{must, maskOk}
+use Rattle.model.specs.Checks.{maskOk}
 use Rattle.model.proofs.Calls.Pass.{dim-pass}
 use Rattle.kernel.proofs.Masks.{shift-power}
 use Rattle.kernel.proofs.orbits.mask_fits.Statement.{statement}
