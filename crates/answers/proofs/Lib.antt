@@ -1,0 +1,5 @@
+pub mod Ladder
+pub mod Verdicts
+pub mod Settled
+pub mod Opened
+pub mod Given

@@ -1,0 +1,47 @@
+-- What an opening's answer says of the first checks of a call, as the model lists them: `opened-table` for check,
+-- `opened-marks` for orbit, `opened-journal` for add, undo and redo, `opened-side` for sew and unsew, `opened-sheet` for sheet,
+-- `opened-layer` for remove and split.
+use Prim.Native.Nat.{ℕ}
+use mathlib.Core.Path.{_≡_, refl, subst}
+use mathlib.Core.Bool.{Bool, true}
+use mathlib.Core.List.{List, [], _∷_}
+use Rattle.model.specs.Checks.{Check, pass, andThen, inOrder, must, dimOk, tableOk, marksOk, journalOk, mapOk, indexOk, dartOk}
+use Rattle.model.specs.Checks.{sheetChecks, layerChecks}
+use Rattle.answers.specs.declared.Answer.{Answer}
+use Rattle.answers.specs.Openings.{Settles, openingChecks, sideChecks}
+use Rattle.answers.specs.Openings.{layerChecks as openingLayerChecks}
+
+same : {r : Answer} {c c′ : Check} → c ≡ c′ → Settles r c → Settles r c′
+same {r} e s = subst (Settles r) e s
+
+module _ {r : Answer} (n : ℕ) (t : List ℕ) where
+  pub opened-table : Settles r (inOrder (openingChecks true true n t)) → Settles r (inOrder (dimOk n ∷ tableOk t ∷ mapOk n t ∷ []))
+  unfolding openingChecks inOrder andThen must
+  opened-table s = s
+
+  -- m says whether 3 passes
+  module _ (m : List ℕ) (marks : Bool) (three : must marks 3 ≡ marksOk t m) where
+    pub opened-marks : Settles r (inOrder (openingChecks marks true n t))
+        → Settles r (inOrder (dimOk n ∷ tableOk t ∷ marksOk t m ∷ mapOk n t ∷ []))
+    unfolding openingChecks inOrder andThen must
+    opened-marks s = same (rw three) s
+
+    pub opened-sheet : (d : ℕ) → Settles r (inOrder (openingLayerChecks marks true n t d)) → Settles r (inOrder (sheetChecks n t m d))
+    unfolding openingLayerChecks openingChecks sheetChecks inOrder andThen must
+    opened-sheet d s = same (rw three) s
+
+    pub opened-layer : (j : List ℕ) (journal : Bool) → must journal 4 ≡ journalOk j → (d : ℕ)
+        → Settles r (inOrder (openingLayerChecks marks journal n t d)) → Settles r (inOrder (layerChecks n t m j d))
+    unfolding openingLayerChecks openingChecks layerChecks inOrder andThen must
+    opened-layer j journal four d s = same (rw (three, four)) s
+
+  module _ (j : List ℕ) (journal : Bool) (four : must journal 4 ≡ journalOk j) where
+    pub opened-journal : Settles r (inOrder (openingChecks true journal n t))
+        → Settles r (inOrder (dimOk n ∷ tableOk t ∷ journalOk j ∷ mapOk n t ∷ []))
+    unfolding openingChecks inOrder andThen must
+    opened-journal s = same (rw four) s
+
+    pub opened-side : (i d : ℕ) → Settles r (inOrder (sideChecks journal n t i d))
+        → Settles r (inOrder (dimOk n ∷ tableOk t ∷ journalOk j ∷ mapOk n t ∷ indexOk n i ∷ dartOk t d ∷ []))
+    unfolding sideChecks openingChecks inOrder andThen must
+    opened-side i d s = same (rw four) s

@@ -1,0 +1,29 @@
+// The checks that sheet, remove and split begin with.
+ghost use Rattle.model.specs.Checks.{inOrder};
+ghost use Rattle.answers.specs.Openings.{layerChecks, Settles};
+use crate::Answer;
+use crate::all::opening;
+use crate::numbers;
+
+// Number 0 where the checks up to 8 pass for the layer of d, else the refusal. Whether 3 and 4 pass the caller says.
+pub fn opening_layer(n: u32, table: &[u32], marks: bool, journal: bool, d: u32) -> Answer
+    ensures { λ r. ⌜ Settles r (inOrder (layerChecks marks journal n (now (table .entry)) d)) ⌝ }
+{
+    let opened = opening(n, table, marks, journal);
+    if opened.number != 0 {
+        return opened;
+    }
+    if !reading::live(table, d) {
+        return numbers::NOT_LIVE;
+    }
+    let mut seen = [0u8; 65536];
+    let wrong = cells::least_wrong(n, table, &mut seen);
+    if wrong != reading::slots(table) {
+        return Answer {
+            number: 8,
+            place: wrong,
+            count: 0,
+        };
+    }
+    numbers::PASSED
+}

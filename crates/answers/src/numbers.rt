@@ -1,0 +1,114 @@
+// "Numbers a call gives back": the refusals whose place is 0. Those by 5 and 8 have a place of their own.
+use crate::Answer;
+
+// No refusal: the checks before pass.
+pub const PASSED: Answer = Answer {
+    number: 0,
+    place: 0,
+    count: 0,
+};
+
+// 1: "n not 2 or 3"
+pub const WRONG_DIMENSION: Answer = Answer {
+    number: 1,
+    place: 0,
+    count: 0,
+};
+
+// 2: "table length no multiple of 4, or above 262,144"
+pub const WRONG_TABLE_LENGTH: Answer = Answer {
+    number: 2,
+    place: 0,
+    count: 0,
+};
+
+// 3: "marks length differs from slots"
+pub const WRONG_MARKS_LENGTH: Answer = Answer {
+    number: 3,
+    place: 0,
+    count: 0,
+};
+
+// 4: "journal length or its two words out of rule"
+pub const WRONG_JOURNAL: Answer = Answer {
+    number: 4,
+    place: 0,
+    count: 0,
+};
+
+// 6: "i above n, or mask above 2^(n+1) - 1"
+pub const OUT_OF_RANGE: Answer = Answer {
+    number: 6,
+    place: 0,
+    count: 0,
+};
+
+// 7: "d or e not a live slot"
+pub const NOT_LIVE: Answer = Answer {
+    number: 7,
+    place: 0,
+    count: 0,
+};
+
+// 9: "e in d's side"
+pub const SAME_SIDE: Answer = Answer {
+    number: 9,
+    place: 0,
+    count: 0,
+};
+
+// 10: "d or e not i-free"
+pub const NOT_FREE: Answer = Answer {
+    number: 10,
+    place: 0,
+    count: 0,
+};
+
+// 11: "d is i-free"
+pub const FREE: Answer = Answer {
+    number: 11,
+    place: 0,
+    count: 0,
+};
+
+// 12: "no pairing exists"
+pub const NO_PAIRING: Answer = Answer {
+    number: 12,
+    place: 0,
+    count: 0,
+};
+
+// 13: "some g in S has g.1 in S"
+pub const CROSSES_ITSELF: Answer = Answer {
+    number: 13,
+    place: 0,
+    count: 0,
+};
+
+// 14: "too few unused slots"
+pub const TOO_FEW_SLOTS: Answer = Answer {
+    number: 14,
+    place: 0,
+    count: 0,
+};
+
+// 15: "record longer than the words from cursor to length"
+pub const NO_ROOM: Answer = Answer {
+    number: 15,
+    place: 0,
+    count: 0,
+};
+
+// 16: "cursor 2 (undo); cursor = end (redo)"
+pub const NO_RECORD: Answer = Answer {
+    number: 16,
+    place: 0,
+    count: 0,
+};
+
+// 17: "record broken, or result no map"
+pub const BROKEN_RECORD: Answer = Answer {
+    number: 17,
+    place: 0,
+    count: 0,
+};

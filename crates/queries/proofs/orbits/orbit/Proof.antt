@@ -1,0 +1,106 @@
+-- `queries::orbit` meets its contract: its opening, the checks 6 and 7, and behind them `reach::orbit`.
+use mathlib.Core.List.{List}
+use borrow.Author.Needs.{needs}
+use Rattle.model.specs.Checks.{Check, orbitChecks}
+use Rattle.answers.proofs.Ladder.{Rung, up, out, all-passed}
+use Rattle.answers.proofs.Verdicts.{passes, refuses, marks-test, dart-test}
+use Rattle.answers.proofs.Settled.{Opening, opened, handed-on}
+use Rattle.answers.proofs.Opened.{opened-marks}
+use Rattle.answers.proofs.Given.{flood-given}
+use Rattle.queries.proofs.Masks.{mask-bound}
+use Rattle.queries.proofs.Ends.{orbit-refused, orbit-accepted}
+use Rattle.queries.proofs.orbits.orbit.Statement.{statement}
+use Rattle.queries.proofs.orbits.orbit.Tie as tie
+
+-- ---- the rungs
+
+abbrev checks : tie.Start → List Check
+checks p = orbitChecks (p .args .n) (p .args .table .now) (p .args .marks .now) (p .args .mask) (p .args .d)
+
+abbrev opening : tie.After-struct-known → Opening checks 4
+unfolding orbitChecks
+opening c = record {
+  entry = c .before .before .before .before;
+  answer = _;
+  settles = opened-marks _ _ _ _ (marks-test _ _) (c .before .opening .ensures);
+}
+
+abbrev map : tie.Else1 → Rung checks 4
+unfolding orbitChecks
+map c = opened (opening (c .before)) (c .if1 .left)
+
+abbrev mask : tie.Else2 → Rung checks 5
+unfolding orbitChecks
+mask c = up (map (c .before .before)) (passes _ 6 (c .before .mask-fits .ensures) (c .if2 .left))
+
+abbrev dart : tie.Else3 → Rung checks 6
+unfolding orbitChecks
+dart c = up (mask (c .before .before)) (passes _ 7 (dart-test _ _ (c .before .live .ensures)) (c .if3 .left))
+
+-- ---- the refusals, and what the callees ask
+
+opening-requires : tie.Need-opening-requires
+opening-requires c κs = search needs
+
+returns : tie.Need-returns
+unfolding orbitChecks
+returns c = handed-on (opening (c .before)) (c .if1 .taken) (orbit-refused _ _ _ _ _)
+
+mask-fits-requires : tie.Need-mask-fits-requires
+unfolding orbitChecks
+mask-fits-requires c κs = let p = map c .passed in search
+
+returns-2 : tie.Need-returns-2
+unfolding orbitChecks
+returns-2 c =
+    orbit-refused _ _ _ _ _ (out (map (c .before .before)) (refuses _ 6 (c .before .mask-fits .ensures) (c .if2 .taken)))
+
+live-requires : tie.Need-live-requires
+live-requires c κs = search needs
+
+returns-3 : tie.Need-returns-3
+unfolding orbitChecks
+returns-3 c =
+    orbit-refused _ _ _ _ _
+    (out (mask (c .before .before)) (refuses _ 7 (dart-test _ _ (c .before .live .ensures)) (c .if3 .taken)))
+
+-- ---- the orbit
+
+slice-aggregate-orbit : tie.Need-slice-aggregate-orbit
+slice-aggregate-orbit c = search needs
+
+orbit-requires : tie.Need-orbit-requires
+unfolding orbitChecks
+orbit-requires c κs =
+    let p = dart (c .before .before) .passed in
+    (flood-given _ _ _ _ _ (search) (search) (search) (search) (search) (search needs), mask-bound _ _ (search))
+
+orbit-place-requires : tie.Need-orbit-place-requires
+unfolding orbitChecks
+orbit-place-requires c κs = let p = dart (c .before .before .before .before .before .before) .passed in search
+
+same-length : tie.Need-same-length
+same-length c = search needs
+
+returns-4 : tie.Need-returns-4
+unfolding orbitChecks
+returns-4 c =
+    let reached = c .before .before .before .before in
+    let p = dart (reached .before .before .before) .passed in
+    orbit-accepted _ _ _ _ _ (all-passed _ p) (c .orbit-place .ensures) (reached .orbit .ensures)
+
+pub orbit-spec : {M : Type 1} → statement M
+orbit-spec =
+    tie.close
+    (tie.spec
+    opening-requires
+    returns
+    mask-fits-requires
+    returns-2
+    live-requires
+    returns-3
+    slice-aggregate-orbit
+    orbit-requires
+    orbit-place-requires
+    same-length
+    returns-4)
