@@ -1,5 +1,5 @@
 -- What the passed checks say, as the crates below ask it: `map-given` and `room-given` for the block test, `flood-given` for
--- orbit and sheet, `put-given` for the map test of undo and redo.
+-- orbit and sheet.
 use Prim.Native.Nat.{ℕ, _≤_}
 use mathlib.Core.Path.{_≡_, refl}
 use mathlib.Core.Bool.{Bool, true}
@@ -9,11 +9,9 @@ use lib.ListN.{length}
 use borrow.Author.Tests.{eqb-true}
 use Rattle.model.specs.Table.{slots}
 use Rattle.model.specs.Map.{isMap, leastBreaking}
-use Rattle.model.specs.Journal.{Change, put}
 use Rattle.model.specs.Checks.{pass, dimOk, tableOk, marksOk, mapOk, dartOk}
 use Rattle.model.proofs.Calls.Pass.{must-pass, mustAt-pass, dim-pass, table-pass, dart-pass}
 use Rattle.reach.specs.Given.{Given}
-use Rattle.journal.proofs.Puts.{put-length}
 
 pub map-given : (n : ℕ) (t : List ℕ) → mapOk n t ≡ pass → isMap n t ≡ true
 unfolding mapOk isMap
@@ -40,8 +38,3 @@ flood-given n t m q d dim table marks map dart long =
       room = room-given t table long;
       start = dart-pass t d dart;
     }
-
--- a table keeps its length where a record is put
-pub put-given : (redo : Bool) (cs : List Change) (t t′ : List ℕ) → t′ ≡ put redo cs t → tableOk t ≡ pass → tableOk t′ ≡ pass
-unfolding tableOk
-put-given redo cs t t′ done h = rw (done, put-length redo cs t) h

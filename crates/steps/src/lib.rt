@@ -1,12 +1,12 @@
 // undo and redo: the record before the cursor is taken back, or the one at the cursor put again. `step` is both.
+use answers::Answer;
+use answers::numbers;
 ghost use Prim.Native.Nat.{_+_, _*_, _≤_};
 ghost use mathlib.Core.Path.{_≡_};
 ghost use mathlib.Core.List.{[]};
 ghost use Rattle.model.specs.Checks.{pass, dimOk, tableOk, journalOk};
 ghost use Rattle.model.specs.Calls.{stepOutcome, undoCall, redoCall};
-ghost use Rattle.kernel.specs.Answers.{outcome};
-use crate::Answer;
-use crate::numbers;
+ghost use Rattle.answers.specs.Answers.{outcome};
 
 // Puts the new values (redo), or the old ones, of the record of k changes at the word a, and moves the cursor to `to`. If
 // the record is broken or the result no map, table and journal are left as they were: 17.
@@ -45,22 +45,9 @@ pub fn undo(n: u32, table: &mut [u32], journal: &mut [u32]) -> Answer
     ensures { λ r. ⌜ outcome r (now (table .exit)) [] (now (journal .exit))
         ≡ undoCall n (now (table .entry)) (now (journal .entry)) ⌝ }
 {
-    if !reading::dim_fits(n) {
-        return numbers::WRONG_DIMENSION;
-    }
-    if !reading::table_fits(table) {
-        return numbers::WRONG_TABLE_LENGTH;
-    }
-    if !reading::journal_fits(journal) {
-        return numbers::WRONG_JOURNAL;
-    }
-    let least = reading::least_breaking(n, table);
-    if least != reading::slots(table) {
-        return Answer {
-            number: 5,
-            place: least,
-            count: 0,
-        };
+    let opened = answers::opening(n, table, true, reading::journal_fits(journal));
+    if opened.number != 0 {
+        return opened;
     }
     if journal[0] == 2 {
         return numbers::NO_RECORD;
@@ -82,22 +69,9 @@ pub fn redo(n: u32, table: &mut [u32], journal: &mut [u32]) -> Answer
     ensures { λ r. ⌜ outcome r (now (table .exit)) [] (now (journal .exit))
         ≡ redoCall n (now (table .entry)) (now (journal .entry)) ⌝ }
 {
-    if !reading::dim_fits(n) {
-        return numbers::WRONG_DIMENSION;
-    }
-    if !reading::table_fits(table) {
-        return numbers::WRONG_TABLE_LENGTH;
-    }
-    if !reading::journal_fits(journal) {
-        return numbers::WRONG_JOURNAL;
-    }
-    let least = reading::least_breaking(n, table);
-    if least != reading::slots(table) {
-        return Answer {
-            number: 5,
-            place: least,
-            count: 0,
-        };
+    let opened = answers::opening(n, table, true, reading::journal_fits(journal));
+    if opened.number != 0 {
+        return opened;
     }
     if journal[0] == journal[1] {
         return numbers::NO_RECORD;

@@ -6,65 +6,39 @@ mod maps;
 
 // ---- the calls, printed
 
-fn say_number(words: &[u8], number: u32) {
-    io::write_all(1, words);
-    io::print_decimal(1, number as u64);
-}
-
-fn say(answer: kernel::Answer) {
-    say_number(b": number ", answer.number);
-    say_number(b", place ", answer.place);
-    say_number(b", count ", answer.count);
-}
-
 fn say_marks(marks: &[u8]) {
     if marks.len() < 49 {
-        io::write_all(1, b", marks");
-        each_mark(marks);
+        showing::marks(marks);
+    } else {
+        showing::line_end();
     }
-    io::write_all(1, b"\n");
-}
-
-fn each_mark(marks: &[u8]) {
-    for k in 0..marks.len() {
-        say_mark(marks[k]);
-    }
-}
-
-fn say_mark(mark: u8) {
-    say_number(b" ", mark as u32);
-}
-
-fn title(words: &[u8]) {
-    io::write_all(1, words);
-    io::write_all(1, b"\n");
 }
 
 fn check(n: u32, table: &[u32]) {
-    say_number(b"  check n ", n);
-    say(kernel::check(n, table));
-    io::write_all(1, b"\n");
+    showing::number(b"  check n ", n);
+    showing::answer(kernel::check(n, table));
+    showing::line_end();
 }
 
 fn orbit(n: u32, table: &[u32], marks: &mut [u8], mask: u32, d: u32) {
-    say_number(b"  orbit n ", n);
-    say_number(b", mask ", mask);
-    say_number(b", d ", d);
-    say(kernel::orbit(n, table, marks, mask, d));
+    showing::number(b"  orbit n ", n);
+    showing::number(b", mask ", mask);
+    showing::number(b", d ", d);
+    showing::answer(kernel::orbit(n, table, marks, mask, d));
     say_marks(marks);
 }
 
 fn sheet(n: u32, table: &[u32], marks: &mut [u8], d: u32) {
-    say_number(b"  sheet n ", n);
-    say_number(b", d ", d);
-    say(kernel::sheet(n, table, marks, d));
+    showing::number(b"  sheet n ", n);
+    showing::number(b", d ", d);
+    showing::answer(kernel::sheet(n, table, marks, d));
     say_marks(marks);
 }
 
 // ---- maps
 
 fn one_quad() {
-    title(b"a quad");
+    showing::title(b"a quad");
     let mut table = [UNUSED; 32];
     let mut marks = [9u8; 8];
     maps::quad(&mut table, 0);
@@ -82,7 +56,7 @@ fn read_quad(table: &[u32], marks: &mut [u8]) {
 }
 
 fn three_quads() {
-    title(b"three quads in a row");
+    showing::title(b"three quads in a row");
     let mut table = [UNUSED; 96];
     let mut marks = [9u8; 24];
     maps::quad(&mut table, 0);
@@ -104,7 +78,7 @@ fn read_three_quads(table: &[u32], marks: &mut [u8]) {
 }
 
 fn crossed_quad() {
-    title(b"a quad whose layer crosses itself");
+    showing::title(b"a quad whose layer crosses itself");
     let mut table = [UNUSED; 32];
     let mut marks = [9u8; 8];
     maps::quad(&mut table, 0);
@@ -116,12 +90,12 @@ fn crossed_quad() {
 
 // Two rows of quads in a ring: closed plainly, the rows are two sheets; closed with a twist, they are one.
 fn bands() {
-    title(b"two rows of three quads, closed to a band");
+    showing::title(b"two rows of three quads, closed to a band");
     let mut table = [UNUSED; 192];
     let mut marks = [9u8; 48];
     maps::band(&mut table);
     sheet(2, &table, &mut marks, 4);
-    title(b"the same, closed with a twist");
+    showing::title(b"the same, closed with a twist");
     maps::twist(&mut table);
     check(2, &table);
     sheet(2, &table, &mut marks, 4);
@@ -129,7 +103,7 @@ fn bands() {
 }
 
 fn hexahedron() {
-    title(b"a hexahedron, and its faces as quads");
+    showing::title(b"a hexahedron, and its faces as quads");
     let mut table = [UNUSED; 192];
     let mut marks = [9u8; 48];
     maps::hexahedron(&mut table);
@@ -147,7 +121,7 @@ fn read_hexahedron(table: &[u32], marks: &mut [u8]) {
 }
 
 fn long_row() {
-    title(b"8192 quads in a row, and 65535.3 = 0");
+    showing::title(b"8192 quads in a row, and 65535.3 = 0");
     let mut table = [UNUSED; 262144];
     let mut marks = [9u8; 65536];
     read_long_row(&mut table, &mut marks);
@@ -164,7 +138,7 @@ fn read_long_row(table: &mut [u32], marks: &mut [u8]) {
 }
 
 fn no_slots() {
-    title(b"no slot");
+    showing::title(b"no slot");
     let table = [0u32; 0];
     let mut marks = [0u8; 0];
     check(2, &table);
@@ -176,7 +150,7 @@ fn no_slots() {
 // ---- refusals
 
 fn quad_refused() {
-    title(b"a quad: n, mask and d out of range");
+    showing::title(b"a quad: n, mask and d out of range");
     let mut table = [UNUSED; 32];
     let mut marks = [9u8; 8];
     maps::quad(&mut table, 0);
@@ -201,7 +175,7 @@ fn wrong_arguments(table: &[u32], marks: &mut [u8]) {
 }
 
 fn wrong_marks(table: &[u32]) {
-    title(b"a quad: 7 and 9 marks");
+    showing::title(b"a quad: 7 and 9 marks");
     let mut few = [9u8; 7];
     let mut many = [9u8; 9];
     orbit(2, table, &mut few, 8, 8);
@@ -209,7 +183,7 @@ fn wrong_marks(table: &[u32]) {
 }
 
 fn wrong_lengths() {
-    title(b"31 and 262148 entries");
+    showing::title(b"31 and 262148 entries");
     let odd = [UNUSED; 31];
     let long = [UNUSED; 262148];
     let mut marks = [9u8; 7];
@@ -219,7 +193,7 @@ fn wrong_lengths() {
 }
 
 fn no_map() {
-    title(b"a quad: 1.2 unused, 3.0 = 8, 3.0 = 4294967294");
+    showing::title(b"a quad: 1.2 unused, 3.0 = 8, 3.0 = 4294967294");
     let mut table = [UNUSED; 32];
     let mut marks = [9u8; 8];
     maps::quad(&mut table, 0);
@@ -233,7 +207,7 @@ fn no_map() {
 }
 
 fn no_block_map() {
-    title(b"a quad, a quad with 8.0 = 8 and 9.0 = 9, and 8 unused slots");
+    showing::title(b"a quad, a quad with 8.0 = 8 and 9.0 = 9, and 8 unused slots");
     let mut table = [UNUSED; 96];
     let mut marks = [9u8; 24];
     maps::quad(&mut table, 0);

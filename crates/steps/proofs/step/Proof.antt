@@ -1,4 +1,4 @@
--- `kernel::steps::step` meets its contract, by the three ends of `stepOutcome`.
+-- `steps::step` meets its contract, by the three ends of `stepOutcome`.
 use mathlib.Core.Path.{refl, sym, _∙_}
 use native.Mathlib.Omega.{arith}
 use borrow.Author.Needs.{needs}
@@ -6,10 +6,10 @@ use borrow.Author.Tests.{not-true, not-false}
 use Rattle.model.specs.Meaning.Numbers.{JournalRule}
 use Rattle.model.proofs.Calls.Pass.{journal-pass}
 use Rattle.journal.proofs.Steps.{unbroken-fits, unbroken-again, unbroken-back, step-broken, step-no-map, step-taken}
-use Rattle.kernel.proofs.Given.{put-given}
-use Rattle.kernel.proofs.Ends.{step-refused}
-use Rattle.kernel.proofs.steps.step.Statement.{statement}
-use Rattle.kernel.proofs.steps.step.Tie as tie
+use Rattle.steps.proofs.Given.{put-given}
+use Rattle.steps.proofs.Ends.{step-refused}
+use Rattle.steps.proofs.step.Statement.{statement}
+use Rattle.steps.proofs.step.Tie as tie
 
 rule : (p : tie.Start) → JournalRule (p .args .journal .now)
 rule p = journal-pass (p .args .journal .now) (p .pre .0 .2)
