@@ -1,5 +1,5 @@
--- What the passed checks say, as the crates below ask it: `map-given` and `room-given` for the block test, `flood-given` for
--- orbit and sheet.
+-- What the passed checks say, as the crates below ask it: `map-given` for the block test, `flood-given` for orbit
+-- and sheet, `room-given` and `room-small` for a lent buffer.
 use Prim.Native.Nat.{ℕ, _≤_}
 use mathlib.Core.Path.{_≡_, refl}
 use mathlib.Core.Bool.{Bool, true}
@@ -21,13 +21,16 @@ marks-given : (t m : List ℕ) → marksOk t m ≡ pass → length m ≡ slots t
 unfolding marksOk
 marks-given t m h = eqb-true _ _ (must-pass _ 3 h)
 
--- a buffer of 65536 has room for each slot
-pub room-given : (t : List ℕ) {k : ℕ} → tableOk t ≡ pass → 65536 ≤ k → slots t ≤ k
-room-given t table long = let few = table-pass t table .1 in omega arith
+-- a buffer of 65,536 has room for each slot; one of 8,192 has, where the table is small
+pub room-given : (t : List ℕ) → tableOk t ≡ pass → slots t ≤ 65536
+room-given t table = table-pass t table .1
+
+pub room-small : (t : List ℕ) → tableOk t ≡ pass → length t ≤ 32768 → slots t ≤ 8192
+room-small t table small = let sized = table-pass t table in omega arith
 
 pub flood-given : (n : ℕ) (t m q : List ℕ) (d : ℕ) → dimOk n ≡ pass → tableOk t ≡ pass → marksOk t m ≡ pass → mapOk n t ≡ pass
-    → dartOk t d ≡ pass → 65536 ≤ length q → Given n t m q d
-flood-given n t m q d dim table marks map dart long =
+    → dartOk t d ≡ pass → slots t ≤ length q → Given n t m q d
+flood-given n t m q d dim table marks map dart room =
     let sized = table-pass t table in
     record {
       dim = dim-pass n dim;
@@ -35,6 +38,6 @@ flood-given n t m q d dim table marks map dart long =
       few = sized .1;
       map = map-given n t map;
       long = marks-given t m marks;
-      room = room-given t table long;
+      room = room;
       start = dart-pass t d dart;
     }

@@ -16,8 +16,7 @@ pub fn opening_layer(n: u32, table: &[u32], marks: bool, journal: bool, d: u32) 
     if !reading::live(table, d) {
         return numbers::NOT_LIVE;
     }
-    let mut seen = [0u8; 65536];
-    let wrong = cells::least_wrong(n, table, &mut seen);
+    let wrong = cells::least_wrong(n, table);
     if wrong != reading::slots(table) {
         return Answer {
             number: 8,

@@ -176,7 +176,7 @@ fn clear(seen: &mut [u8], end: u32)
 
 // The least live slot in a wrong cell, or the number of slots. Each cell is tested once; seen has a byte for each slot,
 // and what it held before is not read.
-pub fn least_wrong(n: u32, table: &[u32], seen: &mut [u8]) -> u32
+fn first_wrong(n: u32, table: &[u32], seen: &mut [u8]) -> u32
     requires { ⌜ (dimOk n ≡ pass) × (tableOk (now table) ≡ pass) × (isMap n (now table) ≡ true) ⌝ }
     requires { ⌜ slots (now table) ≤ length (now seen) ⌝ }
     ensures { λ r. ⌜ r ≡ leastWrong n (now (table .entry)) ⌝ }
@@ -191,11 +191,23 @@ pub fn least_wrong(n: u32, table: &[u32], seen: &mut [u8]) -> u32
     end
 }
 
-// Whether the map is a block map.
-pub fn is_block(n: u32, table: &[u32], seen: &mut [u8]) -> bool
+// The least live slot in a wrong cell, or the number of slots. A small table does not pay for a byte for each of 65,536 slots.
+pub fn least_wrong(n: u32, table: &[u32]) -> u32
     requires { ⌜ (dimOk n ≡ pass) × (tableOk (now table) ≡ pass) × (isMap n (now table) ≡ true) ⌝ }
-    requires { ⌜ slots (now table) ≤ length (now seen) ⌝ }
+    ensures { λ r. ⌜ r ≡ leastWrong n (now (table .entry)) ⌝ }
+{
+    if table.len() <= 32768 {
+        let mut seen = [0u8; 8192];
+        return first_wrong(n, table, &mut seen);
+    }
+    let mut seen = [0u8; 65536];
+    first_wrong(n, table, &mut seen)
+}
+
+// Whether the map is a block map.
+pub fn is_block(n: u32, table: &[u32]) -> bool
+    requires { ⌜ (dimOk n ≡ pass) × (tableOk (now table) ≡ pass) × (isMap n (now table) ≡ true) ⌝ }
     ensures { λ r. ⌜ r ≡ isBlock n (now (table .entry)) ⌝ }
 {
-    least_wrong(n, table, seen) == slots(table)
+    least_wrong(n, table) == slots(table)
 }

@@ -13,8 +13,7 @@ pub fn check(n: u32, table: &[u32]) -> Answer
     if opened.number != 0 {
         return opened;
     }
-    let mut seen = [0u8; 65536];
-    if cells::is_block(n, table, &mut seen) {
+    if cells::is_block(n, table) {
         return Answer {
             number: 0,
             place: 0,

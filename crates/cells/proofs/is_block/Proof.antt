@@ -10,12 +10,9 @@ least-wrong-requires c κs = search needs
 slots-requires : tie.Need-slots-requires
 slots-requires c κs = search needs
 
-same-length : tie.Need-same-length
-same-length c = search needs
-
 returns : tie.Need-returns
 unfolding isBlock
-returns c = rw (c .before .before .before .least-wrong .ensures, c .slots .ensures)
+returns c = rw (c .before .least-wrong .ensures, c .slots .ensures)
 
 pub is-block-spec : {M : Type 1} → statement M
-is-block-spec = tie.close (tie.spec least-wrong-requires slots-requires same-length returns)
+is-block-spec = tie.close (tie.spec least-wrong-requires slots-requires returns)

@@ -6,7 +6,7 @@ use Rattle.answers.specs.Openings.{openingChecks, layerChecks}
 use Rattle.answers.proofs.Ladder.{Rung, rise, up, out, all-passed}
 use Rattle.answers.proofs.Verdicts.{passes, refuses, least-passes, least-refuses, dart-test, block-test}
 use Rattle.answers.proofs.Settled.{settles-refusal, settles-pass, settles-front}
-use Rattle.answers.proofs.Given.{map-given, room-given}
+use Rattle.answers.proofs.Given.{map-given}
 use Rattle.answers.proofs.layer.opening_layer.Statement.{statement}
 use Rattle.answers.proofs.layer.opening_layer.Tie as tie
 
@@ -25,8 +25,8 @@ abbrev block : tie.Else3 → Rung checks 7
 unfolding layerChecks openingChecks
 block c =
     let end = c .before in
-    let least = end .before .before in
-    up (dart (least .before .before))
+    let least = end .before in
+    up (dart (least .before))
     (least-passes _ _ 8 (block-test _ _) (least .least-wrong .ensures) (end .slots .ensures) (c .if3 .left))
 
 opening-requires : tie.Need-opening-requires
@@ -45,26 +45,23 @@ returns-2 c =
     settles-refusal 6
     (out (opened (c .before .before)) (refuses _ 7 (dart-test _ _ (c .before .live .ensures)) (c .if2 .taken)))
 
-slice-aggregate-least-wrong : tie.Need-slice-aggregate-least-wrong
-slice-aggregate-least-wrong c = search needs
-
 least-wrong-requires : tie.Need-least-wrong-requires
 unfolding layerChecks openingChecks
 least-wrong-requires c κs =
-    let p = dart (c .before) .passed in
-    ((search, search, map-given _ _ (search)), room-given _ (search) (search needs))
+    let p = dart c .passed in
+    (search, search, map-given _ _ (search))
 
 slots-requires : tie.Need-slots-requires
 unfolding layerChecks openingChecks
-slots-requires c κs = let p = dart (c .before .before .before) .passed in search
+slots-requires c κs = let p = dart (c .before) .passed in search
 
 returns-3 : tie.Need-returns-3
 unfolding layerChecks openingChecks
 returns-3 c =
     let end = c .before in
-    let least = end .before .before in
+    let least = end .before in
     settles-refusal 7
-    (out (dart (least .before .before))
+    (out (dart (least .before))
     (least-refuses _ _ 8 (block-test _ _) (least .least-wrong .ensures) (end .slots .ensures) (c .if3 .taken)))
 
 returns-4 : tie.Need-returns-4
@@ -79,7 +76,6 @@ opening-layer-spec =
     returns
     live-requires
     returns-2
-    slice-aggregate-least-wrong
     least-wrong-requires
     slots-requires
     returns-3

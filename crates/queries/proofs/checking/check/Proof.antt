@@ -6,7 +6,7 @@ use Rattle.model.specs.Checks.{Check, checkChecks}
 use Rattle.answers.proofs.Ladder.{Rung, all-passed}
 use Rattle.answers.proofs.Settled.{Opening, opened, handed-on}
 use Rattle.answers.proofs.Opened.{opened-table}
-use Rattle.answers.proofs.Given.{map-given, room-given}
+use Rattle.answers.proofs.Given.{map-given}
 use Rattle.queries.proofs.Ends.{check-refused, check-accepted}
 use Rattle.queries.proofs.checking.check.Statement.{statement}
 use Rattle.queries.proofs.checking.check.Tie as tie
@@ -29,27 +29,24 @@ returns : tie.Need-returns
 unfolding checkChecks
 returns c = handed-on (opening (c .before)) (c .if1 .taken) (check-refused _ _)
 
-slice-aggregate-is-block : tie.Need-slice-aggregate-is-block
-slice-aggregate-is-block c = search needs
-
 is-block-requires : tie.Need-is-block-requires
 unfolding checkChecks
 is-block-requires c κs =
-    let p = map (c .before) .passed in
-    ((search, search, map-given _ _ (search)), room-given _ (search) (search needs))
+    let p = map c .passed in
+    (search, search, map-given _ _ (search))
 
 returns-2 : tie.Need-returns-2
 unfolding checkChecks
 returns-2 c =
-    let tested = c .before .before in
-    let p = map (tested .before .before) .passed in
+    let tested = c .before in
+    let p = map (tested .before) .passed in
     check-accepted _ _ (all-passed _ p) (sym (c .if2 .taken) ∙ tested .is-block .ensures)
 
 returns-3 : tie.Need-returns-3
 unfolding checkChecks
 returns-3 c =
-    let tested = c .before .before in
-    let p = map (tested .before .before) .passed in
+    let tested = c .before in
+    let p = map (tested .before) .passed in
     check-accepted _ _ (all-passed _ p) (sym (c .if2 .left) ∙ tested .is-block .ensures)
 
 pub check-spec : {M : Type 1} → statement M
@@ -58,7 +55,6 @@ check-spec =
     (tie.spec
     opening-requires
     returns
-    slice-aggregate-is-block
     is-block-requires
     returns-2
     returns-3)

@@ -1,4 +1,4 @@
--- `queries::orbit` meets its contract: its opening, the checks 6 and 7, and behind them `reach::orbit`.
+-- `queries::orbit` meets its contract: its opening, the checks 6 and 7, and behind them `orbit_in`.
 use mathlib.Core.List.{List}
 use borrow.Author.Needs.{needs}
 use Rattle.model.specs.Checks.{Check, orbitChecks}
@@ -6,9 +6,8 @@ use Rattle.answers.proofs.Ladder.{Rung, up, out, all-passed}
 use Rattle.answers.proofs.Verdicts.{passes, refuses, marks-test, dart-test}
 use Rattle.answers.proofs.Settled.{Opening, opened, handed-on}
 use Rattle.answers.proofs.Opened.{opened-marks}
-use Rattle.answers.proofs.Given.{flood-given}
-use Rattle.queries.proofs.Masks.{mask-bound}
-use Rattle.queries.proofs.Ends.{orbit-refused, orbit-accepted}
+use Rattle.answers.proofs.Given.{room-small, room-given}
+use Rattle.queries.proofs.Ends.{orbit-refused}
 use Rattle.queries.proofs.orbits.orbit.Statement.{statement}
 use Rattle.queries.proofs.orbits.orbit.Tie as tie
 
@@ -64,30 +63,38 @@ returns-3 c =
     orbit-refused _ _ _ _ _
     (out (mask (c .before .before)) (refuses _ 7 (dart-test _ _ (c .before .live .ensures)) (c .if3 .taken)))
 
--- ---- the orbit
+-- ---- behind the checks
 
-slice-aggregate-orbit : tie.Need-slice-aggregate-orbit
-slice-aggregate-orbit c = search needs
+slice-aggregate-orbit-in : tie.Need-slice-aggregate-orbit-in
+slice-aggregate-orbit-in c = search needs
 
-orbit-requires : tie.Need-orbit-requires
+orbit-in-requires : tie.Need-orbit-in-requires
 unfolding orbitChecks
-orbit-requires c κs =
-    let p = dart (c .before .before) .passed in
-    (flood-given _ _ _ _ _ (search) (search) (search) (search) (search) (search needs), mask-bound _ _ (search))
-
-orbit-place-requires : tie.Need-orbit-place-requires
-unfolding orbitChecks
-orbit-place-requires c κs = let p = dart (c .before .before .before .before .before .before) .passed in search
+orbit-in-requires c κs =
+    let small = c .before .before in
+    let p = dart (small .before) .passed in
+    (all-passed _ p, room-small _ (search) (small .if4 .taken))
 
 same-length : tie.Need-same-length
 same-length c = search needs
 
 returns-4 : tie.Need-returns-4
+returns-4 c = search needs
+
+slice-aggregate-orbit-in-2 : tie.Need-slice-aggregate-orbit-in-2
+slice-aggregate-orbit-in-2 c = search needs
+
+orbit-in-requires-2 : tie.Need-orbit-in-requires-2
 unfolding orbitChecks
-returns-4 c =
-    let reached = c .before .before .before .before in
-    let p = dart (reached .before .before .before) .passed in
-    orbit-accepted _ _ _ _ _ (all-passed _ p) (c .orbit-place .ensures) (reached .orbit .ensures)
+orbit-in-requires-2 c κs =
+    let p = dart (c .before .before .before) .passed in
+    (all-passed _ p, room-given _ (search))
+
+same-length-2 : tie.Need-same-length-2
+same-length-2 c = search needs
+
+returns-5 : tie.Need-returns-5
+returns-5 c = search needs
 
 pub orbit-spec : {M : Type 1} → statement M
 orbit-spec =
@@ -99,8 +106,11 @@ orbit-spec =
     returns-2
     live-requires
     returns-3
-    slice-aggregate-orbit
-    orbit-requires
-    orbit-place-requires
+    slice-aggregate-orbit-in
+    orbit-in-requires
     same-length
-    returns-4)
+    returns-4
+    slice-aggregate-orbit-in-2
+    orbit-in-requires-2
+    same-length-2
+    returns-5)

@@ -1,4 +1,4 @@
--- `queries::sheet` meets its contract: its opening, and behind it `reach::sheet`.
+-- `queries::sheet` meets its contract: its opening, and behind it `sheet_in`.
 use mathlib.Core.List.{List}
 use borrow.Author.Needs.{needs}
 use Rattle.model.specs.Checks.{Check, sheetChecks}
@@ -6,8 +6,8 @@ use Rattle.answers.proofs.Ladder.{Rung, all-passed}
 use Rattle.answers.proofs.Verdicts.{marks-test}
 use Rattle.answers.proofs.Settled.{Opening, opened, handed-on}
 use Rattle.answers.proofs.Opened.{opened-sheet}
-use Rattle.answers.proofs.Given.{flood-given}
-use Rattle.queries.proofs.Ends.{sheet-refused, sheet-accepted}
+use Rattle.answers.proofs.Given.{room-small, room-given}
+use Rattle.queries.proofs.Ends.{sheet-refused}
 use Rattle.queries.proofs.sheets.sheet.Statement.{statement}
 use Rattle.queries.proofs.sheets.sheet.Tie as tie
 
@@ -33,24 +33,38 @@ returns : tie.Need-returns
 unfolding sheetChecks
 returns c = handed-on (opening (c .before)) (c .if1 .taken) (sheet-refused _ _ _ _)
 
-slice-aggregate-sheet : tie.Need-slice-aggregate-sheet
-slice-aggregate-sheet c = search needs
+-- ---- behind the checks
 
-sheet-requires : tie.Need-sheet-requires
+slice-aggregate-sheet-in : tie.Need-slice-aggregate-sheet-in
+slice-aggregate-sheet-in c = search needs
+
+sheet-in-requires : tie.Need-sheet-in-requires
 unfolding sheetChecks
-sheet-requires c κs =
-    let p = block (c .before .before) .passed in
-    flood-given _ _ _ _ _ (search) (search) (search) (search) (search) (search needs)
+sheet-in-requires c κs =
+    let small = c .before .before in
+    let p = block (small .before) .passed in
+    (all-passed _ p, room-small _ (search) (small .if2 .taken))
 
 same-length : tie.Need-same-length
 same-length c = search needs
 
 returns-2 : tie.Need-returns-2
+returns-2 c = search needs
+
+slice-aggregate-sheet-in-2 : tie.Need-slice-aggregate-sheet-in-2
+slice-aggregate-sheet-in-2 c = search needs
+
+sheet-in-requires-2 : tie.Need-sheet-in-requires-2
 unfolding sheetChecks
-returns-2 c =
-    let reached = c .before .before .before in
-    let p = block (reached .before .before .before) .passed in
-    sheet-accepted _ _ _ _ (all-passed _ p) (reached .sheet .ensures)
+sheet-in-requires-2 c κs =
+    let p = block (c .before .before .before) .passed in
+    (all-passed _ p, room-given _ (search))
+
+same-length-2 : tie.Need-same-length-2
+same-length-2 c = search needs
+
+returns-3 : tie.Need-returns-3
+returns-3 c = search needs
 
 pub sheet-spec : {M : Type 1} → statement M
 sheet-spec =
@@ -58,7 +72,11 @@ sheet-spec =
     (tie.spec
     opening-layer-requires
     returns
-    slice-aggregate-sheet
-    sheet-requires
+    slice-aggregate-sheet-in
+    sheet-in-requires
     same-length
-    returns-2)
+    returns-2
+    slice-aggregate-sheet-in-2
+    sheet-in-requires-2
+    same-length-2
+    returns-3)
