@@ -1,0 +1,29 @@
+# best.awk - of several runs of bench the least time of each measurement, yardstick and kernel alike; prints what bench prints.
+/^#/ || /^worst/ || /^geometric/ { next }
+$1 == "growth" { key = $2 " " $3; if (!(key in live)) growth[++grows] = key; live[key] = $6; next }
+NF == 6 {
+    key = $1 " " $2 " " $3
+    if (!(key in yard)) { line[++lines] = key; yard[key] = $4; test[key] = $5 }
+    if ($4 < yard[key]) yard[key] = $4
+    if ($5 < test[key]) test[key] = $5
+    next
+}
+{ print; bad = 1 }
+END {
+    if (bad) exit 1
+    print "# call dim slots yardstick_ns kernel_ns ratio"
+    for (x = 1; x <= lines; x++) {
+        key = line[x]
+        ratio = test[key] / yard[key]
+        printf "%s %d %d %.2f\n", key, yard[key], test[key], ratio
+        sum += log(ratio)
+        if (ratio > worst) { worst = ratio; worst_key = key }
+    }
+    print "# growth call dim yardstick kernel live: time at 65k over time at 8k, over live darts; 1 is linear"
+    for (x = 1; x <= grows; x++) {
+        key = growth[x]
+        printf "growth %s %.2f %.2f %s\n", key, yard[key " 65536"] / yard[key " 8192"] / live[key], \
+            test[key " 65536"] / test[key " 8192"] / live[key], live[key]
+    }
+    printf "worst ratio %.2f (%s), geometric mean %.2f, of %d measurements\n", worst, worst_key, exp(sum / lines), lines
+}

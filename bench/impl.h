@@ -1,0 +1,74 @@
+/* impl.h - an implementation as a table of its calls, and any call of it by number. */
+#ifndef IMPL_H
+#define IMPL_H
+
+#include <stddef.h>
+#include <stdint.h>
+
+#include "../include/phlernsap.h"
+#include "yardstick.h"
+
+enum call { CHECK, ORBIT, SHEET, ADD, SEW, UNSEW, REMOVE, SPLIT, UNDO, REDO, CALLS };
+
+static const char *const call_name[CALLS] = {
+    "check", "orbit", "sheet", "add", "sew", "unsew", "remove", "split", "undo", "redo",
+};
+
+typedef struct { uint32_t no, place, count; } answer;
+
+/* All that some call takes. */
+typedef struct {
+    enum call call;
+    uint32_t n;
+    uint32_t *table;
+    size_t table_len;
+    uint8_t *marks;
+    size_t marks_len;
+    uint32_t *journal;
+    size_t journal_len;
+    uint32_t i, mask, d, e;
+} request;
+
+/* Defines NAME, which runs a request on the implementation of that prefix. The place and the
+ * count hold no meaningful value before the call. */
+#define DEFINE_RUN(NAME, PREFIX)                                                                  \
+    static uint32_t NAME(const request *q, uint32_t *place, uint32_t *count)                      \
+    {                                                                                             \
+        switch (q->call) {                                                                        \
+        case CHECK:                                                                               \
+            return PREFIX##check(q->n, q->table, q->table_len, place, count);                     \
+        case ORBIT:                                                                               \
+            return PREFIX##orbit(q->n, q->table, q->table_len, q->marks, q->marks_len, q->mask,   \
+                                 q->d, place, count);                                             \
+        case SHEET:                                                                               \
+            return PREFIX##sheet(q->n, q->table, q->table_len, q->marks, q->marks_len, q->d,      \
+                                 place, count);                                                   \
+        case ADD:                                                                                 \
+            return PREFIX##add(q->n, q->table, q->table_len, q->journal, q->journal_len, place,   \
+                               count);                                                            \
+        case SEW:                                                                                 \
+            return PREFIX##sew(q->n, q->table, q->table_len, q->journal, q->journal_len, q->i,    \
+                               q->d, q->e, place, count);                                         \
+        case UNSEW:                                                                               \
+            return PREFIX##unsew(q->n, q->table, q->table_len, q->journal, q->journal_len, q->i,  \
+                                 q->d, place, count);                                             \
+        case REMOVE:                                                                              \
+            return PREFIX##remove(q->n, q->table, q->table_len, q->marks, q->marks_len,           \
+                                  q->journal, q->journal_len, q->d, place, count);                \
+        case SPLIT:                                                                               \
+            return PREFIX##split(q->n, q->table, q->table_len, q->marks, q->marks_len,            \
+                                 q->journal, q->journal_len, q->d, place, count);                 \
+        case UNDO:                                                                                \
+            return PREFIX##undo(q->n, q->table, q->table_len, q->journal, q->journal_len, place,  \
+                                count);                                                           \
+        case REDO:                                                                                \
+            return PREFIX##redo(q->n, q->table, q->table_len, q->journal, q->journal_len, place,  \
+                                count);                                                           \
+        default:                                                                                  \
+            return 0;                                                                             \
+        }                                                                                         \
+    }
+
+typedef uint32_t run_fn(const request *q, uint32_t *place, uint32_t *count);
+
+#endif

@@ -1,0 +1,124 @@
+/* phlernsap.h - a proved topology kernel for hexahedral blocking: ten calls over lent buffers.
+ *
+ * Link with libphlernsap.a (`rt staticlib phlernsap` writes it). Every call gives back a number
+ * (0: accepted, else why it is refused) and stores a place and a count. A call takes any content
+ * of its buffers and any numbers, and ends.
+ *
+ * Buffers. All are the caller's; the library allocates nothing and keeps nothing between calls.
+ *
+ *   table    table_len uint32_t entries, four to a slot: entry 4d+i is link i of dart d. A slot
+ *            whose four entries are PHL_UNUSED is unused. At most 262,144 entries.
+ *   marks    marks_len bytes, one to a slot: table_len / 4.
+ *   journal  journal_len uint32_t words, 2 to 1,048,576. Word 0 is the cursor, word 1 the end.
+ *            A fresh journal has 2 in both; from then on only the calls write it.
+ *   place, count   where the call stores place and count.
+ *
+ * What the caller owes: lengths are in elements, not in bytes, and are those of the buffers. No
+ * pointer is null, also where its length is 0; each is aligned to its elements; no two of the
+ * buffers of one call overlap, place and count included.
+ *
+ * A refusal has count 0, and place 0 but for PHL_NO_MAP and PHL_NO_BLOCK_MAP. It changes no
+ * buffer, but that phl_remove and phl_split refused by 13, 14 or 15 leave the sheet's marks.
+ *
+ * A call takes less than 1 MiB of stack (bench/README.md has the measured figures). There is no
+ * global state: calls on different buffers may run on different threads.
+ */
+#ifndef PHLERNSAP_H
+#define PHLERNSAP_H
+
+#include <stddef.h>
+#include <stdint.h>
+
+#ifdef __cplusplus
+extern "C" {
+#endif
+
+/* Each entry of an unused slot. */
+#define PHL_UNUSED UINT32_C(4294967295)
+
+/* The numbers, in the order of the checks: the first that applies is given. */
+enum phl_number {
+    PHL_ACCEPTED = 0,
+    PHL_WRONG_DIMENSION = 1,     /* n is not 2 or 3 */
+    PHL_WRONG_TABLE_LENGTH = 2,  /* table_len is no multiple of 4, or above 262,144 */
+    PHL_WRONG_MARKS_LENGTH = 3,  /* marks_len differs from the number of slots */
+    PHL_WRONG_JOURNAL = 4,       /* the journal's length or its first two words are out of rule */
+    PHL_NO_MAP = 5,              /* not a map; place: the least slot that breaks a rule */
+    PHL_OUT_OF_RANGE = 6,        /* i above n, or mask above 2^(n+1) - 1 */
+    PHL_NOT_LIVE = 7,            /* d or e is not a live slot */
+    PHL_NO_BLOCK_MAP = 8,        /* not a block map; place: the least slot in a wrong cell */
+    PHL_SAME_SIDE = 9,           /* e is in d's side */
+    PHL_NOT_FREE = 10,           /* d or e is not i-free */
+    PHL_FREE = 11,               /* d is i-free */
+    PHL_NO_PAIRING = 12,         /* no pairing of the two sides exists */
+    PHL_CROSSES_ITSELF = 13,     /* the layer crosses itself */
+    PHL_TOO_FEW_SLOTS = 14,      /* too few unused slots */
+    PHL_NO_ROOM = 15,            /* the record is longer than the words from cursor to length */
+    PHL_NO_RECORD = 16,          /* nothing to undo, or to redo */
+    PHL_BROKEN_RECORD = 17       /* the record is broken, or its result is no map */
+};
+
+/* Whether the table is a map. Count: 1 for a map, 2 for a block map. Numbers: 1 2 5. */
+uint32_t phl_check(uint32_t n, const uint32_t *table, size_t table_len,
+                   uint32_t *place, uint32_t *count);
+
+/* What is reached from d by the links whose bit the mask has. Marks: 1 reached, 0 otherwise.
+ * Count: darts reached. Place: 1 + the missing index if the mask has exactly n ones, else 0.
+ * Numbers: 1 2 3 5 6 7. */
+uint32_t phl_orbit(uint32_t n, const uint32_t *table, size_t table_len,
+                   uint8_t *marks, size_t marks_len, uint32_t mask, uint32_t d,
+                   uint32_t *place, uint32_t *count);
+
+/* The sheet of d, and the cells that it goes through. Marks: 1 in the sheet, 2 at the other darts
+ * of these cells, 0 elsewhere. Count: size of the sheet. Numbers: 1 2 3 5 7 8. */
+uint32_t phl_sheet(uint32_t n, const uint32_t *table, size_t table_len,
+                   uint8_t *marks, size_t marks_len, uint32_t d,
+                   uint32_t *place, uint32_t *count);
+
+/* Adds one free cell in the lowest unused slots. Place: its first slot. Count: 8 or 48.
+ * Numbers: 1 2 4 5 14 15. */
+uint32_t phl_add(uint32_t n, uint32_t *table, size_t table_len,
+                 uint32_t *journal, size_t journal_len,
+                 uint32_t *place, uint32_t *count);
+
+/* Sews the side of d to the side of e by link i. Count: entries changed.
+ * Numbers: 1 2 4 5 6 7 9 10 12 15. */
+uint32_t phl_sew(uint32_t n, uint32_t *table, size_t table_len,
+                 uint32_t *journal, size_t journal_len, uint32_t i, uint32_t d, uint32_t e,
+                 uint32_t *place, uint32_t *count);
+
+/* Makes each dart of d's side and its partner i-free. Count: entries changed.
+ * Numbers: 1 2 4 5 6 7 11 15. */
+uint32_t phl_unsew(uint32_t n, uint32_t *table, size_t table_len,
+                   uint32_t *journal, size_t journal_len, uint32_t i, uint32_t d,
+                   uint32_t *place, uint32_t *count);
+
+/* Removes the layer of cells that the sheet of d goes through, and links what lay on either side
+ * of it. Marks: as phl_sheet gives them before the change. Count: darts removed.
+ * Numbers: 1 2 3 4 5 7 8 15. */
+uint32_t phl_remove(uint32_t n, uint32_t *table, size_t table_len,
+                    uint8_t *marks, size_t marks_len, uint32_t *journal, size_t journal_len,
+                    uint32_t d, uint32_t *place, uint32_t *count);
+
+/* Splits each cell of the layer of d in two. Marks: as phl_sheet gives them before the change.
+ * Place: the first new slot. Count: darts added. Numbers: 1 2 3 4 5 7 8 13 14 15. */
+uint32_t phl_split(uint32_t n, uint32_t *table, size_t table_len,
+                   uint8_t *marks, size_t marks_len, uint32_t *journal, size_t journal_len,
+                   uint32_t d, uint32_t *place, uint32_t *count);
+
+/* Puts back the old values of the record before the cursor. Count: entries changed.
+ * Numbers: 1 2 4 5 16 17. */
+uint32_t phl_undo(uint32_t n, uint32_t *table, size_t table_len,
+                  uint32_t *journal, size_t journal_len,
+                  uint32_t *place, uint32_t *count);
+
+/* Puts back the new values of the record at the cursor. Count: entries changed.
+ * Numbers: 1 2 4 5 16 17. */
+uint32_t phl_redo(uint32_t n, uint32_t *table, size_t table_len,
+                  uint32_t *journal, size_t journal_len,
+                  uint32_t *place, uint32_t *count);
+
+#ifdef __cplusplus
+}
+#endif
+#endif
