@@ -1,9 +1,9 @@
 -- Masks of links: the bits of `links_but`, by one computed test, and that the words of a flood are, as sets, those of an
 -- orbit, a side, a cell or a sheet.
 use Prim.Native.Nat.{ℕ, zero, suc, _+_, _*_, _-_, _/_, _%_, _^_, _≤_, _<_}
-use mathlib.Core.Path.{_≡_, refl, sym, _∙_}
+use mathlib.Core.Path.{_≡_, refl, sym, ap, _∙_}
 use mathlib.Core.Logic.{⊎-elim}
-use mathlib.Core.Bool.{Bool, true, false, not, _&&_}
+use mathlib.Core.Bool.{Bool, true, false, not, _&&_, _||_}
 use mathlib.Core.List.{List, [], _∷_, List·Memᴰ as In, List·Memᴰ·cases-cons as in-cons}
 use mathlib.Core.List.{List·Memᴰ·head as here, List·Memᴰ·tail as there}
 use native.Mathlib.Omega.{arith}
@@ -20,7 +20,7 @@ use Rattle.model.specs.Meaning.Maps.{Dim}
 use Rattle.model.proofs.Lists.Scan.{and-l, and-r, and-i, if-lt, below-at}
 use Rattle.model.proofs.Maps.Dim.{two-cases}
 use Rattle.model.proofs.Sets.Links.{word-in, word-of}
-use Rattle.reach.specs.Search.{floodWords, Permits}
+use Rattle.reach.specs.Search.{floodWords, Permits, SideMask}
 use Rattle.reach.proofs.Words.{Same}
 
 -- ---- the bits of `links_but`
@@ -112,18 +112,24 @@ near i = 7 * 2 ^ i % 4294967296 / 2
 pub near-small : (c i : ℕ) → c < 8 → i < 4 → c * 2 ^ i % 4294967296 / 2 < 64
 near-small c i h = below-four (λ i. c * 2 ^ i % 4294967296 / 2 < 64) (omega arith) (omega arith) (omega arith) (omega arith) i
 
-abbrev Far : ℕ → ℕ → Type 0
-Far n i = links n (λ j. not (bit (near i) j)) ≡ sideWords n i
+-- bit j of `near i` is as it ought to be
+nearTest : ℕ → ℕ → Bool
+unfolding agree
+nearTest i j = agree (not (bit (near i) j)) (leb (i + 2) j || leb (j + 2) i)
 
-far-links : (n i : ℕ) → Dim n → i < 4 → Far n i
-unfolding sideWords links linksFrom bit
-far-links n i n23 =
-    two-cases n n23 (λ n. i < 4 → Far n i) (below-four (Far 2) refl refl refl refl i) (below-four (Far 3) refl refl refl refl i)
+all-near : allBelow 4 (λ i. allBelow 4 (nearTest i)) ≡ true
+unfolding allBelow allFrom nearTest bit
+all-near = refl
 
-pub side-same : (mask n i : ℕ) → Dim n → i < 4 → Permits mask n (λ j. not (bit (near i) j))
-    → Same (floodWords mask false) (sideWords n i)
-unfolding floodWords
-side-same mask n i n23 l h = but-same mask n (near i) n23 h (sideWords n i) (far-links n i n23 l)
+pub near-permits : (mask n i : ℕ) → i < 4 → Permits mask n (λ j. not (bit (near i) j)) → SideMask n i mask
+unfolding nearTest
+near-permits mask n i l h j low =
+    let far = agree-eq _ _ (below-at (nearTest i) 4 (below-at (λ i. allBelow 4 (nearTest i)) 4 all-near i l) j low) in
+    h j low ∙ ap (λ b. leb j n && b) far
+
+pub side-same : (mask n i : ℕ) → Dim n → SideMask n i mask → Same (floodWords mask false) (sideWords n i)
+unfolding floodWords sideWords
+side-same mask n i n23 h = links-same mask n (λ j. leb (i + 2) j || leb (j + 2) i) (n23 .1) h
 
 same-swap : {A : Type 0} (x y : A) (a b : List A) → Same a (y ∷ b) → Same (x ∷ a) (y ∷ x ∷ b)
 same-swap x y a b s = record {

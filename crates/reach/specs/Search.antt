@@ -3,7 +3,7 @@
 use Prim.Native.Nat.{ℕ, zero, suc, _+_, _<_}
 use mathlib.Core.Path.{_≡_}
 use mathlib.Core.Logic.{_≢_}
-use mathlib.Core.Bool.{Bool, true, false, _&&_}
+use mathlib.Core.Bool.{Bool, true, false, _&&_, _||_}
 use mathlib.Core.List.{List, [], _∷_}
 use lib.ListN.{length, getD, set, take}
 use lib.Dec.{eqb, leb}
@@ -19,6 +19,10 @@ floodWords mask across = elim across [ true ↦ (1 ∷ 0 ∷ 1 ∷ []) ∷ links
 -- of the links 0..3 the mask permits those of 0..n that pass
 abbrev pub Permits : ℕ → ℕ → (ℕ → Bool) → Type 0
 Permits mask n p = (j : ℕ) → j < 4 → bit mask j ≡ (leb j n && p j)
+
+-- the mask permits the links of a side: those j <= n with |j-i| >= 2
+abbrev pub SideMask : ℕ → ℕ → ℕ → Type 0
+SideMask n i mask = Permits mask n (λ j. leb (i + 2) j || leb (j + 2) i)
 
 -- ---- the search
 

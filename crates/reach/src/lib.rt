@@ -11,7 +11,7 @@ ghost use Rattle.model.specs.Orbit.{bit, orbit};
 ghost use Rattle.model.specs.Sew.{side};
 ghost use Rattle.model.specs.Sheet.{sheet, sheetMarks};
 ghost use Rattle.model.specs.Meaning.Maps.{Dim};
-ghost use Rattle.reach.specs.Search.{floodWords, Permits, searchOf, meet, follow, expand, Flooded, Gathered};
+ghost use Rattle.reach.specs.Search.{floodWords, Permits, SideMask, searchOf, meet, follow, expand, Flooded, Gathered};
 ghost use Rattle.reach.specs.Given.{Given, Linked, Ready, Seeds, Stepping};
 
 // Link i of the dart x.
@@ -163,6 +163,14 @@ fn links_but(n: u32, out: u32) -> u32
     ((2 << n) - 1) & !out
 }
 
+// The mask of the links of a side: all but i-1, i and i+1.
+pub fn side_mask(n: u32, i: u32) -> u32
+    requires { ⌜ (Dim n) × (i ≤ n) ⌝ }
+    ensures { λ r. ⌜ SideMask n i r ⌝ }
+{
+    links_but(n, (7 << i) >> 1)
+}
+
 // orbit (mask, d): marks 1 at the darts reached by the links that the mask permits, 0 elsewhere; the count of them.
 pub fn orbit(n: u32, table: &[u32], marks: &mut [u8], queue: &mut [u32], mask: u32, d: u32) -> u32
     requires { ⌜ (Given n (now table) (now marks) (now queue) d) × (mask < 2 ^ (n + 1)) ⌝ }
@@ -172,12 +180,12 @@ pub fn orbit(n: u32, table: &[u32], marks: &mut [u8], queue: &mut [u32], mask: u
     gather(table, marks, queue, mask, false, d)
 }
 
-// The side of d, by the links but i-1, i and i+1: marks 1 at its darts, 0 elsewhere; the count of them. The queue lists them.
+// The side of d: marks 1 at its darts, 0 elsewhere; the count of them. The queue lists them.
 pub fn side(n: u32, table: &[u32], marks: &mut [u8], queue: &mut [u32], i: u32, d: u32) -> u32
     requires { ⌜ (Given n (now table) (now marks) (now queue) d) × (i ≤ n) ⌝ }
     ensures { λ r. ⌜ Gathered (side n (now (table .entry)) i d) d (now (marks .exit)) (now (queue .exit)) r ⌝ }
 {
-    let mask = links_but(n, (7 << i) >> 1);
+    let mask = side_mask(n, i);
     gather(table, marks, queue, mask, false, d)
 }
 

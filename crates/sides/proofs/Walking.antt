@@ -18,7 +18,8 @@ use Rattle.model.proofs.Maps.Rules.{live-in}
 use Rattle.model.proofs.Sewing.Partners.{Partner}
 use Rattle.model.proofs.Sewing.Walked.{unpaired, count-unpaired}
 use Rattle.sides.specs.Walk.{Listed, Grown, Clash, Adds, Is, Below}
-use Rattle.sides.specs.Given.{SideMask, Sides, Ready, Stepping, Meeting}
+use Rattle.reach.specs.Search.{SideMask}
+use Rattle.sides.specs.Given.{Sides, Ready, Stepping, Meeting}
 use Rattle.sides.specs.Paired.{found}
 use Rattle.sides.proofs.Least.{Coupled, start, goes, SideLinks, partners-least, partners-clash}
 use Rattle.sides.proofs.Adding.{clash-map}

@@ -3,24 +3,13 @@
 use Prim.Native.Nat.{ℕ, _+_, _*_, _≤_, _<_}
 use mathlib.Core.Path.{_≡_}
 use mathlib.Core.Logic.{_≢_}
-use mathlib.Core.Bool.{Bool, true, _&&_, _||_}
+use mathlib.Core.Bool.{true}
 use mathlib.Core.List.{List}
 use lib.ListN.{length}
-use lib.Dec.{leb}
 use Rattle.model.specs.Table.{unused, slots, link, live}
-use Rattle.model.specs.Orbit.{bit}
 use Rattle.model.specs.Meaning.Pairings.{OnSide}
+use Rattle.reach.specs.Search.{SideMask}
 use Rattle.sides.specs.Walk.{Listed}
-
--- ---- the links of a side
-
--- of the links 0..3 the mask permits those of 0..n that pass
-abbrev pub Permits : ℕ → ℕ → (ℕ → Bool) → Type 0
-Permits mask n p = (j : ℕ) → j < 4 → bit mask j ≡ (leb j n && p j)
-
--- the mask permits the links of a side: those j <= n with |j-i| >= 2
-abbrev pub SideMask : ℕ → ℕ → ℕ → Type 0
-SideMask n i mask = Permits mask n (λ j. leb (i + 2) j || leb (j + 2) i)
 
 -- ---- for both walks
 

@@ -1,0 +1,98 @@
+-- `building::add` meets its contract: its opening, and behind it `add_in`.
+use mathlib.Core.List.{List}
+use native.Mathlib.Omega.{arith}
+use borrow.Author.Needs.{needs}
+use Rattle.model.specs.Table.{slots}
+use Rattle.model.specs.Checks.{Check, addChecks}
+use Rattle.answers.proofs.Settled.{Opening, handed-on}
+use Rattle.answers.proofs.Opened.{opened-journal}
+use Rattle.answers.proofs.Given.{room-given}
+use Rattle.answers.proofs.Ladder.{passed-all}
+use Rattle.building.proofs.Given.{small-given}
+use Rattle.building.proofs.Ends.{add-operates, operation-refused}
+use Rattle.building.proofs.adding.add.Statement.{statement}
+use Rattle.building.proofs.adding.add.Tie as tie
+
+abbrev checks : tie.Start → List Check
+checks p = addChecks (p .args .n) (p .args .table .now) (p .args .journal .now)
+
+abbrev opening : tie.After-struct-known → Opening checks 4
+unfolding addChecks
+opening c = record {
+  entry = c .before .before .before .before .before .before .before;
+  answer = _;
+  settles = opened-journal _ _ _ _ (c .before .before .journal-fits .ensures) (c .before .opening .ensures);
+}
+
+journal-fits-requires : tie.Need-journal-fits-requires
+journal-fits-requires c κs = search needs
+
+opening-requires : tie.Need-opening-requires
+opening-requires c κs = search needs
+
+same-length : tie.Need-same-length
+same-length c = search needs
+
+same-length-2 : tie.Need-same-length-2
+same-length-2 c = search needs
+
+returns : tie.Need-returns
+unfolding addChecks
+returns c = handed-on (opening (c .before)) (c .if1 .taken) (operation-refused (add-operates _ _ _))
+
+slice-aggregate-add-in : tie.Need-slice-aggregate-add-in
+slice-aggregate-add-in c = search needs
+
+add-in-requires : tie.Need-add-in-requires
+unfolding addChecks
+add-in-requires c κs =
+    let e = c .before .before .before .before in
+    (opening (e .before) .settles .passes (e .if1 .left), small-given _ (c .before .before .before .if2 .taken) (search needs))
+
+same-length-3 : tie.Need-same-length-3
+same-length-3 c = search needs
+
+same-length-4 : tie.Need-same-length-4
+same-length-4 c = search needs
+
+returns-2 : tie.Need-returns-2
+returns-2 c = search needs
+
+slice-aggregate-add-in-2 : tie.Need-slice-aggregate-add-in-2
+slice-aggregate-add-in-2 c = search needs
+
+add-in-requires-2 : tie.Need-add-in-requires-2
+unfolding addChecks
+add-in-requires-2 c κs =
+    let e = c .before .before .before .before in
+    let h = opening (e .before) .settles .passes (e .if1 .left) in
+    (h, room-given _ (passed-all _ h .1 .0) (search needs))
+
+same-length-5 : tie.Need-same-length-5
+same-length-5 c = search needs
+
+same-length-6 : tie.Need-same-length-6
+same-length-6 c = search needs
+
+returns-3 : tie.Need-returns-3
+returns-3 c = search needs
+
+pub add-spec : {M : Type 1} → statement M
+add-spec =
+    tie.close
+    (tie.spec
+    journal-fits-requires
+    opening-requires
+    same-length
+    same-length-2
+    returns
+    slice-aggregate-add-in
+    add-in-requires
+    same-length-3
+    same-length-4
+    returns-2
+    slice-aggregate-add-in-2
+    add-in-requires-2
+    same-length-5
+    same-length-6
+    returns-3)

@@ -1,0 +1,132 @@
+-- `building::sew` meets its contract: its opening, and behind it `sew_in`.
+use mathlib.Core.List.{List}
+use borrow.Author.Needs.{needs}
+use Rattle.model.specs.Checks.{Check, sewChecks, sidesChecks}
+use Rattle.answers.proofs.Ladder.{passed-all}
+use Rattle.answers.proofs.Settled.{Opening, handed-on}
+use Rattle.answers.proofs.Opened.{opened-side}
+use Rattle.answers.proofs.Given.{room-given}
+use Rattle.building.proofs.Given.{small-given}
+use Rattle.building.proofs.Ends.{sew-operates, operation-refused}
+use Rattle.building.proofs.sewing.sew.Statement.{statement}
+use Rattle.building.proofs.sewing.sew.Tie as tie
+
+abbrev checks : tie.Start → List Check
+checks p = sewChecks (p .args .n) (p .args .table .now) (p .args .journal .now) (p .args .i) (p .args .d) (p .args .e)
+
+abbrev opening : tie.After-struct-known → Opening checks 6
+unfolding sewChecks sidesChecks
+opening c = record {
+  entry = c .before .before .before .before .before .before .before;
+  answer = _;
+  settles = opened-side _ _ _ _ (c .before .before .journal-fits .ensures) _ _ (c .before .opening-side .ensures);
+}
+
+journal-fits-requires : tie.Need-journal-fits-requires
+journal-fits-requires c κs = search needs
+
+opening-side-requires : tie.Need-opening-side-requires
+opening-side-requires c κs = search needs
+
+same-length : tie.Need-same-length
+same-length c = search needs
+
+same-length-2 : tie.Need-same-length-2
+same-length-2 c = search needs
+
+returns : tie.Need-returns
+unfolding sewChecks sidesChecks
+returns c = handed-on (opening (c .before)) (c .if1 .taken) (operation-refused (sew-operates _ _ _ _ _ _))
+
+slice-aggregate-sew-in : tie.Need-slice-aggregate-sew-in
+slice-aggregate-sew-in c = search needs
+
+slice-aggregate-sew-in-2 : tie.Need-slice-aggregate-sew-in-2
+slice-aggregate-sew-in-2 c = search needs
+
+slice-aggregate-sew-in-3 : tie.Need-slice-aggregate-sew-in-3
+slice-aggregate-sew-in-3 c = search needs
+
+slice-aggregate-sew-in-4 : tie.Need-slice-aggregate-sew-in-4
+slice-aggregate-sew-in-4 c = search needs
+
+sew-in-requires : tie.Need-sew-in-requires
+unfolding sewChecks sidesChecks
+sew-in-requires c κs =
+    let small = c .before .before .before .before .before .before in
+    let e = small .before in (
+      opening (e .before) .settles .passes (e .if1 .left),
+      (
+        (small-given _ (small .if2 .taken) (search needs), small-given _ (small .if2 .taken) (search needs)),
+        (small-given _ (small .if2 .taken) (search needs), small-given _ (small .if2 .taken) (search needs)),
+      ),
+    )
+
+same-length-3 : tie.Need-same-length-3
+same-length-3 c = search needs
+
+same-length-4 : tie.Need-same-length-4
+same-length-4 c = search needs
+
+returns-2 : tie.Need-returns-2
+returns-2 c = search needs
+
+slice-aggregate-sew-in-5 : tie.Need-slice-aggregate-sew-in-5
+slice-aggregate-sew-in-5 c = search needs
+
+slice-aggregate-sew-in-6 : tie.Need-slice-aggregate-sew-in-6
+slice-aggregate-sew-in-6 c = search needs
+
+slice-aggregate-sew-in-7 : tie.Need-slice-aggregate-sew-in-7
+slice-aggregate-sew-in-7 c = search needs
+
+slice-aggregate-sew-in-8 : tie.Need-slice-aggregate-sew-in-8
+slice-aggregate-sew-in-8 c = search needs
+
+sew-in-requires-2 : tie.Need-sew-in-requires-2
+unfolding sewChecks sidesChecks
+sew-in-requires-2 c κs =
+    let e = c .before .before .before .before .before .before .before in
+    let h = opening (e .before) .settles .passes (e .if1 .left) in
+    let table = passed-all _ h .1 .0 in (
+      h,
+      (
+        (room-given _ table (search needs), room-given _ table (search needs)),
+        (room-given _ table (search needs), room-given _ table (search needs)),
+      ),
+    )
+
+same-length-5 : tie.Need-same-length-5
+same-length-5 c = search needs
+
+same-length-6 : tie.Need-same-length-6
+same-length-6 c = search needs
+
+returns-3 : tie.Need-returns-3
+returns-3 c = search needs
+
+pub sew-spec : {M : Type 1} → statement M
+sew-spec =
+    tie.close
+    (tie.spec
+    journal-fits-requires
+    opening-side-requires
+    same-length
+    same-length-2
+    returns
+    slice-aggregate-sew-in
+    slice-aggregate-sew-in-2
+    slice-aggregate-sew-in-3
+    slice-aggregate-sew-in-4
+    sew-in-requires
+    same-length-3
+    same-length-4
+    returns-2
+    slice-aggregate-sew-in-5
+    slice-aggregate-sew-in-6
+    slice-aggregate-sew-in-7
+    slice-aggregate-sew-in-8
+    sew-in-requires-2
+    same-length-5
+    same-length-6
+    returns-3)
