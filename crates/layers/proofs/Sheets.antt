@@ -1,5 +1,5 @@
--- What a caller of the code for split needs: the marks of a sheet tell its darts (`marks-ones`, `marks-crosses`), and the two
--- lists made one after the other are those of split (`lists-halving`).
+-- What a caller of the code for split needs: the marks of a sheet tell its darts (`marks-ones`, `marks-crosses`), which are no more
+-- than the slots (`ones-few`), and the two lists made one after the other are those of split (`lists-halving`).
 use Prim.Native.Nat.{ℕ, suc, _*_, _≤_, _<_}
 use mathlib.Core.Path.{_≡_, refl, sym, ap, ap₂, _∙_}
 use mathlib.Core.Logic.{_↔_}
@@ -40,7 +40,7 @@ ones-same (x ∷ l) (y ∷ m) a e h =
     let same = same-one x y (h 0) in
     test (eqb y 1) (λ q. rw (same ∙ q, q, onesFrom) (ap (λ (k : List ℕ). a ∷ k) rec)) (λ q. rw (same ∙ q, q, onesFrom) rec)
 
-ones-few : (m : List ℕ) (a : ℕ) → length (onesFrom a m) ≤ length m
+pub ones-few : (m : List ℕ) (a : ℕ) → length (onesFrom a m) ≤ length m
 unfolding onesFrom
 ones-few [] a = omega arith
 ones-few (x ∷ m) a =

@@ -1,0 +1,68 @@
+-- What the passed checks of a layer say, as the crates below ask it: `layered`, `flooding`, `sized`; and `Sheeted`, where the sheet
+-- has been marked.
+use Prim.Native.Nat.{ℕ, _≤_}
+use mathlib.Core.Path.{_≡_}
+use mathlib.Core.List.{List}
+use native.Mathlib.Omega.{arith}
+use lib.ListN.{length}
+use Rattle.model.specs.Lists.{indexOf}
+use Rattle.model.specs.Table.{slots}
+use Rattle.model.specs.Checks.{pass, inOrder, layerChecks, dimOk, tableOk, marksOk, mapOk, dartOk}
+use Rattle.model.specs.Runs.{Call}
+use Rattle.model.specs.Meaning.Ends.{numbers}
+use Rattle.model.specs.Meaning.Numbers.{JournalRule}
+use Rattle.model.specs.Meaning.Sheets.{BlockDart, marksOf}
+use Rattle.model.specs.Meaning.Walks.{Layer}
+use Rattle.model.proofs.Calls.Checks.{passed-number}
+use Rattle.model.proofs.Layers.Marks.{sheet-layer}
+use Rattle.model.proofs.Calls.Pass.{journal-pass, layer-passed}
+use Rattle.reading.specs.Sized.{Sized}
+use Rattle.reading.proofs.Passed.{table-passed}
+use Rattle.reach.specs.Given.{Given}
+use Rattle.answers.proofs.Given.{flood-given}
+
+pub record Layered (n : ℕ) (t m j : List ℕ) (d : ℕ) : Type 0 where
+  pub dim : dimOk n ≡ pass
+  pub table : tableOk t ≡ pass
+  pub marks : marksOk t m ≡ pass
+  pub map : mapOk n t ≡ pass
+  pub lives : dartOk t d ≡ pass
+  pub rule : JournalRule j
+  pub dart : BlockDart n t d
+
+module _ {n d : ℕ} {t m j : List ℕ} where
+  pub layered : inOrder (layerChecks n t m j d) ≡ pass → Layered n t m j d
+  unfolding layerChecks indexOf
+  layered h =
+      let q = passed-number (numbers (Call.remove d)) (layerChecks n t m j d) h in
+      record {
+        dim = q 1;
+        table = q 2;
+        marks = q 3;
+        map = q 5;
+        lives = q 7;
+        rule = journal-pass j (q 4);
+        dart = layer-passed n t j m d h;
+      }
+
+  pub flooding : Layered n t m j d → {q : List ℕ} → slots t ≤ length q → Given n t m q d
+  flooding L {q} room = flood-given n t m q d (L .dim) (L .table) (L .marks) (L .map) (L .lives) room
+
+  pub sized : Layered n t m j d → Sized t
+  sized L = table-passed t (L .table)
+
+-- ---- the checks up to 8 have passed, and s are the marks of the sheet
+
+pub record Sheeted (n : ℕ) (t m j : List ℕ) (d : ℕ) (s : List ℕ) : Type 0 where
+  pub passed : inOrder (layerChecks n t m j d) ≡ pass
+  pub marked : s ≡ marksOf n t d
+
+module _ {n d : ℕ} {t m j s : List ℕ} (H : Sheeted n t m j d s) where
+  pub given : Layered n t m j d
+  given = layered (H .passed)
+
+  pub layer : Layer n t s
+  layer = rw (H .marked) (sheet-layer (given .dart))
+
+  pub marks-few : length s ≤ 65536
+  marks-few = let long = layer .long in let few = sized given .few in omega arith
