@@ -23,11 +23,6 @@ use Rattle.building.specs.Opened.{sideChecks}
 pub edit-given : (t j : List ℕ) → tableOk t ≡ pass → journalOk j ≡ pass → Sized t × JournalRule j
 edit-given t j table journal = (table-passed t table, journal-pass j journal)
 
--- a buffer of 4096 has room for each slot of a small table
-pub small-given : (t : List ℕ) {k : ℕ} → length t ≤ 16384 → 4096 ≤ k → slots t ≤ k
-unfolding slots
-small-given t few long = omega arith
-
 module _ (n : ℕ) (t j : List ℕ) (i d : ℕ) (h : inOrder (sideChecks n t j i d) ≡ pass) where
   all : Passed (sideChecks n t j i d)
   all = passed-all (sideChecks n t j i d) h

@@ -52,8 +52,8 @@ pub fn add(n: u32, table: &mut [u32], journal: &mut [u32]) -> Answer
     if opened.number != 0 {
         return opened;
     }
-    if table.len() <= 16384 {
-        let mut rank = [0u32; 4096];
+    if table.len() <= 32768 {
+        let mut rank = [0u32; 8192];
         return add_in(n, table, journal, &mut rank);
     }
     let mut rank = [0u32; 65536];

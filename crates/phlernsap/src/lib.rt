@@ -1,9 +1,10 @@
 // The C interface: the ten calls, each proved against the same definition of the model as the call below it. The number is
-// returned, place and count are stored.
+// returned, place and count are stored. include/phlernsap.h says it in C.
 use answers::Answer;
 ghost use mathlib.Core.Path.{_≡_};
 ghost use mathlib.Core.List.{[]};
-ghost use Rattle.model.specs.Calls.{checkCall, orbitCall, sheetCall, undoCall, redoCall};
+ghost use Rattle.model.specs.Calls.{checkCall, orbitCall, sheetCall, addCall, sewCall, unsewCall, removeCall, splitCall};
+ghost use Rattle.model.specs.Calls.{undoCall, redoCall};
 ghost use Rattle.phlernsap.specs.Given.{given};
 
 // Stores place and count, and returns the number.
@@ -52,6 +53,85 @@ pub extern "C" fn phl_sheet(
         ≡ sheetCall n (now (table .entry)) (now (marks .entry)) d ⌝ }
 {
     give(kernel::sheet(n, table, marks, d), place, count)
+}
+
+#[no_mangle]
+pub extern "C" fn phl_add(
+    n: u32,
+    table: &mut [u32],
+    journal: &mut [u32],
+    place: &mut u32,
+    count: &mut u32,
+) -> u32
+    ensures { λ r. ⌜ given r (now (place .exit)) (now (count .exit)) (now (table .exit)) [] (now (journal .exit))
+        ≡ addCall n (now (table .entry)) (now (journal .entry)) ⌝ }
+{
+    give(kernel::add(n, table, journal), place, count)
+}
+
+#[no_mangle]
+pub extern "C" fn phl_sew(
+    n: u32,
+    table: &mut [u32],
+    journal: &mut [u32],
+    i: u32,
+    d: u32,
+    e: u32,
+    place: &mut u32,
+    count: &mut u32,
+) -> u32
+    ensures { λ r. ⌜ given r (now (place .exit)) (now (count .exit)) (now (table .exit)) [] (now (journal .exit))
+        ≡ sewCall n (now (table .entry)) (now (journal .entry)) i d e ⌝ }
+{
+    give(kernel::sew(n, table, journal, i, d, e), place, count)
+}
+
+#[no_mangle]
+pub extern "C" fn phl_unsew(
+    n: u32,
+    table: &mut [u32],
+    journal: &mut [u32],
+    i: u32,
+    d: u32,
+    place: &mut u32,
+    count: &mut u32,
+) -> u32
+    ensures { λ r. ⌜ given r (now (place .exit)) (now (count .exit)) (now (table .exit)) [] (now (journal .exit))
+        ≡ unsewCall n (now (table .entry)) (now (journal .entry)) i d ⌝ }
+{
+    give(kernel::unsew(n, table, journal, i, d), place, count)
+}
+
+#[no_mangle]
+pub extern "C" fn phl_remove(
+    n: u32,
+    table: &mut [u32],
+    marks: &mut [u8],
+    journal: &mut [u32],
+    d: u32,
+    place: &mut u32,
+    count: &mut u32,
+) -> u32
+    ensures { λ r. ⌜ given r (now (place .exit)) (now (count .exit)) (now (table .exit)) (now (marks .exit)) (now (journal .exit))
+        ≡ removeCall n (now (table .entry)) (now (marks .entry)) (now (journal .entry)) d ⌝ }
+{
+    give(kernel::remove(n, table, marks, journal, d), place, count)
+}
+
+#[no_mangle]
+pub extern "C" fn phl_split(
+    n: u32,
+    table: &mut [u32],
+    marks: &mut [u8],
+    journal: &mut [u32],
+    d: u32,
+    place: &mut u32,
+    count: &mut u32,
+) -> u32
+    ensures { λ r. ⌜ given r (now (place .exit)) (now (count .exit)) (now (table .exit)) (now (marks .exit)) (now (journal .exit))
+        ≡ splitCall n (now (table .entry)) (now (marks .entry)) (now (journal .entry)) d ⌝ }
+{
+    give(kernel::split(n, table, marks, journal, d), place, count)
 }
 
 #[no_mangle]

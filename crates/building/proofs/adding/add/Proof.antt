@@ -1,14 +1,15 @@
 -- `building::add` meets its contract: its opening, and behind it `add_in`.
+use mathlib.Core.Path.{_≡_}
 use mathlib.Core.List.{List}
 use native.Mathlib.Omega.{arith}
 use borrow.Author.Needs.{needs}
 use Rattle.model.specs.Table.{slots}
-use Rattle.model.specs.Checks.{Check, addChecks}
+use lib.ListN.{take}
+use Rattle.model.specs.Checks.{Check, pass, inOrder, addChecks}
 use Rattle.answers.proofs.Settled.{Opening, handed-on}
 use Rattle.answers.proofs.Opened.{opened-journal}
-use Rattle.answers.proofs.Given.{room-given}
+use Rattle.answers.proofs.Given.{room-given, room-small}
 use Rattle.answers.proofs.Ladder.{passed-all}
-use Rattle.building.proofs.Given.{small-given}
 use Rattle.building.proofs.Ends.{add-operates, operation-refused}
 use Rattle.building.proofs.adding.add.Statement.{statement}
 use Rattle.building.proofs.adding.add.Tie as tie
@@ -23,6 +24,10 @@ opening c = record {
   answer = _;
   settles = opened-journal _ _ _ _ (c .before .before .journal-fits .ensures) (c .before .opening .ensures);
 }
+
+passes : (c : tie.Else1) → inOrder (take 4 (checks (opening (c .before) .entry))) ≡ pass
+unfolding addChecks
+passes c = opening (c .before) .settles .passes (c .if1 .left)
 
 journal-fits-requires : tie.Need-journal-fits-requires
 journal-fits-requires c κs = search needs
@@ -46,8 +51,10 @@ slice-aggregate-add-in c = search needs
 add-in-requires : tie.Need-add-in-requires
 unfolding addChecks
 add-in-requires c κs =
-    let e = c .before .before .before .before in
-    (opening (e .before) .settles .passes (e .if1 .left), small-given _ (c .before .before .before .if2 .taken) (search needs))
+    let small = c .before .before .before in
+    let h = passes (small .before) in
+    let room = room-small _ (passed-all _ h .1 .0) (small .if2 .taken) in
+    (h, room)
 
 same-length-3 : tie.Need-same-length-3
 same-length-3 c = search needs
@@ -64,9 +71,9 @@ slice-aggregate-add-in-2 c = search needs
 add-in-requires-2 : tie.Need-add-in-requires-2
 unfolding addChecks
 add-in-requires-2 c κs =
-    let e = c .before .before .before .before in
-    let h = opening (e .before) .settles .passes (e .if1 .left) in
-    (h, room-given _ (passed-all _ h .1 .0) (search needs))
+    let h = passes (c .before .before .before .before) in
+    let room = room-given _ (passed-all _ h .1 .0) in
+    (h, room)
 
 same-length-5 : tie.Need-same-length-5
 same-length-5 c = search needs
