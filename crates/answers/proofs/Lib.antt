@@ -3,3 +3,4 @@ pub mod Verdicts
 pub mod Settled
 pub mod Opened
 pub mod Given
+pub mod Determined
