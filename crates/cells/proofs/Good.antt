@@ -1,72 +1,129 @@
--- The test of a listed cell: what it reads is there, and place by place it tests whether the cell is good.
--- Main theorems: `placed`, `fits-flat` and `fits-solid` (one place), `all-fit` and `not-fit` (the cell).
-use Prim.Native.Nat.{ℕ, zero, suc, _+_, _*_, _≤_, _<_}
-use mathlib.Core.Path.{_≡_, refl, sym, ap, ap₂, _∙_}
-use mathlib.Core.Logic.{_≢_, inl, inr, ⊎-elim}
-use mathlib.Core.Bool.{Bool, true, false, not, _&&_, _||_, and-true, and-assoc}
-use mathlib.Core.List.{List, [], _∷_, map}
+-- The test of a listed cell. Each link between places is a step of the listing, a row of tests, or one of these turned round;
+-- a step leads where the numbering says, so where the rows fit every link does.
+-- Main theorems: `tests-there` (what the tests read is there), `good-by` (they pass exactly if the cell is good).
+use Prim.Native.Nat.{ℕ, zero, suc, _+_, _*_, _-_, _≤_, _<_}
+use mathlib.Core.Path.{_≡_, refl, sym, ap, _∙_}
+use mathlib.Core.Logic.{_≢_, inr, ⊎-elim}
+use mathlib.Core.Bool.{Bool, true, false, not, _&&_, _||_}
+use mathlib.Core.List.{List, []}
 use native.Mathlib.Omega.{arith}
-use lib.ListN.{length, getD, length-map}
-use lib.Dec.{eqb}
-use borrow.Author.Tests.{eqb-true, eqb-false, eq-eqb, ne-eqb, not-true}
-use Rattle.model.specs.Lists.{tabulate, allFrom, allBelow}
+use lib.ListN.{length, getD}
+use lib.Dec.{eqb, ltb}
+use borrow.Author.Tests.{ltb-true, eqb-true, eq-eqb, ne-eqb, not-true, not-false}
+use Rattle.model.specs.Lists.{tabulate, allBelow}
 use Rattle.model.specs.Table.{link, live}
 use Rattle.model.specs.Cell.{cellSize, cellOf, goodCell}
 use Rattle.model.specs.Numbering.{cellLink}
-use Rattle.model.specs.Meaning.Places.{place}
-use Rattle.model.proofs.Lists.Scan.{test, if-eq, clash, and-l, and-r, and-i, or-cases, or-i, below-three, below-at, below-of}
-use Rattle.model.proofs.Lists.Scan.{length-tab, getD-tab}
-use Rattle.model.proofs.Maps.Tables.{live-below}
-use Rattle.model.proofs.Cells.Rows.{row-goes}
+use Rattle.model.specs.Meaning.Maps.{Dim}
+use Rattle.model.specs.Meaning.Places.{place, Listed}
+use Rattle.model.proofs.Lists.Scan.{test, if-eq, clash, and-l, and-r, and-i, or-cases, or-i, below-at, below-of, below-not}
+use Rattle.model.proofs.Lists.Scan.{below-both, length-tab, getD-tab}
+use Rattle.model.proofs.Maps.Dim.{two-cases}
+use Rattle.model.proofs.Maps.Tables.{live-below, rule-at}
+use Rattle.model.proofs.Cells.Rows.{rows-in, row-comes}
 use Rattle.model.proofs.Cells.Cell.{cell-live, place-in}
 use Rattle.model.proofs.Cells.Exact.{good-exactly}
-use Rattle.cells.specs.Rows.{linkRow, linkRows, places}
-use Rattle.cells.specs.Good.{MapDart, PlaceRow, follows, fitsAt}
-use Rattle.cells.proofs.Listing.{size-few}
+use Rattle.reading.proofs.Rules.{same-test}
+use Rattle.cells.specs.Rows.{lastLink, testRows, places, computed}
+use Rattle.cells.specs.Good.{MapDart, TestRow, fitsRow, allFit, notAgain, onlyFirst}
 
--- what a place's test reads is there
-pub record Placed (t cell row : List ℕ) (k : ℕ) : Type 0 where
-  pub inside : k < length cell
-  pub few : length cell ≤ 48
-  pub entry : 4 * getD cell k 0 + 3 < length t
-  pub leads : (i : ℕ) → i < 3 → getD row i 0 < length cell
+-- one test that fails
+pub not-all : (p : ℕ → Bool) (k i : ℕ) → i < k → p i ≡ false → allBelow k p ≡ false
+not-all p k i l f = test (allBelow k p) (λ h. absurd (clash (below-at p k h i l) f)) (λ h. h)
 
-row-at : (n k i : ℕ) → i < 3 → getD (linkRow n k) i 0 ≡ cellLink n i k
-unfolding linkRow
-row-at n k = below-three (λ i. getD (linkRow n k) i 0 ≡ cellLink n i k) refl refl refl
+-- ---- the test that a dart is not again
 
-rows-at : (f : ℕ → List ℕ) (l : List ℕ) (k : ℕ) → k < length l → getD (map f l) k [] ≡ f (getD l k 0)
-rows-at f [] k h = absurd (omega arith)
-rows-at f (x ∷ l) zero h = refl
-rows-at f (x ∷ l) (suc k) h = rows-at f l k (omega arith)
+module _ (d : ℕ) (cell : List ℕ) where
+  pub not-again-first : notAgain d cell 0 ≡ true
+  unfolding notAgain
+  not-again-first = refl
 
-module _ (n : ℕ) (links : List (List ℕ)) (is-links : links ≡ linkRows n) where
-  pub links-length : length links ≡ cellSize n
-  unfolding linkRows
-  links-length = ap length is-links ∙ length-map (tabulate (cellSize n) (λ k. k)) (linkRow n) ∙ length-tab (λ k. k) (cellSize n)
+  pub not-again : (k : ℕ) → getD cell k 0 ≢ d → notAgain d cell k ≡ true
+  unfolding notAgain
+  not-again k e = or-i (eqb k 0) _ (inr (ap not (ne-eqb _ _ e)))
 
-  pub links-at : (k : ℕ) → k < cellSize n → getD links k [] ≡ linkRow n k
-  unfolding linkRows
-  links-at k l =
-      let here = rows-at (linkRow n) (tabulate (cellSize n) (λ k. k)) k (rw (length-tab (λ k. k) (cellSize n)) l) in
-      rw is-links (here ∙ ap (linkRow n) (getD-tab (λ k. k) (cellSize n) k 0 l))
+  pub again : (k : ℕ) → 0 < k → getD cell k 0 ≡ d → notAgain d cell k ≡ false
+  unfolding notAgain
+  again k some e = rw (ne-eqb k 0 (λ e. omega arith), eq-eqb _ _ e)
 
--- ---- tests of every number below 2, or below 3
+-- ---- the rows of tests
 
-module _ (p : ℕ → Bool) where
-  all-next : (k a : ℕ) → allFrom (suc k) a p ≡ (p a && allFrom k (suc a) p)
-  unfolding allFrom
-  all-next k a = test (p a) (λ e. rw (e, allFrom)) (λ e. rw (e, allFrom))
+-- a row's link leads from its one place to its other
+record Row (n : ℕ) (row : List ℕ) : Type 0 where
+  from : getD row 0 0 < cellSize n
+  by : getD row 1 0 < n
+  to : getD row 2 0 ≡ cellLink n (getD row 1 0) (getD row 0 0)
 
-  all-two : (p 0 && p 1) ≡ allBelow 2 p
-  unfolding allFrom allBelow
-  all-two = sym (all-next 1 0 ∙ ap (λ (b : Bool). p 0 && b) (all-next 0 1 ∙ and-true (p 1)))
+isRow : ℕ → List ℕ → Bool
+isRow n row =
+    ltb (getD row 0 0) (cellSize n)
+    && (ltb (getD row 1 0) n && eqb (getD row 2 0) (cellLink n (getD row 1 0) (getD row 0 0)))
 
-  all-three : ((p 0 && p 1) && p 2) ≡ allBelow 3 p
-  unfolding allFrom allBelow
-  all-three =
-      let later = all-next 1 1 ∙ ap (λ (b : Bool). p 1 && b) (all-next 0 2 ∙ and-true (p 2)) in
-      and-assoc (p 0) (p 1) (p 2) ∙ sym (all-next 2 0 ∙ ap (λ (b : Bool). p 0 && b) later)
+is-row : (n : ℕ) (row : List ℕ) → isRow n row ≡ true → Row n row
+unfolding isRow
+is-row n row h =
+    let later = and-r (ltb (getD row 0 0) (cellSize n)) _ h in
+    record {
+      from = ltb-true _ _ (and-l (ltb (getD row 0 0) (cellSize n)) _ h);
+      by = ltb-true _ _ (and-l (ltb (getD row 1 0) n) _ later);
+      to = eqb-true _ _ (and-r (ltb (getD row 1 0) n) _ later);
+    }
+
+rows-true : (n : ℕ) → Dim n → allBelow (length (testRows n)) (λ k. isRow n (getD (testRows n) k [])) ≡ true
+unfolding isRow computed
+rows-true n dim =
+    two-cases n dim (λ n. allBelow (length (testRows n)) (λ k. isRow n (getD (testRows n) k [])) ≡ true) refl refl
+
+row-at : (n k : ℕ) → Dim n → k < length (testRows n) → Row n (getD (testRows n) k [])
+row-at n k dim l = is-row n _ (below-at (λ k. isRow n (getD (testRows n) k [])) (length (testRows n)) (rows-true n dim) k l)
+
+-- ---- each link is a step, a row of tests, or one of these turned round
+
+-- a step goes by link i from the place k
+isStep : ℕ → ℕ → ℕ → Bool
+isStep n k i = eqb (lastLink n (cellLink n i k)) i
+
+-- a row does
+isRowOf : ℕ → ℕ → List ℕ → Bool
+isRowOf k i row = eqb (getD row 0 0) k && eqb (getD row 1 0) i
+
+inRows : List (List ℕ) → ℕ → ℕ → Bool
+inRows rows k i = not (allBelow (length rows) (λ j. not (isRowOf k i (getD rows j []))))
+
+covered : ℕ → List (List ℕ) → ℕ → ℕ → Bool
+covered n rows k i = isStep n k i || inRows rows k i
+
+allCovered : ℕ → List (List ℕ) → Bool
+allCovered n rows = allBelow (cellSize n) (λ k. allBelow n (λ i. covered n rows k i || covered n rows (cellLink n i k) i))
+
+covered-true : (n : ℕ) → Dim n → allCovered n (testRows n) ≡ true
+unfolding isStep isRowOf inRows covered allCovered computed
+covered-true n dim = two-cases n dim (λ n. allCovered n (testRows n) ≡ true) refl refl
+
+-- ---- the steps
+
+step-zero : (n : ℕ) → Dim n → lastLink n 0 ≡ n
+unfolding computed
+step-zero n dim = two-cases n dim (λ n. lastLink n 0 ≡ n) refl refl
+
+-- the dart that the step to the place k leads to
+abbrev stepped : ℕ → List ℕ → ℕ → ℕ → ℕ
+stepped n t d k = link t (lastLink n k) (place n t d (cellLink n (lastLink n k) k))
+
+steps-true : (n : ℕ) (t : List ℕ) (d : ℕ) → Dim n
+    → tabulate (cellSize n - 1) (λ k. stepped n t d (suc k)) ≡ tabulate (cellSize n - 1) (λ k. place n t d (suc k))
+unfolding place computed
+steps-true n t d dim =
+    two-cases n dim
+    (λ n. tabulate (cellSize n - 1) (λ k. stepped n t d (suc k)) ≡ tabulate (cellSize n - 1) (λ k. place n t d (suc k)))
+    refl refl
+
+step-at : (n : ℕ) (t : List ℕ) (d k : ℕ) → Dim n → k ≢ 0 → k < cellSize n → stepped n t d k ≡ place n t d k
+step-at n t d zero dim some l = absurd (some refl)
+step-at n t d (suc k) dim some l =
+    sym (getD-tab (λ k. stepped n t d (suc k)) (cellSize n - 1) k 0 (omega arith))
+    ∙ ap (λ (l : List ℕ). getD l k 0) (steps-true n t d dim)
+    ∙ getD-tab (λ k. place n t d (suc k)) (cellSize n - 1) k 0 (omega arith)
 
 -- ---- the listed cell
 
@@ -82,79 +139,118 @@ module _ {n : ℕ} {t : List ℕ} {d : ℕ} (D : MapDart n t d) where
   pub place-live : (k : ℕ) → k < cellSize n → live t (place n t d k) ≡ true
   place-live k l = cell-live (D .table) d (D .lives) _ (place-in (D .table) d (D .lives) k l)
 
--- ---- one place
+  goes-in : (i k : ℕ) → i < n → k < cellSize n → cellLink n i k < cellSize n
+  goes-in i k hi hk = rows-in n i k (D .table .dim) hi hk
 
-module _ {n : ℕ} {t : List ℕ} {d : ℕ} {cell : List ℕ} {k : ℕ} {row : List ℕ} (R : PlaceRow n t d cell k row) where
-  here : getD cell k 0 ≡ place n t d k
-  here = rw (R .cell-is) (places-at (R .dart) k (R .low))
+  comes : (i k : ℕ) → i < n → k < cellSize n → cellLink n i (cellLink n i k) ≡ k
+  comes i k hi hk = let three = D .table .dim .1 in row-comes n k (D .table .dim) hk i (omega arith)
 
-  goes : (i : ℕ) → i < 3 → cellLink n i k < cellSize n
-  goes i h = row-goes n k (R .dart .table .dim) (R .low) i (omega arith)
-
-  there : (i : ℕ) → i < 3 → getD cell (getD row i 0) 0 ≡ place n t d (cellLink n i k)
-  there i h = rw (R .cell-is, R .row-is, row-at n k i h) (places-at (R .dart) (cellLink n i k) (goes i h))
-
-  pub placed : Placed t cell row k
-  placed =
-      let T = R .dart .table in
-      let long : length cell ≡ cellSize n = ap length (R .cell-is) ∙ places-length (R .dart) in
-      let low = R .low in
-      let few = size-few n (T .dim) in
-      let inside = live-below T _ (place-live (R .dart) k low) in
+  there : (k : ℕ) → k < length (testRows n) → TestRow t (places n t d) (getD (testRows n) k [])
+  there k l =
+      let T = D .table in
+      let row = row-at n k (T .dim) l in
+      let low = row .from in
+      let to = goes-in _ _ (row .by) (row .from) in
+      let same = row .to in
+      let long = places-length in
+      let inside = live-below T _ (place-live _ (row .from)) in
       let whole = T .whole in
+      let top = T .dim .1 in
+      let link = row .by in
       record {
-        inside = omega arith;
-        few = omega arith;
-        entry = rw here (omega arith);
-        leads = λ i h. let to = goes i h in rw (R .row-is, row-at n k i h) (omega arith);
+        from = omega arith;
+        by = omega arith;
+        to = omega arith;
+        entry = rw (places-at _ (row .from)) (omega arith);
       }
 
-  -- the test of link i, as the code makes it
-  abbrev Leads : ℕ → Bool → Type 0
-  Leads i b = b ≡ eqb (link t i (getD cell k 0)) (getD cell (getD row i 0) 0)
+  -- ---- where the links lead
 
-  leads-is : (i : ℕ) (b : Bool) → i < 3 → Leads i b → b ≡ follows n t d k i
-  unfolding follows
-  leads-is i b h e = rw (here, there i h) at e
+  abbrev Follows : ℕ → ℕ → Type 0
+  Follows i k = link t i (place n t d k) ≡ place n t d (cellLink n i k)
 
-  -- and the test that the dart is not d, unless k is 0
-  abbrev isOther : Bool
-  isOther = eqb k 0 || not (eqb (getD cell k 0) d)
+  turned : (i k : ℕ) → i < n → k < cellSize n → Follows i (cellLink n i k) → Follows i k
+  turned i k hi hk h =
+      let m = cellLink n i k in
+      let three = D .table .dim .1 in
+      let back = rule-at (D .table) _ (place-live m (goes-in i k hi hk)) .comes i (omega arith) in
+      ap (link t i) (sym (h ∙ ap (place n t d) (comes i k hi hk))) ∙ back
 
-  fits-is : (b : Bool) (m : ℕ) → n ≡ m → b ≡ allBelow m (follows n t d k) → (b && isOther) ≡ fitsAt n t d k
-  unfolding fitsAt
-  fits-is b m same e = rw (e, here, ← same)
+  by-step : (i k : ℕ) → i < n → k < cellSize n → isStep n k i ≡ true → Follows i k
+  unfolding isStep
+  by-step i k hi hk h =
+      let m = cellLink n i k in
+      let last = eqb-true (lastLink n m) i h in
+      let zero = step-zero n (D .table .dim) in
+      let some : m ≢ 0 = λ (e : m ≡ 0). let at = ap (lastLink n) e in omega arith in
+      rw (last, comes i k hi hk) at (step-at n t d m (D .table .dim) some (goes-in i k hi hk))
 
-  pub fits-flat : (a b : Bool) → n ≡ 2 → Leads 0 a → Leads 1 b → ((a && b) && isOther) ≡ fitsAt n t d k
-  fits-flat a b same h₀ h₁ = fits-is (a && b) 2 same
-      (ap₂ _&&_ (leads-is 0 a (omega arith) h₀) (leads-is 1 b (omega arith) h₁) ∙ all-two (follows n t d k))
+  module _ (row : List ℕ) (r : Row n row) where
+    fits-is : fitsRow t (places n t d) row
+        ≡ eqb (link t (getD row 1 0) (place n t d (getD row 0 0))) (place n t d (cellLink n (getD row 1 0) (getD row 0 0)))
+    unfolding fitsRow
+    fits-is = rw (r .to, places-at _ (r .from), places-at _ (goes-in _ _ (r .by) (r .from)))
 
-  pub fits-solid : (a b c : Bool) → n ≡ 3 → Leads 0 a → Leads 1 b → Leads 2 c → (((a && b) && c) && isOther) ≡ fitsAt n t d k
-  fits-solid a b c same h₀ h₁ h₂ = fits-is ((a && b) && c) 3 same
-      (ap₂ _&&_ (ap₂ _&&_ (leads-is 0 a (omega arith) h₀) (leads-is 1 b (omega arith) h₁)) (leads-is 2 c (omega arith) h₂)
-      ∙ all-three (follows n t d k))
+    fits-follow : fitsRow t (places n t d) row ≡ true → Follows (getD row 1 0) (getD row 0 0)
+    fits-follow h = eqb-true _ _ (sym fits-is ∙ h)
 
--- ---- the cell
+    follow-fits : Follows (getD row 1 0) (getD row 0 0) → fitsRow t (places n t d) row ≡ true
+    follow-fits h = fits-is ∙ eq-eqb _ _ h
 
-module _ {n : ℕ} {t : List ℕ} {d : ℕ} (D : MapDart n t d) where
-  pub all-fit : ((k : ℕ) → k < cellSize n → fitsAt n t d k ≡ true) → goodCell n t (cellOf n t d) ≡ true
-  unfolding fitsAt follows
-  all-fit h = good-exactly (D .table) d (D .lives) .1 (record { follow = follow; other = other })
+  by-row : allFit t (places n t d) (testRows n) ≡ true → (i k : ℕ) → inRows (testRows n) k i ≡ true → Follows i k
+  unfolding allFit inRows isRowOf
+  by-row h i k e =
+      let (j, l, f) = below-not (λ j. not (isRowOf k i (getD (testRows n) j []))) (length (testRows n)) (not-true _ e) in
+      let row = getD (testRows n) j [] in
+      let here : isRowOf k i row ≡ true = not-false _ f in
+      let from = eqb-true (getD row 0 0) k (and-l (eqb (getD row 0 0) k) _ here) in
+      let by = eqb-true (getD row 1 0) i (and-r (eqb (getD row 0 0) k) _ here) in
+      let fit = below-at (λ j. fitsRow t (places n t d) (getD (testRows n) j [])) (length (testRows n)) h j l in
+      rw (from, by) at (fits-follow row (row-at n j (D .table .dim) l) fit)
+
+  tests-follow : allFit t (places n t d) (testRows n) ≡ true → (i k : ℕ) → i < n → k < cellSize n → Follows i k
+  unfolding covered allCovered
+  tests-follow h i k hi hk =
+      let rows = testRows n in
+      let m = cellLink n i k in
+      let either = below-both (λ k i. covered n rows k i || covered n rows (cellLink n i k) i) (cellSize n) n
+      (covered-true n (D .table .dim)) k i hk hi in
+      ⊎-elim (goes k hk) (λ c. turned i k hi hk (goes m (goes-in i k hi hk) c)) (or-cases (covered n rows k i) _ either)
     where
-      follow : (i k : ℕ) → i < n → k < cellSize n → link t i (place n t d k) ≡ place n t d (cellLink n i k)
-      follow i k hi hk = eqb-true _ _ (below-at (follows n t d k) n (and-l (allBelow n (follows n t d k)) _ (h k hk)) i hi)
+      goes : (k : ℕ) → k < cellSize n → covered n (testRows n) k i ≡ true → Follows i k
+      goes k hk c = ⊎-elim (by-step i k hi hk) (by-row h i k) (or-cases (isStep n k i) _ c)
 
-      other : (k : ℕ) → 0 < k → k < cellSize n → place n t d k ≢ d
-      other k some hk =
-          ⊎-elim (λ q. let first = eqb-true k 0 q in absurd (omega arith)) (λ q. eqb-false _ _ (not-true _ q))
-          (or-cases (eqb k 0) _ (and-r (allBelow n (follows n t d k)) _ (h k hk)))
+  tests-other : onlyFirst d (places n t d) ≡ true → (k : ℕ) → 0 < k → k < cellSize n → place n t d k ≢ d
+  unfolding onlyFirst
+  tests-other h k some l e =
+      clash (below-at (notAgain d (places n t d)) _ h k (rw places-length l)) (again d _ k some (places-at k l ∙ e))
 
-  fit-all : goodCell n t (cellOf n t d) ≡ true → (k : ℕ) → k < cellSize n → fitsAt n t d k ≡ true
-  unfolding fitsAt follows
-  fit-all h k l =
-      let listed = good-exactly (D .table) d (D .lives) .0 h in
-      and-i (below-of (follows n t d k) n (λ i hi. eq-eqb _ _ (listed .follow i k hi l)))
-      (or-i (eqb k 0) _ (if-eq k 0 (λ e. inl (eq-eqb k 0 e)) (λ e. inr (ap not (ne-eqb _ _ (listed .other k (omega arith) l))))))
+  follow-tests : Listed n t d → allFit t (places n t d) (testRows n) ≡ true
+  unfolding allFit
+  follow-tests h = below-of _ _ (λ k l.
+      let row = row-at n k (D .table .dim) l in
+      follow-fits _ row (h .follow _ _ (row .by) (row .from)))
 
-  pub not-fit : (k : ℕ) → k < cellSize n → fitsAt n t d k ≡ false → goodCell n t (cellOf n t d) ≡ false
-  not-fit k l h = test (goodCell n t (cellOf n t d)) (λ g. absurd (clash (fit-all g k l) h)) (λ g. g)
+  other-tests : Listed n t d → onlyFirst d (places n t d) ≡ true
+  unfolding onlyFirst
+  other-tests h = below-of _ _ (λ k l.
+      let low : k < cellSize n = rw places-length at l in
+      if-eq k 0 (λ e. rw e (not-again-first d _))
+      (λ e. not-again d _ k (rw (places-at k low) (h .other k (omega arith) low))))
+
+  listed-good : (allFit t (places n t d) (testRows n) && onlyFirst d (places n t d)) ≡ goodCell n t (cellOf n t d)
+  listed-good = same-test
+      (λ h. good-exactly (D .table) d (D .lives) .1 (record {
+        follow = tests-follow (and-l _ _ h);
+        other = tests-other (and-r (allFit t (places n t d) (testRows n)) _ h);
+      }))
+      (λ g. let listed = good-exactly (D .table) d (D .lives) .0 g in and-i (follow-tests listed) (other-tests listed))
+
+  -- ---- the same of what the code is given
+
+  module _ (cell : List ℕ) (tests : List (List ℕ)) (is-cell : cell ≡ places n t d) (is-tests : tests ≡ testRows n) where
+    pub tests-there : (k : ℕ) → k < length tests → TestRow t cell (getD tests k [])
+    tests-there k l = rw (is-cell, is-tests) (there k (rw is-tests at l))
+
+    pub good-by : (a b : Bool) → a ≡ allFit t cell tests → b ≡ onlyFirst d cell → (a && b) ≡ goodCell n t (cellOf n t d)
+    good-by a b e f = rw (e, f, is-cell, is-tests) listed-good

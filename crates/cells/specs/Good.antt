@@ -1,39 +1,44 @@
--- The block test: a live dart of a map, its listed cell, the test of a place, darts that are seen.
--- Main definitions: `MapDart`, `PlaceRow`, `fitsAt`, `SeenGood`.
-use Prim.Native.Nat.{ℕ, _≤_, _<_}
+-- The block test: a live dart of a map, the tests of its listed cell, darts that are seen.
+-- Main definitions: `MapDart`, `allFit`, `onlyFirst`, `SeenGood`.
+use Prim.Native.Nat.{ℕ, _+_, _*_, _≤_, _<_}
 use mathlib.Core.Path.{_≡_}
 use mathlib.Core.Logic.{_≢_}
-use mathlib.Core.Bool.{Bool, true, false, not, _&&_, _||_}
+use mathlib.Core.Bool.{Bool, true, false, not, _||_}
 use mathlib.Core.List.{List, [], _∷_}
 use lib.ListN.{length, getD, set}
 use lib.Dec.{eqb}
 use Rattle.model.specs.Lists.{allBelow}
 use Rattle.model.specs.Table.{slots, link, live}
-use Rattle.model.specs.Cell.{cellSize, inWrongCell}
-use Rattle.model.specs.Numbering.{cellLink}
+use Rattle.model.specs.Cell.{inWrongCell}
 use Rattle.model.specs.Meaning.Maps.{MapTable}
-use Rattle.model.specs.Meaning.Places.{place}
-use Rattle.cells.specs.Rows.{linkRow, places}
 
 -- d is a live slot of a map
 pub record MapDart (n : ℕ) (t : List ℕ) (d : ℕ) : Type 0 where
   pub table : MapTable n t
   pub lives : live t d ≡ true
 
--- the darts of the cell of d are listed by their places, and the row has the links of the place k
-pub record PlaceRow (n : ℕ) (t : List ℕ) (d : ℕ) (cell : List ℕ) (k : ℕ) (row : List ℕ) : Type 0 where
-  pub dart : MapDart n t d
-  pub cell-is : cell ≡ places n t d
-  pub low : k < cellSize n
-  pub row-is : row ≡ linkRow n k
+-- the places and the link of a row of tests are there
+pub record TestRow (t cell row : List ℕ) : Type 0 where
+  pub from : getD row 0 0 < length cell
+  pub by : getD row 1 0 < 4
+  pub to : getD row 2 0 < length cell
+  pub entry : 4 * getD cell (getD row 0 0) 0 + getD row 1 0 < length t
 
--- link i of the dart at the place k leads where the numbering says
-unfoldable pub follows : ℕ → List ℕ → ℕ → ℕ → ℕ → Bool
-follows n t d k i = eqb (link t i (place n t d k)) (place n t d (cellLink n i k))
+-- the row's link leads from the dart at its one place to the dart at its other
+unfoldable pub fitsRow : List ℕ → List ℕ → List ℕ → Bool
+fitsRow t cell row = eqb (link t (getD row 1 0) (getD cell (getD row 0 0) 0)) (getD cell (getD row 2 0) 0)
 
--- its links 0..n-1 do, and it is not d, unless k is 0
-unfoldable pub fitsAt : ℕ → List ℕ → ℕ → ℕ → Bool
-fitsAt n t d k = allBelow n (follows n t d k) && (eqb k 0 || not (eqb (place n t d k) d))
+-- every row fits
+unfoldable pub allFit : List ℕ → List ℕ → List (List ℕ) → Bool
+allFit t cell rows = allBelow (length rows) (λ k. fitsRow t cell (getD rows k []))
+
+-- the place k is the first, or does not hold d
+unfoldable pub notAgain : ℕ → List ℕ → ℕ → Bool
+notAgain d cell k = eqb k 0 || not (eqb (getD cell k 0) d)
+
+-- no place but the first holds d
+unfoldable pub onlyFirst : ℕ → List ℕ → Bool
+onlyFirst d cell = allBelow (length cell) (notAgain d cell)
 
 -- the marks s, with 1 at each of the darts
 unfoldable pub seenWith : List ℕ → List ℕ → List ℕ

@@ -1,23 +1,15 @@
--- The rows that a cell is listed by: where the links lead from each place of the numbering, and the steps from place to place.
--- Main definitions: `linkRows`, `stepRows`, `places`.
-use Prim.Native.Nat.{ℕ, zero, suc, _-_}
-use mathlib.Core.Bool.{true, false}
+-- The rows that a cell is listed and tested by: the steps from place to place, and the links between places that are no steps.
+-- Main definitions: `stepRows`, `testRows`, `places`.
+use Prim.Native.Nat.{ℕ, zero, suc, _*_, _-_, _/_, _%_}
+use mathlib.Core.Bool.{Bool, true, false, not, _&&_, _||_}
 use mathlib.Core.List.{List, [], _∷_, _++_, map}
 use lib.ListN.{length, getD, replicate}
-use lib.Dec.{eqb}
+use lib.Dec.{eqb, ltb}
 use Rattle.model.specs.Lists.{tabulate, ones}
 use Rattle.model.specs.Cell.{cellSize}
 use Rattle.model.specs.Numbering.{cellLink}
 use Rattle.model.specs.Everything.{everything}
 use Rattle.model.specs.Meaning.Places.{path, place}
-
--- where the links 0, 1 and 2 lead from the place k
-unfoldable pub linkRow : ℕ → ℕ → List ℕ
-linkRow n k = cellLink n 0 k ∷ cellLink n 1 k ∷ cellLink n 2 k ∷ []
-
--- the rows of all places
-unfoldable pub linkRows : ℕ → List (List ℕ)
-linkRows n = map (linkRow n) (tabulate (cellSize n) (λ k. k))
 
 -- the places whose paths have l links, rising
 unfoldable pub placesAt : ℕ → ℕ → List ℕ
@@ -28,15 +20,32 @@ unfoldable pub placesFrom : ℕ → ℕ → ℕ → List ℕ
 placesFrom n zero l = []
 placesFrom n (suc m) l = placesAt n l ++ placesFrom n m (suc l)
 
+-- the last link of the path to the place k; no link of the cell for the place 0, whose path is empty
+unfoldable pub lastLink : ℕ → ℕ → ℕ
+lastLink n k = getD (path n k) (length (path n k) - 1) n
+
 -- the step to the place k: the place, the one before it on its path, and the link from there
 unfoldable pub stepTo : ℕ → ℕ → List ℕ
-stepTo n k =
-    let i = getD (path n k) (length (path n k) - 1) 0 in
-    k ∷ cellLink n i k ∷ i ∷ []
+stepTo n k = k ∷ cellLink n (lastLink n k) k ∷ lastLink n k ∷ []
 
 -- the steps to all places but the first, by the lengths of their paths; none has more than 12 links
 unfoldable pub stepRows : ℕ → List (List ℕ)
 stepRows n = map (stepTo n) (placesFrom n 12 1)
+
+-- link i leads up from the place k, and is no step from there and no step back
+unfoldable pub isTested : ℕ → ℕ → ℕ → Bool
+isTested n k i =
+    let m = cellLink n i k in
+    ltb k m && not (eqb (lastLink n m) i || eqb (lastLink n k) i)
+
+-- the places and the link between them that number n * k + i stands for: link i from the place k
+unfoldable pub testRow : ℕ → ℕ → List ℕ
+testRow n e = e / n ∷ e % n ∷ cellLink n (e % n) (e / n) ∷ []
+
+-- all that are tested
+unfoldable pub testRows : ℕ → List (List ℕ)
+testRows n =
+    map (testRow n) (ones (tabulate (n * cellSize n) (λ e. elim (isTested n (e / n) (e % n)) [ true ↦ 1 | false ↦ 0 ])))
 
 -- what a listing starts with
 unfoldable pub start : ℕ → ℕ → List ℕ
@@ -48,5 +57,5 @@ places n t d = tabulate (cellSize n) (place n t d)
 
 -- to unfold `computed` is to unfold what the constant tables are compared with
 unfoldable pub computed : Unit {0}
-unfolding linkRow linkRows placesAt placesFrom stepTo stepRows start path everything
+unfolding placesAt placesFrom lastLink stepTo stepRows isTested testRow testRows start path everything
 computed = tt

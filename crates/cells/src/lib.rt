@@ -1,22 +1,22 @@
 // One cell as a value, its darts listed by their places, and the block test.
 ghost use mathlib.Core.Path.{_≡_};
 ghost use mathlib.Core.Bool.{true};
-ghost use Prim.Native.Nat.{ℕ, _+_, _*_, _<_, _≤_};
+ghost use mathlib.Core.List.{[]};
+ghost use Prim.Native.Nat.{ℕ, _<_, _≤_};
 ghost use lib.ListN.{length, getD};
-ghost use lib.Dec.{eqb};
-ghost use Rattle.model.specs.Table.{slots, link};
+ghost use Rattle.model.specs.Table.{slots};
 ghost use Rattle.model.specs.Map.{isMap};
 ghost use Rattle.model.specs.Cell.{cellOf, goodCell, inWrongCell, leastWrong, isBlock};
 ghost use Rattle.model.specs.Checks.{pass, dimOk, tableOk};
 ghost use Rattle.model.specs.Meaning.Maps.{MapTable};
-ghost use Rattle.cells.specs.Rows.{linkRows, stepRows, start, places};
-ghost use Rattle.cells.specs.Good.{MapDart, PlaceRow, fitsAt, seenWith, SeenGood};
+ghost use Rattle.cells.specs.Rows.{stepRows, testRows, start, places};
+ghost use Rattle.cells.specs.Good.{MapDart, TestRow, fitsRow, allFit, onlyFirst, seenWith, SeenGood};
 use reading::link_in;
 use reading::slots;
-use rows::LINKS_2D;
-use rows::LINKS_3D;
 use rows::STEPS_2D;
 use rows::STEPS_3D;
+use rows::TESTS_2D;
+use rows::TESTS_3D;
 
 mod rows;
 
@@ -55,39 +55,46 @@ pub fn cell_3d(table: &[u32], d: u32) -> [u32; 48]
     cell
 }
 
-// Whether link i of x leads to the dart that is listed at the place `to`.
-fn leads(table: &[u32], i: usize, x: u32, cell: &[u32], to: u8) -> bool
-    requires { ⌜ (4 * x + i < length (now table)) × (to < length (now cell)) ⌝ }
-    ensures { λ r. ⌜ r ≡ eqb (link (now (table .entry)) i x) (getD (now (cell .entry)) to 0) ⌝ }
+// Whether the row's link leads from the dart at its one place to the dart at its other.
+fn fits(table: &[u32], cell: &[u32], row: [u8; 3]) -> bool
+    requires { ⌜ TestRow (now table) (now cell) row ⌝ }
+    ensures { λ r. ⌜ r ≡ fitsRow (now (table .entry)) (now (cell .entry)) row ⌝ }
 {
-    link_in(table, i, x) == cell[to as usize]
+    let from = cell[row[0] as usize];
+    link_in(table, row[1] as usize, from) == cell[row[2] as usize]
 }
 
-// Whether the dart at the place k has its links where the row says, and is not d, unless k is 0.
-fn fits(n: u32, table: &[u32], d: u32, cell: &[u32], k: usize, row: [u8; 3]) -> bool
-    requires { ⌜ PlaceRow n (now table) d (now cell) k row ⌝ }
-    ensures { λ r. ⌜ r ≡ fitsAt n (now (table .entry)) d k ⌝ }
+// Whether every row fits.
+fn all_fit(table: &[u32], cell: &[u32], tests: &[[u8; 3]]) -> bool
+    requires { ⌜ ((k : ℕ) → k < length (now tests) → TestRow (now table) (now cell) (getD (now tests) k [])) ⌝ }
+    ensures { λ r. ⌜ r ≡ allFit (now (table .entry)) (now (cell .entry)) (now (tests .entry)) ⌝ }
 {
-    let x = cell[k];
-    let other = (k == 0) | (x != d);
-    let flat = leads(table, 0, x, cell, row[0]) & leads(table, 1, x, cell, row[1]);
-    if n == 2 {
-        return flat & other;
-    }
-    flat & leads(table, 2, x, cell, row[2]) & other
-}
-
-// Whether the cell of d, listed by its places, is good.
-fn is_good(n: u32, table: &[u32], d: u32, cell: &[u32], links: &[[u8; 3]]) -> bool
-    requires { ⌜ (MapDart n (now table) d) × (now cell ≡ places n (now table) d) × (now links ≡ linkRows n) ⌝ }
-    ensures { λ r. ⌜ r ≡ goodCell n (now (table .entry)) (cellOf n (now (table .entry)) d) ⌝ }
-{
-    for k in 0..links.len() {
-        if !fits(n, table, d, cell, k, links[k]) {
+    for k in 0..tests.len() {
+        if !fits(table, cell, tests[k]) {
             return false;
         }
     }
     true
+}
+
+// Whether no place but the first holds d.
+fn only_first(d: u32, cell: &[u32]) -> bool
+    ensures { λ r. ⌜ r ≡ onlyFirst d (now (cell .entry)) ⌝ }
+{
+    for k in 1..cell.len() {
+        if cell[k] == d {
+            return false;
+        }
+    }
+    true
+}
+
+// Whether the cell of d, listed by its places, is good: the steps of the listing need no test.
+fn is_good(n: u32, table: &[u32], d: u32, cell: &[u32], tests: &[[u8; 3]]) -> bool
+    requires { ⌜ (MapDart n (now table) d) × (now cell ≡ places n (now table) d) × (now tests ≡ testRows n) ⌝ }
+    ensures { λ r. ⌜ r ≡ goodCell n (now (table .entry)) (cellOf n (now (table .entry)) d) ⌝ }
+{
+    all_fit(table, cell, tests) & only_first(d, cell)
 }
 
 // Whether the cell of d is good, n = 2.
@@ -95,7 +102,7 @@ pub fn is_good_2d(table: &[u32], d: u32, cell: [u32; 8]) -> bool
     requires { ⌜ (MapDart 2 (now table) d) × (cell ≡ places 2 (now table) d) ⌝ }
     ensures { λ r. ⌜ r ≡ goodCell 2 (now (table .entry)) (cellOf 2 (now (table .entry)) d) ⌝ }
 {
-    is_good(2, table, d, &cell, &LINKS_2D)
+    is_good(2, table, d, &cell, &TESTS_2D)
 }
 
 // The same for n = 3.
@@ -103,7 +110,7 @@ pub fn is_good_3d(table: &[u32], d: u32, cell: [u32; 48]) -> bool
     requires { ⌜ (MapDart 3 (now table) d) × (cell ≡ places 3 (now table) d) ⌝ }
     ensures { λ r. ⌜ r ≡ goodCell 3 (now (table .entry)) (cellOf 3 (now (table .entry)) d) ⌝ }
 {
-    is_good(3, table, d, &cell, &LINKS_3D)
+    is_good(3, table, d, &cell, &TESTS_3D)
 }
 
 // Marks the darts as seen.

@@ -17,7 +17,7 @@ use Rattle.model.proofs.Maps.Rules.{rule-of, of-rule, crossed-far, dead-link}
 use Rattle.reading.specs.Near.{four, rules, turned}
 
 -- two tests that pass together are equal
-same-test : {a b : Bool} → (a ≡ true → b ≡ true) → (b ≡ true → a ≡ true) → a ≡ b
+pub same-test : {a b : Bool} → (a ≡ true → b ≡ true) → (b ≡ true → a ≡ true) → a ≡ b
 same-test {a} {b} f g = test a (λ e. e ∙ sym (f e)) (λ e. test b (λ q. g q ∙ sym q) (λ q. e ∙ sym q))
 
 module _ (p : ℕ → Bool) where

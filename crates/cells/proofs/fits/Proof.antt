@@ -1,67 +1,59 @@
 -- `cells::fits` meets its contract.
-use native.Mathlib.Omega.{arith}
 use borrow.Author.Needs.{needs}
-use Rattle.cells.proofs.Good.{placed, fits-flat, fits-solid}
+use Rattle.cells.specs.Good.{fitsRow}
 use Rattle.cells.proofs.fits.Statement.{statement}
 use Rattle.cells.proofs.fits.Tie as tie
 
-mul-x : tie.Need-mul-x
-mul-x c = let r = placed (c .before .before .pre) in omega arith
+array-read-from : tie.Need-array-read-from
+array-read-from c = search needs
 
-shared-slice-read-x : tie.Need-shared-slice-read-x
-shared-slice-read-x c = placed (c .before .before .before .pre) .inside
+cast-from : tie.Need-cast-from
+cast-from c = search needs
 
-array-read-leads : tie.Need-array-read-leads
-array-read-leads c = search needs
+mul-from : tie.Need-mul-from
+mul-from c = search needs
 
-leads-requires : tie.Need-leads-requires
-leads-requires c κs =
-    let r = placed (c .before .before .before .pre) in
-    (omega arith, r .leads 0 (omega arith))
+shared-slice-read-from : tie.Need-shared-slice-read-from
+shared-slice-read-from c = search needs
 
-array-read-leads-2 : tie.Need-array-read-leads-2
-array-read-leads-2 c = search needs
+array-read-link-in : tie.Need-array-read-link-in
+array-read-link-in c = search needs
 
-leads-requires-2 : tie.Need-leads-requires-2
-leads-requires-2 c κs =
-    let r = placed (c .before .before .before .before .pre) in
-    (omega arith, r .leads 1 (omega arith))
+cast-link-in : tie.Need-cast-link-in
+cast-link-in c = search needs
+
+link-in-requires : tie.Need-link-in-requires
+link-in-requires c κs = search needs
+
+array-read-result : tie.Need-array-read-result
+array-read-result c = search needs
+
+cast-result : tie.Need-cast-result
+cast-result c = search needs
+
+mul-result : tie.Need-mul-result
+mul-result c = search needs
+
+shared-slice-read-result : tie.Need-shared-slice-read-result
+shared-slice-read-result c = search needs
 
 returns : tie.Need-returns
-returns c =
-    let second = c .before in
-    let first = second .before in
-    let s = first .before .before .before .before in
-    fits-flat (s .pre) _ _ (c .if1 .taken) (first .leads .ensures) (second .leads2 .ensures)
-
-array-read-leads-3 : tie.Need-array-read-leads-3
-array-read-leads-3 c = search needs
-
-leads-requires-3 : tie.Need-leads-requires-3
-leads-requires-3 c κs =
-    let r = placed (c .before .before .before .before .before .before .pre) in
-    (omega arith, r .leads 2 (omega arith))
-
-returns-2 : tie.Need-returns-2
-returns-2 c =
-    let second = c .before .before in
-    let first = second .before in
-    let s = first .before .before .before .before in
-    let dim = s .pre .dart .table .dim in
-    let not-flat = c .before .if1 .left in
-    fits-solid (s .pre) _ _ _ (omega arith) (first .leads .ensures) (second .leads2 .ensures) (c .leads3 .ensures)
+unfolding fitsRow
+returns c = rw (c .before .link-in .ensures)
 
 pub fits-spec : {M : Type 1} → statement M
 fits-spec =
     tie.close
     (tie.spec
-    mul-x
-    shared-slice-read-x
-    array-read-leads
-    leads-requires
-    array-read-leads-2
-    leads-requires-2
-    returns
-    array-read-leads-3
-    leads-requires-3
-    returns-2)
+    array-read-from
+    cast-from
+    mul-from
+    shared-slice-read-from
+    array-read-link-in
+    cast-link-in
+    link-in-requires
+    array-read-result
+    cast-result
+    mul-result
+    shared-slice-read-result
+    returns)

@@ -1,4 +1,4 @@
--- `cells::is_good_2d` meets its contract: its table of links is `linkRows 2`, by computing.
+-- `cells::is_good_2d` meets its contract: its table of tests is `testRows 2`, by computing.
 use mathlib.Core.Path.{refl}
 use borrow.Author.Needs.{needs}
 use Rattle.cells.specs.Rows.{computed}

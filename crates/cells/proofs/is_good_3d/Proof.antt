@@ -1,4 +1,4 @@
--- `cells::is_good_3d` meets its contract: its table of links is `linkRows 3`, by computing.
+-- `cells::is_good_3d` meets its contract: its table of tests is `testRows 3`, by computing.
 use mathlib.Core.Path.{refl}
 use borrow.Author.Needs.{needs}
 use Rattle.cells.specs.Rows.{computed}
