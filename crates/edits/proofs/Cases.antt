@@ -1,8 +1,8 @@
--- An edit that is known to be another: what fits the one fits the other, and they make the same links.
+-- An edit that is known to be another: what fits the one fits the other, they make the same links, and leave the same slots.
 use Prim.Native.Nat.{ℕ}
 use mathlib.Core.Path.{_≡_, sym, ap, subst, _∙_}
 use mathlib.Core.List.{List}
-use Rattle.edits.specs.Edits.{editLink, Fit}
+use Rattle.edits.specs.Edits.{editLink, Untouched, Fit}
 use Rattle.edits.specs.declared.Edit.{Edit}
 
 module _ {edit case : Edit} (known : edit ≡ case) (n : ℕ) (t m a b : List ℕ) (size : ℕ) where
@@ -11,3 +11,6 @@ module _ {edit case : Edit} (known : edit ≡ case) (n : ℕ) (t m a b : List �
 
   pub known-link : (x j r : ℕ) → r ≡ editLink case n t m a b size x j → r ≡ editLink edit n t m a b size x j
   known-link x j r h = h ∙ sym (ap (λ (e : Edit). editLink e n t m a b size x j) known)
+
+  pub known-leaves : (x : ℕ) → Untouched case n t m a b size x → Untouched edit n t m a b size x
+  known-leaves x h = subst (λ (e : Edit). Untouched e n t m a b size x) (sym known) h

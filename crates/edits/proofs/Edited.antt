@@ -1,11 +1,12 @@
--- The table after an edit: as long as before, and each entry by `editLink`.
-use Prim.Native.Nat.{ℕ, _/_, _%_, _<_}
-use mathlib.Core.Path.{_≡_, sym}
+-- The table after an edit: as long as before, each link by `editLink`, and the links of an untouched slot as before.
+use Prim.Native.Nat.{ℕ, _*_, _<_}
+use mathlib.Core.Path.{_≡_, sym, _∙_}
 use mathlib.Core.List.{List}
-use lib.ListN.{length, getD}
-use Rattle.model.specs.Table.{retable}
-use Rattle.model.proofs.Lists.Scan.{length-tab, getD-tab}
-use Rattle.edits.specs.Edits.{editLink, editTable}
+use lib.ListN.{length}
+use Rattle.model.specs.Table.{slots, link, retable}
+use Rattle.model.proofs.Lists.Scan.{length-tab}
+use Rattle.model.proofs.Maps.Rules.{link-retable}
+use Rattle.edits.specs.Edits.{editLink, editTable, Untouched}
 use Rattle.edits.specs.declared.Edit.{Edit}
 
 module _ (edit : Edit) (n : ℕ) (t m a b : List ℕ) (size : ℕ) where
@@ -13,7 +14,11 @@ module _ (edit : Edit) (n : ℕ) (t m a b : List ℕ) (size : ℕ) where
   unfolding editTable retable
   edit-long = sym (length-tab _ (length t))
 
-  pub edit-entry : (e : ℕ) → e < length t
-      → getD (editTable edit n t m a b size) e 0 ≡ editLink edit n t m a b size (e / 4) (e % 4)
-  unfolding editTable retable
-  edit-entry e h = getD-tab _ (length t) e 0 h
+  pub edit-link : length t ≡ 4 * slots t → (x j : ℕ) → x < slots t → j < 4
+      → link (editTable edit n t m a b size) j x ≡ editLink edit n t m a b size x j
+  unfolding editTable
+  edit-link fits x j inside low = link-retable t (editLink edit n t m a b size) fits x j inside low
+
+  pub edit-leaves : length t ≡ 4 * slots t → (x : ℕ) → x < slots t → Untouched edit n t m a b size x
+      → (j : ℕ) → j < 4 → link (editTable edit n t m a b size) j x ≡ link t j x
+  edit-leaves fits x inside stays j low = edit-link fits x j inside low ∙ stays j low

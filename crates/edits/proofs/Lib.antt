@@ -1,6 +1,6 @@
-pub mod Relinked
 pub mod Edited
 pub mod Cases
+pub mod Untouched
 pub mod Pass
 pub mod Carrying
 pub mod Tables

@@ -1,35 +1,25 @@
--- The two rising passes: the one that counts the changes, entry by entry, and the one that writes them.
-use Prim.Native.Nat.{ℕ, _+_, _≤_, _<_}
+-- The two rising passes, the one that counts the changes (`counts-..`) and the one that writes them (`writes-..`): over a slot
+-- that both tables have alike at once, and over another link by link.
+use Prim.Native.Nat.{ℕ, _+_, _*_, _≤_, _<_}
 use mathlib.Core.Path.{_≡_, sym, ap, _∙_}
 use mathlib.Core.Logic.{_≢_}
 use mathlib.Core.List.{List, [], _∷_, _++_}
 use native.Mathlib.Numerals.{add-one}
 use native.Mathlib.Omega.{arith}
 use lib.ListN.{length, getD}
-use Rattle.model.specs.Journal.{Change}
+use Rattle.model.specs.Table.{unused, slots, link}
+use Rattle.model.specs.Journal.{Change, cursor}
 use Rattle.journal.specs.Records.{changesBelow, drafted, Scanned}
-use Rattle.journal.proofs.Changes.{below-same, below-count, below-most}
+use Rattle.journal.proofs.Changes.{below-same, below-count, below-most, below-alike}
 use Rattle.journal.proofs.Drafts.{draft-keeps}
-use Rattle.journal.proofs.Scans.{scan-same, scan-more}
-use Rattle.edits.specs.Passes.{Room, Passes}
+use Rattle.journal.proofs.Scans.{scan-same, scan-room, scan-more, scan-alike}
+use Rattle.edits.specs.Passes.{Counts, Room, Passes, Writing, Writes}
 
-module _ (t u : List ℕ) (long : length t ≡ length u) (e k : ℕ) (inside : e < length t)
-    (counted : k ≡ length (changesBelow e t u)) (x y : ℕ) (old : x ≡ getD t e 0) (new : y ≡ getD u e 0)
-  where
-    pub count-same : x ≡ y → k ≡ length (changesBelow (e + 1) t u)
-    count-same h =
-        rw (add-one e) (counted ∙ ap length (sym (below-same t u long e inside 0 (sym old ∙ h ∙ new))))
-
-    pub count-other : x ≢ y → k + 1 ≡ length (changesBelow (e + 1) t u)
-    count-other h =
-        let b = below-count t u long e inside 0 (λ p. h (old ∙ p ∙ sym new)) in
-        rw (add-one e) (omega arith)
-
--- ---- the entry e, with the values x and y, of the pass that writes
+-- ---- the entry e, with the values x and y
 
 module _ (e x y done : ℕ) (w : List ℕ) where
   pub pass-same : x ≡ y → Passes e x y done w done w
-  pass-same h t u j long inside old new s = scan-same t u j long e done w inside 0 s (sym old ∙ h ∙ new)
+  pass-same h t u j long inside old new s = scan-same t u j long e done w inside unused s (sym old ∙ h ∙ new)
 
   -- by what `write_change` ensures
   pub pass-other : x ≢ y → (w′ : List ℕ)
@@ -37,11 +27,79 @@ module _ (e x y done : ℕ) (w : List ℕ) where
       → w′ ≡ drafted i (cs ++ record { entry = e; old = x; new = y } ∷ []))
       → Passes e x y done w (done + 1) w′
   pass-other h w′ wrote t u j long inside old new s =
-      scan-more t u j long e done w inside 0 s (λ p. h (old ∙ p ∙ sym new)) w′
+      scan-more t u j long e done w inside unused s (λ p. h (old ∙ p ∙ sym new)) w′
       (λ i cs p q. rw (← old, ← new) (wrote i cs p q))
 
--- where the record has room, the pass keeps the length
-pub scan-length : (t u j : List ℕ) → length t ≡ length u → Room t u j → (e k : ℕ) (w : List ℕ) → e ≤ length t → Scanned t u j e k w → length w ≡ length j
+-- ---- the pass that writes
+
+-- where the record has room, it keeps the length
+pub scan-length : (t u j : List ℕ) → length t ≡ length u → Room t u j → (e k : ℕ) (w : List ℕ) → e ≤ length t
+    → Scanned t u j e k w → length w ≡ length j
 scan-length t u j long room e k w h s =
     let most = below-most t u long e h in
     ap length (s .draft) ∙ draft-keeps j (changesBelow e t u) (omega arith) .1
+
+pub writes-length : (t u : List ℕ) → length t ≡ length u → (e from : ℕ) (w₀ : List ℕ) (e′ done : ℕ) (w : List ℕ)
+    → e ≤ length t → e′ ≤ length t → Writing t u e from w₀ → Writes t u e from w₀ e′ done w → length w ≡ length w₀
+writes-length t u long e from w₀ e′ done w before after g wrote =
+    scan-length t u (g .journal) long (g .room) e′ done w after (wrote (g .journal) (g .scanned))
+    ∙ sym (scan-length t u (g .journal) long (g .room) e from w₀ before (g .scanned))
+
+-- ---- the slot x
+
+module _ (t u : List ℕ) (x : ℕ) where
+  pub counts-none : Counts t u (4 * x) (4 * x + 0) 0
+  counts-none =
+      let first : 4 * x + 0 ≡ 4 * x = omega arith in
+      rw first (omega arith)
+
+  pub writes-none : (done : ℕ) (w : List ℕ) → Writes t u (4 * x) done w (4 * x + 0) done w
+  writes-none done w j s =
+      let first : 4 * x + 0 ≡ 4 * x = omega arith in
+      rw first s
+
+-- the entry behind link j
+behind : (x j : ℕ) → 4 * x + j + 1 ≡ 4 * x + (j + 1)
+behind x j = omega arith
+
+module _ (t u : List ℕ) (long : length t ≡ length u) (fits : length t ≡ 4 * slots t) (x : ℕ) (inside : x < slots t) where
+  -- both tables have it alike
+  module _ (same : (j : ℕ) → j < 4 → link u j x ≡ link t j x) where
+    alike : (j : ℕ) → j < 4 → getD t (4 * x + j) unused ≡ getD u (4 * x + j) unused
+    unfolding link
+    alike j low = sym (same j low)
+
+    pub counts-alike : Counts t u (4 * x) (4 * x + 4) 0
+    counts-alike = let b = ap length (below-alike t u long (4 * x) 4 unused (omega arith) alike) in omega arith
+
+    pub writes-alike : (done : ℕ) (w : List ℕ) → Writes t u (4 * x) done w (4 * x + 4) done w
+    writes-alike done w j s = scan-alike t u j long (4 * x) 4 unused (omega arith) alike s
+
+  -- link j of it is `old` in t, and `new` in u
+  module _ (j : ℕ) (low : j < 4) (old new : ℕ) (before : old ≡ link t j x) (after : new ≡ link u j x) where
+    module _ (k : ℕ) (counted : Counts t u (4 * x) (4 * x + j) k) where
+      pub counts-same : old ≡ new → Counts t u (4 * x) (4 * x + (j + 1)) k
+      unfolding link
+      counts-same h =
+          let b = ap length (below-same t u long (4 * x + j) (omega arith) unused (sym before ∙ h ∙ after)) in
+          rw (← behind x j, add-one (4 * x + j)) (omega arith)
+
+      pub counts-other : old ≢ new → Counts t u (4 * x) (4 * x + (j + 1)) (k + 1)
+      unfolding link
+      counts-other h =
+          let b = below-count t u long (4 * x + j) (omega arith) unused (λ p. h (before ∙ p ∙ sym after)) in
+          rw (← behind x j, add-one (4 * x + j)) (omega arith)
+
+    module _ (from : ℕ) (w₀ : List ℕ) (done : ℕ) (w : List ℕ) (wrote : Writes t u (4 * x) from w₀ (4 * x + j) done w) where
+      -- what `write_entry` requires
+      pub writes-room : Writing t u (4 * x) from w₀ → old ≢ new → cursor w + (3 * done + 5) ≤ length w
+      unfolding link
+      writes-room g h =
+          scan-room t u (g .journal) long (4 * x + j) done w (omega arith) unused (wrote (g .journal) (g .scanned))
+          (λ p. h (before ∙ p ∙ sym after)) (g .room)
+
+      -- by what it ensures
+      pub writes-more : (next : ℕ) (w′ : List ℕ) → Passes (4 * x + j) old new done w next w′
+          → Writes t u (4 * x) from w₀ (4 * x + (j + 1)) next w′
+      unfolding link
+      writes-more next w′ passes i s = rw (← behind x j) (passes t u i long (omega arith) before after (wrote i s))

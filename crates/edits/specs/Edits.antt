@@ -1,12 +1,12 @@
--- An operation's change as a value: `editLink` has the links that it makes, `editTable` the table, and `Fit` what the lent
--- lists must be for it.
+-- An operation's change as a value: `editLink` has the links that it makes, `editTable` the table, `Untouched` the slots that
+-- it leaves, and `Fit` what the lent lists must be for it.
 use Prim.Native.Nat.{ℕ, _*_, _<_}
 use mathlib.Core.Path.{_≡_}
 use mathlib.Core.Bool.{false}
 use mathlib.Core.List.{List}
 use lib.ListN.{length, take}
 use Rattle.model.specs.Checks.{pass, dimOk}
-use Rattle.model.specs.Table.{unused, slots, live, relinkAt, retable}
+use Rattle.model.specs.Table.{unused, slots, link, live, relinkAt, retable}
 use Rattle.model.specs.Cell.{cellSize}
 use Rattle.model.specs.Add.{addedLink}
 use Rattle.model.specs.Sew.{sewnLink, unsewnLink}
@@ -30,6 +30,10 @@ editLink Split n t m a b size x j = halvedLink n t (take size a) (take (n * size
 
 unfoldable pub editTable : Edit → ℕ → List ℕ → List ℕ → List ℕ → List ℕ → ℕ → List ℕ
 editTable edit n t m a b size = retable t (editLink edit n t m a b size)
+
+-- the edit leaves the links of the slot x
+abbrev pub Untouched : Edit → ℕ → List ℕ → List ℕ → List ℕ → List ℕ → ℕ → ℕ → Type 0
+Untouched edit n t m a b size x = (j : ℕ) → j < 4 → editLink edit n t m a b size x j ≡ link t j x
 
 -- ---- what the lent lists must be
 

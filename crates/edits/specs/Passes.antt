@@ -1,10 +1,15 @@
--- The rising pass that writes a record: the room that it needs, and one entry of it.
+-- The two rising passes over the slots: what the one counts, the room that the other needs, and what it writes.
 use Prim.Native.Nat.{ℕ, _+_, _*_, _≤_, _<_}
 use mathlib.Core.Path.{_≡_}
 use mathlib.Core.List.{List}
 use lib.ListN.{length, getD}
+use Rattle.model.specs.Table.{unused}
 use Rattle.model.specs.Journal.{cursor, changesFrom}
-use Rattle.journal.specs.Records.{Scanned}
+use Rattle.journal.specs.Records.{changesBelow, Scanned}
+
+-- k of the changes from t to u are at the entries from e on and below e′
+abbrev pub Counts : (t u : List ℕ) (e e′ k : ℕ) → Type 0
+Counts t u e e′ k = length (changesBelow e t u) + k ≡ length (changesBelow e′ t u)
 
 -- in j the record of the changes from t to u has room
 abbrev pub Room : (t u j : List ℕ) → Type 0
@@ -13,5 +18,15 @@ Room t u j = cursor j + (3 * length (changesFrom 0 t u) + 2) ≤ length j
 -- whatever tables have the values x and y at the entry e: the pass that has met the entries below e, and has met e then
 abbrev pub Passes : (e x y done : ℕ) (w : List ℕ) (next : ℕ) (w′ : List ℕ) → Type 0
 Passes e x y done w next w′ =
-    (t u j : List ℕ) → length t ≡ length u → e < length t → x ≡ getD t e 0 → y ≡ getD u e 0
+    (t u j : List ℕ) → length t ≡ length u → e < length t → x ≡ getD t e unused → y ≡ getD u e unused
     → Scanned t u j e done w → Scanned t u j (e + 1) next w′
+
+-- w has the draft of the changes below the entry e, done of them, of a record that has room
+pub record Writing (t u : List ℕ) (e done : ℕ) (w : List ℕ) : Type 0 where
+  pub journal : List ℕ
+  pub room : Room t u journal
+  pub scanned : Scanned t u journal e done w
+
+-- whatever journal the pass began with: it has met the entries below e, and has met those below e′ then
+abbrev pub Writes : (t u : List ℕ) (e done : ℕ) (w : List ℕ) (e′ next : ℕ) (w′ : List ℕ) → Type 0
+Writes t u e done w e′ next w′ = (j : List ℕ) → Scanned t u j e done w → Scanned t u j e′ next w′

@@ -1,20 +1,19 @@
-// The change that an operation makes: worked out from the old table entry by entry, refused if its record does not fit, else
+// The change that an operation makes: worked out from the old table slot by slot, refused if its record does not fit, else
 // written as a record in a rising pass and put into the table from that record, as redo does.
 ghost use mathlib.Core.Path.{_≡_};
 ghost use Prim.Native.Nat.{_+_, _*_, _<_, _≤_};
 ghost use mathlib.Core.Logic.{_≢_};
-ghost use mathlib.Core.Bool.{_&&_};
-ghost use lib.ListN.{length, getD};
-ghost use lib.Dec.{eqb};
+ghost use mathlib.Core.Bool.{false};
+ghost use lib.ListN.{length};
 ghost use Rattle.model.specs.Meaning.Numbers.{JournalRule};
 ghost use Rattle.model.specs.Journal.{cursor, changesFrom};
-ghost use Rattle.model.specs.Table.{live, relinkAt};
+ghost use Rattle.model.specs.Table.{slots, relinkAt};
 ghost use Rattle.model.specs.Sew.{sewnLink, unsewnLink};
 ghost use Rattle.reading.specs.Sized.{Sized};
 ghost use Rattle.journal.specs.Records.{drafted};
-ghost use Rattle.edits.specs.Edits.{editLink, editTable, Fit, FitSew, FitUnsew};
+ghost use Rattle.edits.specs.Edits.{editLink, editTable, Untouched, Fit, FitSew, FitUnsew};
 ghost use Rattle.edits.specs.Carried.{Carried};
-ghost use Rattle.edits.specs.Passes.{Room, Passes};
+ghost use Rattle.edits.specs.Passes.{Counts, Room, Passes, Writing, Writes};
 
 // What an operation makes of the table, from the lists that are lent with it.
 pub enum Edit {
@@ -25,39 +24,28 @@ pub enum Edit {
     Split,
 }
 
-// Whether link j of x is the link i of a live slot.
-fn relinks(table: &[u32], i: u32, x: u32, j: u32) -> bool
-    ensures { λ r. ⌜ r ≡ (eqb j i && live (now (table .entry)) x) ⌝ }
-{
-    if j == i {
-        reading::live(table, x)
-    } else {
-        false
-    }
-}
-
 // Link j of the slot x after sew by link i, from the partners there and back.
 fn after_sew(table: &[u32], there: &[u32], back: &[u32], i: u32, x: u32, j: u32) -> u32
-    requires { ⌜ (FitSew (now table) i (now there) (now back)) × (j < 4) ⌝ }
+    requires { ⌜ (FitSew (now table) i (now there) (now back)) × (x < slots (now table)) × (j < 4) ⌝ }
     ensures { λ r. ⌜ r ≡ relinkAt (now (table .entry)) i
         (sewnLink (now (table .entry)) i (now (there .entry)) (now (back .entry))) x j ⌝ }
 {
-    if relinks(table, i, x, j) {
+    if j == i {
         sides::sewn_link(table, there, back, i, x)
     } else {
-        reading::link(table, j as usize, x)
+        reading::link_in(table, j as usize, x)
     }
 }
 
 // Link j of the slot x after unsew by link i, from the marks of a side.
 fn after_unsew(table: &[u32], side: &[u8], i: u32, x: u32, j: u32) -> u32
-    requires { ⌜ (FitUnsew (now table) i (now side)) × (j < 4) ⌝ }
+    requires { ⌜ (FitUnsew (now table) i (now side)) × (x < slots (now table)) × (j < 4) ⌝ }
     ensures { λ r. ⌜ r ≡ relinkAt (now (table .entry)) i (unsewnLink (now (table .entry)) i (now (side .entry))) x j ⌝ }
 {
-    if relinks(table, i, x, j) {
+    if j == i {
         sides::unsewn_link(table, side, i, x)
     } else {
-        reading::link(table, j as usize, x)
+        reading::link_in(table, j as usize, x)
     }
 }
 
@@ -74,7 +62,8 @@ fn new_link(
     x: u32,
     j: u32,
 ) -> u32
-    requires { ⌜ (Fit edit n (now table) (now marks) (now a) (now b) (now c) size) × (j < 4) ⌝ }
+    requires { ⌜ Fit edit n (now table) (now marks) (now a) (now b) (now c) size ⌝ }
+    requires { ⌜ (x < slots (now table)) × (j < 4) ⌝ }
     ensures { λ r. ⌜ r ≡ editLink edit n (now (table .entry)) (now (marks .entry)) (now (a .entry)) (now (b .entry)) size x j ⌝ }
 {
     match edit {
@@ -86,8 +75,8 @@ fn new_link(
     }
 }
 
-// Entry e of the table after the edit.
-fn new_entry(
+// Whether the slot x is one of those that the edit may change: a test of a few loads, by which the passes go over the others.
+fn touches(
     edit: Edit,
     n: u32,
     table: &[u32],
@@ -96,25 +85,52 @@ fn new_entry(
     b: &[u32],
     c: &[u32],
     size: u32,
-    e: usize,
+    x: u32,
+) -> bool
+    requires { ⌜ Fit edit n (now table) (now marks) (now a) (now b) (now c) size ⌝ }
+    requires { ⌜ x < slots (now table) ⌝ }
+    ensures { λ r. ⌜ (r ≡ false
+        → Untouched edit n (now (table .entry)) (now (marks .entry)) (now (a .entry)) (now (b .entry)) size x) ⌝ }
+{
+    match edit {
+        Edit::Add => layers::listed(a, c, size, x),
+        Edit::Sew(_) => sides::has_partner(a, b, x),
+        Edit::Unsew(i) => sides::unsews(table, marks, i, x),
+        Edit::Remove => layers::near_marked(n, table, marks, x),
+        Edit::Split => layers::listed(b, c, n * size, x) | layers::listed(a, c, size, x),
+    }
+}
+
+// How many links of the slot x the edit changes.
+fn count_slot(
+    edit: Edit,
+    n: u32,
+    table: &[u32],
+    marks: &[u8],
+    a: &[u32],
+    b: &[u32],
+    c: &[u32],
+    size: u32,
+    x: u32,
 ) -> u32
     requires { ⌜ Fit edit n (now table) (now marks) (now a) (now b) (now c) size ⌝ }
-    requires { ⌜ (Sized (now table)) × (e < length (now table)) ⌝ }
-    ensures { λ r. ⌜ r
-        ≡ getD (editTable edit n (now (table .entry)) (now (marks .entry)) (now (a .entry)) (now (b .entry)) size) e 0 ⌝ }
+    requires { ⌜ (Sized (now table)) × (x < slots (now table)) ⌝ }
+    ensures few { λ r. ⌜ r ≤ 4 ⌝ }
+    ensures { λ r. ⌜ Counts (now (table .entry))
+        (editTable edit n (now (table .entry)) (now (marks .entry)) (now (a .entry)) (now (b .entry)) size)
+        (4 * x) (4 * x + 4) r ⌝ }
 {
-    new_link(
-        edit,
-        n,
-        table,
-        marks,
-        a,
-        b,
-        c,
-        size,
-        (e / 4) as u32,
-        (e % 4) as u32,
-    )
+    if !touches(edit, n, table, marks, a, b, c, size, x) {
+        return 0;
+    }
+    let mut changed = 0;
+    for j in 0..4 {
+        let new = new_link(edit, n, table, marks, a, b, c, size, x, j);
+        if reading::link_in(table, j as usize, x) != new {
+            changed += 1;
+        }
+    }
+    changed
 }
 
 // How many entries the edit changes.
@@ -133,30 +149,60 @@ fn count_changes(
     ensures { λ r. ⌜ r ≡ length (changesFrom 0 (now (table .entry))
         (editTable edit n (now (table .entry)) (now (marks .entry)) (now (a .entry)) (now (b .entry)) size)) ⌝ }
 {
+    let end = (table.len() / 4) as u32;
     let mut k = 0;
-    for e in 0..table.len() {
-        if table[e] != new_entry(edit, n, table, marks, a, b, c, size, e) {
-            k += 1;
-        }
+    for x in 0..end {
+        k += count_slot(edit, n, table, marks, a, b, c, size, x);
     }
     k
 }
 
 // Writes the change of the entry e, if it is one, as the triple number `done`; the number of the next triple.
-fn write_entry(journal: &mut [u32], done: usize, e: usize, old: u32, new: u32) -> usize
-    requires { ⌜ (e < 262144) × (done ≤ e) ⌝ }
+fn write_entry(journal: &mut [u32], done: usize, e: u32, old: u32, new: u32) -> usize
     requires { ⌜ (old ≢ new → cursor (now journal) + (3 * done + 5) ≤ length (now journal)) ⌝ }
-    ensures next { λ r. ⌜ r ≤ e + 1 ⌝ }
     ensures { λ r. ⌜ Passes e old new done (now (journal .entry)) r (now (journal .exit)) ⌝ }
 {
     if old == new {
         return done;
     }
-    journal::write_change(journal, done, e as u32, old, new);
+    journal::write_change(journal, done, e, old, new);
     done + 1
 }
 
-// Writes the triples of the record at the cursor, by rising entry.
+// Writes the changes of the slot x, `from` being the number of the first triple; the number of the next triple.
+fn write_slot(
+    edit: Edit,
+    n: u32,
+    table: &[u32],
+    journal: &mut [u32],
+    marks: &[u8],
+    a: &[u32],
+    b: &[u32],
+    c: &[u32],
+    size: u32,
+    from: usize,
+    x: u32,
+) -> usize
+    requires { ⌜ Fit edit n (now table) (now marks) (now a) (now b) (now c) size ⌝ }
+    requires { ⌜ (Sized (now table)) × (x < slots (now table)) ⌝ }
+    requires { ⌜ Writing (now table) (editTable edit n (now table) (now marks) (now a) (now b) size) (4 * x) from (now journal) ⌝ }
+    ensures { λ r. ⌜ Writes (now (table .entry))
+        (editTable edit n (now (table .entry)) (now (marks .entry)) (now (a .entry)) (now (b .entry)) size)
+        (4 * x) from (now (journal .entry)) (4 * x + 4) r (now (journal .exit)) ⌝ }
+{
+    if !touches(edit, n, table, marks, a, b, c, size, x) {
+        return from;
+    }
+    let mut done = from;
+    for j in 0..4 {
+        let old = reading::link_in(table, j as usize, x);
+        let new = new_link(edit, n, table, marks, a, b, c, size, x, j);
+        done = write_entry(journal, done, 4 * x + j, old, new);
+    }
+    done
+}
+
+// Writes the triples of the record at the cursor, by rising entry, and stops behind the last of them.
 fn write_changes(
     edit: Edit,
     n: u32,
@@ -167,17 +213,21 @@ fn write_changes(
     b: &[u32],
     c: &[u32],
     size: u32,
+    changes: usize,
 )
     requires { ⌜ Fit edit n (now table) (now marks) (now a) (now b) (now c) size ⌝ }
     requires { ⌜ Sized (now table) ⌝ }
     requires { ⌜ Room (now table) (editTable edit n (now table) (now marks) (now a) (now b) size) (now journal) ⌝ }
+    requires { ⌜ changes
+        ≡ length (changesFrom 0 (now table) (editTable edit n (now table) (now marks) (now a) (now b) size)) ⌝ }
     ensures { λ _. ⌜ now (journal .exit) ≡ drafted (now (journal .entry)) (changesFrom 0 (now (table .entry))
         (editTable edit n (now (table .entry)) (now (marks .entry)) (now (a .entry)) (now (b .entry)) size)) ⌝ }
 {
     let mut done = 0;
-    for e in 0..table.len() {
-        let new = new_entry(edit, n, table, marks, a, b, c, size, e);
-        done = write_entry(journal, done, e, table[e], new);
+    let mut x = 0;
+    while done < changes {
+        done = write_slot(edit, n, table, journal, marks, a, b, c, size, done, x);
+        x += 1;
     }
 }
 
@@ -214,7 +264,18 @@ pub fn commit(
         };
     }
     let start = journal[0] as usize;
-    write_changes(edit, n, table, journal, marks, a, b, c, size);
+    write_changes(
+        edit,
+        n,
+        table,
+        journal,
+        marks,
+        a,
+        b,
+        c,
+        size,
+        changes as usize,
+    );
     journal::close_record(journal, changes);
     journal::put_record(true, table, journal, start, changes as usize);
     Committed {

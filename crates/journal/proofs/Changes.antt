@@ -30,6 +30,10 @@ changes-append (x ∷ xs) (y ∷ ys) xs′ ys′ e l =
     changes-other e x y (xs ++ xs′) (ys ++ ys′) p
     ∙ ap (λ (r : List Change). record { entry = e; old = x; new = y } ∷ r) next ∙ sym (rw (changes-other e x y xs ys p)))
 
+no-changes : (cs : List Change) → length cs ≡ 0 → cs ≡ []
+no-changes [] h = refl
+no-changes (c ∷ cs) h = absurd (omega arith)
+
 module _ (t u : List ℕ) (long : length t ≡ length u) where
   pub below-none : changesBelow 0 t u ≡ []
   unfolding changesBelow changesFrom
@@ -39,16 +43,31 @@ module _ (t u : List ℕ) (long : length t ≡ length u) where
   unfolding changesBelow
   below-all = rw (take-length t, long, take-length u)
 
-  -- those below an entry are no more than all
-  pub below-most : (e : ℕ) → e ≤ length t → length (changesBelow e t u) ≤ length (changesFrom 0 t u)
+  -- those from an entry on stand behind those below it
+  below-rest : (e : ℕ) → e ≤ length t → (r : List Change) × (changesFrom 0 t u ≡ changesBelow e t u ++ r)
   unfolding changesBelow
-  below-most e h =
+  below-rest e h =
       let lt = length-take-le e t h in
       let lu = length-take-le e u (omega arith) in
       let p = changes-append (take e t) (take e u) (drop e t) (drop e u) 0 (omega arith) in
-      let q = length-append (changesFrom 0 (take e t) (take e u)) (changesFrom (0 + length (take e t)) (drop e t) (drop e u)) in
-      let r = ap length (rw (take-append-drop e t, take-append-drop e u) at p) in
+      (_, rw (take-append-drop e t, take-append-drop e u) at p)
+
+  -- those below an entry are no more than all ..
+  pub below-most : (e : ℕ) → e ≤ length t → length (changesBelow e t u) ≤ length (changesFrom 0 t u)
+  below-most e h =
+      let (r, p) = below-rest e h in
+      let l = ap length p in
+      let q = length-append (changesBelow e t u) r in
       omega arith
+
+  -- .. and where they are as many, they are all
+  pub below-full : (e : ℕ) → e ≤ length t → length (changesFrom 0 t u) ≤ length (changesBelow e t u)
+      → changesBelow e t u ≡ changesFrom 0 t u
+  below-full e h all =
+      let (r, p) = below-rest e h in
+      let l = ap length p in
+      let q = length-append (changesBelow e t u) r in
+      sym (p ∙ ap (λ (cs : List Change). changesBelow e t u ++ cs) (no-changes r (omega arith)) ∙ append-nil _)
 
   module _ (e : ℕ) (inside : e < length t) (d : ℕ) where
     abbrev x : ℕ

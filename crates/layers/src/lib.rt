@@ -1,12 +1,14 @@
 // The links that remove, add and split give, one entry at a time, and the lists that they are found by.
 use reading::link;
+use reading::link_in;
 use reading::live;
 use reading::slots;
 ghost use mathlib.Core.Path.{_≡_};
-ghost use mathlib.Core.Bool.{false};
+ghost use mathlib.Core.Bool.{false, _||_};
 ghost use mathlib.Core.List.{[], _∷_};
 ghost use Prim.Native.Nat.{ℕ, _*_, _/_, _%_, _≤_, _<_, min};
 ghost use lib.ListN.{length, getD, take};
+ghost use lib.Dec.{ltb};
 ghost use Rattle.model.specs.Lists.{ones, indexOf};
 ghost use Rattle.model.specs.Checks.{pass, dimOk, tableOk};
 ghost use Rattle.model.specs.Table.{slots, link, walk, unusedSlots};
@@ -101,6 +103,14 @@ pub fn removed_link(n: u32, table: &[u32], marks: &[u8], x: u32, j: u32) -> u32
     }
 }
 
+// Whether x is marked, or its link n leads to a marked dart: remove changes the links of no other slot.
+pub fn near_marked(n: u32, table: &[u32], marks: &[u8], x: u32) -> bool
+    requires { ⌜ (Layer n (now table) (now marks)) × (x < slots (now table)) ⌝ }
+    ensures { λ r. ⌜ r ≡ (marked (now (marks .entry)) x || marked (now (marks .entry)) (link (now (table .entry)) n x)) ⌝ }
+{
+    (marks[x as usize] != 0) | (mark(marks, link_in(table, n as usize, x)) != 0)
+}
+
 // ---- slots listed with their ranks
 
 // Where x is listed, it becomes the word r and r its rank; how many are listed then.
@@ -162,6 +172,14 @@ fn index_of(words: &[u32], rank: &[u32], size: u32, x: u32) -> u32
         return size;
     }
     if words[r as usize] == x { r } else { size }
+}
+
+// Whether x is among the first `size` words.
+pub fn listed(words: &[u32], rank: &[u32], size: u32, x: u32) -> bool
+    requires { ⌜ Ranked size (now words) (now rank) ⌝ }
+    ensures { λ r. ⌜ r ≡ ltb (indexOf x (take size (now (words .entry)))) size ⌝ }
+{
+    index_of(words, rank, size, x) < size
 }
 
 // ---- add

@@ -2,12 +2,14 @@
 use Prim.Native.Nat.{ℕ, _<_}
 use mathlib.Core.Path.{_≡_, sym, _∙_}
 use mathlib.Core.Logic.{_≢_}
-use mathlib.Core.Bool.{true, false}
+use mathlib.Core.Bool.{true, false, not, _||_}
 use mathlib.Core.List.{List}
 use lib.ListN.{length, getD}
-use borrow.Author.Tests.{eq-eqb, ne-eqb}
+use lib.Dec.{eqb}
+use borrow.Author.Tests.{eq-eqb, ne-eqb, eqb-true, not-false}
 use Rattle.model.specs.Table.{unused, link}
 use Rattle.model.specs.Sew.{sewnLink, unsews, unsewnLink}
+use Rattle.model.proofs.Lists.Scan.{or-false}
 use Rattle.model.proofs.Sets.Closure.{getD-any}
 
 -- ---- sew
@@ -34,6 +36,11 @@ module _ (t p q : List ℕ) (i x : ℕ) (there : x < length p) (back : x < lengt
     pub sewn-own : getD q x 0 ≡ unused → link t i x ≡ sewnLink t i p q x
     unfolding sewnLink
     sewn-own h = rw (eq-eqb _ _ lone, eq-eqb _ _ (sym q-entry ∙ h), sewnLink)
+
+  pub sewn-none : (not (eqb (getD p x 0) unused) || not (eqb (getD q x 0) unused)) ≡ false → link t i x ≡ sewnLink t i p q x
+  sewn-none h =
+      let (one, other) = or-false (not (eqb (getD p x 0) unused)) (not (eqb (getD q x 0) unused)) h in
+      sewn-own (eqb-true _ _ (not-false _ one)) (eqb-true _ _ (not-false _ other))
 
 -- ---- unsew
 

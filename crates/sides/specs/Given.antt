@@ -64,9 +64,9 @@ pub record SewnAt (t there back : List ℕ) (i x : ℕ) : Type 0 where
   pub index : i < 4
   pub inside : x < slots t
 
--- x is a live slot, and the marks have one for each slot
+-- x is a slot, and the marks have one for each slot
 pub record UnsewnAt (t marks : List ℕ) (i x : ℕ) : Type 0 where
-  pub linked : Linked t
+  pub fits : length t ≡ 4 * slots t
   pub long : length marks ≡ slots t
   pub index : i < 4
-  pub lives : live t x ≡ true
+  pub inside : x < slots t

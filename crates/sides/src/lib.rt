@@ -1,8 +1,12 @@
 // Pairing two sides for sew, by a walk of both at once over a queue that the caller lends; and the links that sew and unsew give.
 ghost use mathlib.Core.Path.{_≡_};
+ghost use mathlib.Core.Bool.{false};
+ghost use mathlib.Core.List.{List};
 ghost use Prim.Native.Nat.{ℕ, _<_};
 ghost use lib.ListN.{length, getD, replicate};
-ghost use Rattle.model.specs.Sew.{partners, sewnLink, unsewnLink};
+ghost use Rattle.model.specs.Table.{link};
+ghost use Rattle.model.specs.Reach.{inSet};
+ghost use Rattle.model.specs.Sew.{partners, sewnLink, unsews, unsewnLink};
 ghost use Rattle.sides.specs.Walk.{Adds, Is, By, Below};
 ghost use Rattle.sides.specs.Given.{Sides, Given, Ready, Stepping, Meeting, SewnAt, UnsewnAt};
 ghost use Rattle.sides.specs.Paired.{found, Paired};
@@ -151,15 +155,41 @@ pub fn sewn_link(table: &[u32], there: &[u32], back: &[u32], i: u32, x: u32) -> 
     reading::link_in(table, i as usize, x)
 }
 
+// Whether x has a partner there or back: sew changes link i of no other slot.
+pub fn has_partner(there: &[u32], back: &[u32], x: u32) -> bool
+    requires { ⌜ (x < length (now there)) × (x < length (now back)) ⌝ }
+    ensures { λ r. ⌜ (r ≡ false → (t : List ℕ) (i : ℕ) → link t i x ≡ sewnLink t i (now (there .entry)) (now (back .entry)) x) ⌝ }
+{
+    (there[x as usize] != UNUSED) | (back[x as usize] != UNUSED)
+}
+
+// Whether y is in the side; past the marks it is not.
+fn in_side(side: &[u8], y: u32) -> bool
+    ensures { λ r. ⌜ r ≡ inSet (now (side .entry)) y ⌝ }
+{
+    let at = y as usize;
+    if side.len() <= at {
+        return false;
+    }
+    side[at] == 1
+}
+
+// Whether x or its partner is in the side.
+pub fn unsews(table: &[u32], side: &[u8], i: u32, x: u32) -> bool
+    requires { ⌜ UnsewnAt (now table) (now side) i x ⌝ }
+    ensures { λ r. ⌜ r ≡ unsews (now (table .entry)) i (now (side .entry)) x ⌝ }
+{
+    (side[x as usize] == 1) | in_side(side, reading::link_in(table, i as usize, x))
+}
+
 // Link i of x after unsew, from the marks of a side.
 pub fn unsewn_link(table: &[u32], side: &[u8], i: u32, x: u32) -> u32
     requires { ⌜ UnsewnAt (now table) (now side) i x ⌝ }
     ensures { λ r. ⌜ r ≡ unsewnLink (now (table .entry)) i (now (side .entry)) x ⌝ }
 {
-    let y = reading::link_in(table, i as usize, x);
-    if (side[x as usize] == 1) | (side[y as usize] == 1) {
+    if unsews(table, side, i, x) {
         x
     } else {
-        y
+        reading::link_in(table, i as usize, x)
     }
 }

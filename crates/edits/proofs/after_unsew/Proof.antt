@@ -1,39 +1,21 @@
 -- `edits::after_unsew` meets its contract.
 use mathlib.Core.Path.{sym, _∙_}
 use borrow.Author.Needs.{needs}
-use Rattle.edits.proofs.Relinked.{relinks-live, relinks-here, relinks-elsewhere}
+use Rattle.model.proofs.Maps.Rules.{at-same, at-other}
 use Rattle.edits.proofs.after_unsew.Statement.{statement}
 use Rattle.edits.proofs.after_unsew.Tie as tie
 
-relinks-requires : tie.Need-relinks-requires
-relinks-requires c κs = search needs
-
 unsewn-link-requires : tie.Need-unsewn-link-requires
-unsewn-link-requires c κs =
-    let s = c .before .before .before .before in
-    let fit = s .pre .0 in
-    let here = sym (c .before .relinks .ensures) ∙ c .if1 .taken in
-    record {
-      linked = fit .relinks .linked;
-      long = fit .long;
-      index = fit .relinks .index;
-      lives = relinks-live (fit .relinks) (s .args .x) (s .args .j) here;
-    }
+unsewn-link-requires c κs = search needs
 
-link-requires : tie.Need-link-requires
-link-requires c κs = search needs
+link-in-requires : tie.Need-link-in-requires
+link-in-requires c κs = search needs
 
 returns : tie.Need-returns
-returns c =
-    let s = c .before .before .before .before .before in
-    let here = sym (c .before .before .relinks .ensures) ∙ c .before .if1 .taken in
-    c .unsewn-link .ensures ∙ relinks-here (s .pre .0 .relinks) (s .args .x) (s .args .j) here
+returns c = rw (c .before .if1 .taken) (c .unsewn-link .ensures ∙ sym (at-same _ _ _ _))
 
 returns-2 : tie.Need-returns-2
-returns-2 c =
-    let s = c .before .before .before .before .before in
-    let elsewhere = sym (c .before .before .relinks .ensures) ∙ c .before .if1 .left in
-    c .link .ensures ∙ relinks-elsewhere (s .pre .0 .relinks) (s .args .x) (s .args .j) (s .pre .1) elsewhere
+returns-2 c = c .link-in .ensures ∙ sym (at-other _ _ _ _ _ (c .before .if1 .left))
 
 pub after-unsew-spec : {M : Type 1} → statement M
-after-unsew-spec = tie.close (tie.spec relinks-requires unsewn-link-requires link-requires returns returns-2)
+after-unsew-spec = tie.close (tie.spec unsewn-link-requires link-in-requires returns returns-2)

@@ -36,13 +36,16 @@ slice-read-start c = search needs
 cast-start : tie.Need-cast-start
 cast-start c = omega (arith, c .slice-known3 .given 0)
 
+cast-write-changes : tie.Need-cast-write-changes
+cast-write-changes c = search needs
+
 write-changes-requires : tie.Need-write-changes-requires
 write-changes-requires c κs =
     let e = c .before .before .before in
     let f = e .before in
     let p = start f .pre in
     let count = f .before .before .count-changes .ensures in
-    (p .0, (p .1 .0, fits-room _ _ _ _ count _ (f .record-fits .ensures) (not-false _ (e .if1 .left))))
+    (p .0, (p .1 .0, (fits-room _ _ _ _ count _ (f .record-fits .ensures) (not-false _ (e .if1 .left)), count)))
 
 -- where the test has passed, from where the triples stand, and from where the record stands
 abbrev written : tie.After-write-changes → tie.Else1
@@ -103,6 +106,7 @@ commit-spec =
     returns
     slice-read-start
     cast-start
+    cast-write-changes
     write-changes-requires
     close-record-requires
     cast-put-record

@@ -1,80 +1,73 @@
--- `edits::count_changes` meets its contract. The loop's invariant: k entries below e are changed.
-use Prim.Native.Nat.{_≤_, _-_}
+-- `edits::count_changes` meets its contract. The loop's invariant: k entries of the slots below x are changed.
+use Prim.Native.Nat.{_+_, _*_, _-_, _≤_}
 use mathlib.Core.Path.{_≡_, refl, sym, ap, _∙_}
-use mathlib.Core.Logic.{⊎-elim}
 use native.Mathlib.Omega.{arith}
 use lib.ListN.{length}
 use borrow.Author.Needs.{needs}
+use Rattle.model.specs.Table.{slots}
 use Rattle.journal.specs.Records.{changesBelow}
 use Rattle.journal.proofs.Changes.{below-none, below-all}
 use Rattle.edits.specs.Edits.{editTable}
 use Rattle.edits.proofs.Edited.{edit-long}
-use Rattle.edits.proofs.Pass.{count-same, count-other}
 use Rattle.edits.proofs.count_changes.Statement.{statement}
 use Rattle.edits.proofs.count_changes.Tie as tie
 
 abbrev Inv-loop : tie.InvT-loop
-Inv-loop edit n table marks a b c size k₀ e₀ e-end k e =
-    (e ≤ length table) × (k ≤ e) × (k ≡ length (changesBelow e table (editTable edit n table marks a b size)))
+Inv-loop edit n table marks a b c size end k₀ x₀ k x =
+    (end ≡ slots table) × (x ≤ end) × (k ≤ 4 * x)
+    × (k ≡ length (changesBelow (4 * x) table (editTable edit n table marks a b size)))
 
 abbrev μ-loop : tie.MeasureT-loop
-μ-loop edit n table marks a b c size k₀ e₀ e-end k e = length table - e
+μ-loop edit n table marks a b c size end k₀ x₀ k x = end - x
+
+-- the function's entry, from where the loop begins
+abbrev start : tie.After-shared-slice-known5 Inv-loop μ-loop → tie.Start Inv-loop μ-loop
+start s = s .before .before .before .before .before
+
+cast-end : tie.Need-cast-end Inv-loop μ-loop
+unfolding slots
+cast-end c = let few = start c .pre .1 .few in omega arith
 
 loop-holds : tie.Need-loop-holds Inv-loop μ-loop
+unfolding slots
 loop-holds c =
-    let t = c .before .before .before .before .before .args .table .now in
-    (omega arith, omega arith, sym (ap length (below-none t _ (edit-long _ _ _ _ _ _ _))))
+    let t = start c .args .table .now in
+    (refl, omega arith, omega arith, sym (ap length (below-none t _ (edit-long _ _ _ _ _ _ _))))
 
-mul-if1 : tie.Need-mul-if1 Inv-loop μ-loop
-mul-if1 c = search needs
-
-shared-slice-read-if1 : tie.Need-shared-slice-read-if1 Inv-loop μ-loop
-shared-slice-read-if1 c = search needs
-
-new-entry-requires : tie.Need-new-entry-requires Inv-loop μ-loop
-new-entry-requires c κs =
-    let s = c .before .before .before .before .before .before .before .before in
-    (s .pre .0, (s .pre .1, omega arith))
+count-slot-requires : tie.Need-count-slot-requires Inv-loop μ-loop
+count-slot-requires c κs =
+    let l = c .before in
+    let p = start (l .before) .pre in
+    (p .0, (p .1, rw (l .loop .inv .0) at (c .loop-test .taken)))
 
 add-k : tie.Need-add-k Inv-loop μ-loop
 add-k c =
-    let s = c .before .before .before .before .before .before .before .before .before .before in
-    let fits = s .pre .1 .fits in
-    let few = s .pre .1 .few in
+    let l = c .before .before in
+    let few = start (l .before) .pre .1 .few in
     omega arith
 
-add-e : tie.Need-add-e Inv-loop μ-loop
-add-e c = search needs
+add-x : tie.Need-add-x Inv-loop μ-loop
+add-x c = search needs
 
 loop-less : tie.Need-loop-less Inv-loop μ-loop
 loop-less c = search needs
 
 loop-again : tie.Need-loop-again Inv-loop μ-loop
 loop-again c =
-    let i = c .before .before .before in
-    let l = i .before .loop in
-    let t = i .before .before .before .before .before .before .before .args .table .now in
-    let long = edit-long _ _ _ _ _ _ _ in
-    let new = c .before .new-entry .ensures in
-    ⊎-elim
-    (λ w. (
-      omega arith,
-      omega arith,
-      w .1 ∙ count-other t _ long (l .e) (l .k) (i .loop-test .taken) (l .inv .2) _ _ refl new (w .0 .taken),
-    ))
-    (λ w. (
-      omega arith,
-      omega arith,
-      w .1 ∙ count-same t _ long (l .e) (l .k) (i .loop-test .taken) (l .inv .2) _ _ refl new (w .0 .left),
-    ))
-    (c .if1 .came)
+    let l = c .before .before .loop in
+    let counted = l .inv .3 in
+    let more = c .count-slot .ensures .1 in
+    let next : 4 * (l .x + 1) ≡ 4 * l .x + 4 = omega arith in
+    (l .inv .0, omega arith, omega arith, rw next (omega arith))
 
 returns : tie.Need-returns Inv-loop μ-loop
 returns c =
     let l = c .before in
-    let t = l .before .before .before .before .before .before .args .table .now in
-    let end : l .loop .e ≡ length t = omega arith in
-    rw end at (l .loop .inv .2) ∙ ap length (below-all t _ (edit-long _ _ _ _ _ _ _))
+    let s = start (l .before) in
+    let t = s .args .table .now in
+    let fits = s .pre .1 .fits in
+    let end : 4 * l .loop .x ≡ length t = omega arith in
+    rw end at (l .loop .inv .3) ∙ ap length (below-all t _ (edit-long _ _ _ _ _ _ _))
 
 pub count-changes-spec : {M : Type 1} → statement M
 count-changes-spec =
@@ -82,12 +75,11 @@ count-changes-spec =
     (tie.spec
     Inv-loop
     μ-loop
+    cast-end
     loop-holds
-    mul-if1
-    shared-slice-read-if1
-    new-entry-requires
+    count-slot-requires
     add-k
-    add-e
+    add-x
     loop-less
     loop-again
     returns)

@@ -36,7 +36,7 @@ added-link-requires : tie.Need-added-link-requires
 added-link-requires c κs =
     let s = start (c .before .before) in
     let f = fits s (c .enum-told .given .1) in
-    ((f .dim, f .whole, s .pre .1), f .ranked)
+    ((f .dim, f .whole, s .pre .1 .1), f .ranked)
 
 enum-known-edit : tie.Need-enum-known-edit
 enum-known-edit c = search needs
@@ -45,7 +45,7 @@ after-sew-requires : tie.Need-after-sew-requires
 after-sew-requires c κs =
     let k = c .before in
     let s = start (k .before .before) in
-    (fits s (k .edit .given .1), s .pre .1)
+    (fits s (k .edit .given .1), s .pre .1 .0, s .pre .1 .1)
 
 enum-known-edit-2 : tie.Need-enum-known-edit-2
 enum-known-edit-2 c = search needs
@@ -54,7 +54,7 @@ after-unsew-requires : tie.Need-after-unsew-requires
 after-unsew-requires c κs =
     let k = c .before in
     let s = start (k .before .before) in
-    (fits s (k .edit2 .given .1), s .pre .1)
+    (fits s (k .edit2 .given .1), s .pre .1 .0, s .pre .1 .1)
 
 enum-told-2 : tie.Need-enum-told-2
 enum-told-2 c = search needs
@@ -62,7 +62,7 @@ enum-told-2 c = search needs
 removed-link-requires : tie.Need-removed-link-requires
 removed-link-requires c κs =
     let s = start (c .before .before) in
-    (fits s (c .enum-told2 .given .1), s .pre .1)
+    (fits s (c .enum-told2 .given .1), s .pre .1 .1)
 
 enum-told-3 : tie.Need-enum-told-3
 enum-told-3 c = search needs
@@ -70,7 +70,7 @@ enum-told-3 c = search needs
 split-link-requires : tie.Need-split-link-requires
 split-link-requires c κs =
     let s = start (c .before .before) in
-    (fits s (c .enum-told3 .given .1), s .pre .1)
+    (fits s (c .enum-told3 .given .1), s .pre .1 .1)
 
 returns : tie.Need-returns
 unfolding editLink

@@ -1,11 +1,12 @@
--- `edits::write_changes` meets its contract. The loop's invariant: the draft of the changes below e stands in the journal.
-use Prim.Native.Nat.{_≤_, _-_}
-use mathlib.Core.Path.{_≡_, refl, sym, _∙_}
+-- `edits::write_changes` meets its contract. The loop's invariant: the draft of the changes of the slots below x stands in the
+-- journal.
+use Prim.Native.Nat.{_+_, _*_, _-_, _≤_, _<_}
+use mathlib.Core.Path.{_≡_}
 use native.Mathlib.Omega.{arith}
 use lib.ListN.{length}
-use borrow.Author.Needs.{needs}
+use Rattle.model.specs.Table.{slots}
 use Rattle.journal.specs.Records.{Scanned}
-use Rattle.journal.proofs.Scans.{scan-none, scan-room, scan-all}
+use Rattle.journal.proofs.Scans.{scan-none, scan-open, scan-full}
 use Rattle.edits.specs.Edits.{editTable}
 use Rattle.edits.proofs.Edited.{edit-long}
 use Rattle.edits.proofs.Pass.{scan-length}
@@ -13,70 +14,73 @@ use Rattle.edits.proofs.write_changes.Statement.{statement}
 use Rattle.edits.proofs.write_changes.Tie as tie
 
 abbrev Inv-loop : tie.InvT-loop
-Inv-loop edit n table journal₀ marks a b c size done₀ e₀ e-end journal done e =
-    (e ≤ length table) × (done ≤ e) × Scanned table (editTable edit n table marks a b size) journal₀ e done journal
+Inv-loop edit n table journal₀ marks a b c size changes done₀ x₀ journal done x =
+    (4 * x ≤ length table) × Scanned table (editTable edit n table marks a b size) journal₀ (4 * x) done journal
 
 abbrev μ-loop : tie.MeasureT-loop
-μ-loop edit n table journal₀ marks a b c size done₀ e₀ e-end journal done e = length table - e
+μ-loop edit n table journal₀ marks a b c size changes done₀ x₀ journal done x = length table - 4 * x
 
 -- the function's entry, from where the loop begins
 abbrev start : tie.After-shared-slice-known5 Inv-loop μ-loop → tie.Start Inv-loop μ-loop
 start s = s .before .before .before .before .before .before
 
+-- where changes are left, x is a slot
+inside : (i : tie.In-loop Inv-loop μ-loop)
+    → let l = i .before in
+    l .loop .x < slots (start (l .before) .args .table .now)
+inside i =
+    let l = i .before in
+    let p = start (l .before) .pre .1 in
+    let fits = p .0 .fits in
+    let all = p .1 .1 in
+    let some = scan-open _ _ _ (edit-long _ _ _ _ _ _ _) (l .loop .inv .0) (l .loop .inv .1) (omega arith) in
+    omega arith
+
 loop-holds : tie.Need-loop-holds Inv-loop μ-loop
-loop-holds c = (omega arith, omega arith, scan-none _ _ _ (edit-long _ _ _ _ _ _ _))
+loop-holds c = (omega arith, scan-none _ _ _ (edit-long _ _ _ _ _ _ _))
 
-new-entry-requires : tie.Need-new-entry-requires Inv-loop μ-loop
-new-entry-requires c κs =
-    let p = start (c .before .before) .pre in
-    (p .0, (p .1 .0, omega arith))
-
-mul-write-entry : tie.Need-mul-write-entry Inv-loop μ-loop
-mul-write-entry c = search needs
-
-shared-slice-read-write-entry : tie.Need-shared-slice-read-write-entry Inv-loop μ-loop
-shared-slice-read-write-entry c = search needs
-
-write-entry-requires : tie.Need-write-entry-requires Inv-loop μ-loop
-write-entry-requires c κs =
-    let n = c .before .before in
-    let l = n .before .before in
+write-slot-requires : tie.Need-write-slot-requires Inv-loop μ-loop
+write-slot-requires c κs =
+    let i = c .before in
+    let l = i .before in
     let p = start (l .before) .pre in
-    let fits = p .1 .0 .fits in
-    let few = p .1 .0 .few in (
-      (omega arith, l .loop .inv .1),
-      λ h. scan-room _ _ _ (edit-long _ _ _ _ _ _ _) (l .loop .e) (l .loop .done) (l .loop .journal)
-          (n .before .loop-test .taken) 0 (l .loop .inv .2) (λ q. h (q ∙ sym (n .new-entry .ensures))) (p .1 .1),
-    )
+    (p .0, ((p .1 .0, inside i), record { journal = _; room = p .1 .1 .0; scanned = l .loop .inv .1 }))
 
-add-e : tie.Need-add-e Inv-loop μ-loop
-add-e c = search needs
+add-x : tie.Need-add-x Inv-loop μ-loop
+add-x c =
+    let i = c .before .before .before .before in
+    let few = start (i .before .before) .pre .1 .0 .few in
+    let low = inside i in
+    omega arith
 
 loop-less : tie.Need-loop-less Inv-loop μ-loop
-loop-less c = search needs
+loop-less c =
+    let i = c .before .before .before .before in
+    let fits = start (i .before .before) .pre .1 .0 .fits in
+    let low = inside i in
+    omega arith
 
 loop-again : tie.Need-loop-again Inv-loop μ-loop
 loop-again c =
     let w = c .before .before in
-    let n = w .before .before .before in
-    let i = n .before in
-    let scanned = i .before .loop .inv .2 in
-    let done = w .write-entry .ensures in
-    (omega arith, done .0, done .1 _ _ _ (edit-long _ _ _ _ _ _ _) (i .loop-test .taken) refl (n .new-entry .ensures) scanned)
+    let i = w .before .before in
+    let l = i .before in
+    let fits = start (l .before) .pre .1 .0 .fits in
+    let low = inside i in
+    let next : 4 * (l .loop .x + 1) ≡ 4 * l .loop .x + 4 = omega arith in
+    (omega arith, rw next (w .write-slot .ensures _ (l .loop .inv .1)))
 
 same-length : tie.Need-same-length Inv-loop μ-loop
 same-length c =
     let l = c .before in
-    let room = start (l .before) .pre .1 .1 in
-    let inv = l .loop .inv in
-    scan-length _ _ _ (edit-long _ _ _ _ _ _ _) room (l .loop .e) (l .loop .done) (l .loop .journal) (inv .0) (inv .2)
+    let room = start (l .before) .pre .1 .1 .0 in
+    scan-length _ _ _ (edit-long _ _ _ _ _ _ _) room _ _ _ (l .loop .inv .0) (l .loop .inv .1)
 
 returns : tie.Need-returns Inv-loop μ-loop
 returns c =
     let l = c .before in
-    let t = start (l .before) .args .table .now in
-    let end : l .loop .e ≡ length t = omega arith in
-    scan-all t _ _ (edit-long _ _ _ _ _ _ _) (rw end at (l .loop .inv .2)) .0
+    let all = start (l .before) .pre .1 .1 .1 in
+    scan-full _ _ _ (edit-long _ _ _ _ _ _ _) (l .loop .inv .0) (l .loop .inv .1) (omega arith)
 
 pub write-changes-spec : {M : Type 1} → statement M
 write-changes-spec =
@@ -85,11 +89,8 @@ write-changes-spec =
     Inv-loop
     μ-loop
     loop-holds
-    new-entry-requires
-    mul-write-entry
-    shared-slice-read-write-entry
-    write-entry-requires
-    add-e
+    write-slot-requires
+    add-x
     loop-less
     loop-again
     same-length
