@@ -1,5 +1,5 @@
--- How the three calls end. Each is an operation (`add-operates`, ..): it is refused by a check (`operation-refused`) or by 15
--- (`operation-full`), or carried out (`operation-done`).
+-- How the three calls end. Each is an operation (`add-operates`, ..): it is refused by a check (`operation-refused`) or by
+-- 15 (`operation-full`), or carried out (`operation-done`).
 use Prim.Native.Nat.{ℕ}
 use mathlib.Core.Path.{_≡_, refl, sym, _∙_}
 use mathlib.Core.Bool.{Bool, true, false}
@@ -24,7 +24,8 @@ pub record Operates (c : Check) (t u j : List ℕ) (p : ℕ) (size : List Change
   pub is : operation c t u j p size ≡ x
 
 module _ (n : ℕ) (t j : List ℕ) where
-  pub add-operates : Operates (inOrder (addChecks n t j)) t (addTable n t) j (getD (addSlots n t) 0 0) (λ cs. cellSize n) (addCall n t j)
+  pub add-operates : Operates (inOrder (addChecks n t j)) t (addTable n t) j (getD (addSlots n t) 0 0) (λ cs. cellSize n)
+      (addCall n t j)
   unfolding addCall operation
   add-operates = record { is = refl }
 

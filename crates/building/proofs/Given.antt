@@ -1,5 +1,6 @@
 -- What the checks say that have passed where the buffers are lent (`sideChecks`), as the crates below ask it: `on-side` and
--- `on-other` of the sides of d and e, `side-given` for the flood, `sides-given` for the pairing, `edit-given` for the commit.
+-- `on-other` of the sides of d and e, `side-given` for the flood, `sides-given` for the pairing, `edit-given` and
+-- `side-edit-given` for the commit.
 use Prim.Native.Nat.{ℕ, _≤_, _<_}
 use mathlib.Core.Path.{_≡_}
 use mathlib.Core.List.{List}
@@ -31,7 +32,9 @@ module _ (n : ℕ) (t j : List ℕ) (i d : ℕ) (h : inOrder (sideChecks n t j i
   table = table-of n t (all .0) (all .1 .0) (all .1 .1 .1 .0)
 
   pub on-side : OnSide n t i d
-  on-side = record { table = table; index = index-pass n i (all .1 .1 .1 .1 .0); lives = dart-pass t d (all .1 .1 .1 .1 .1 .0) }
+  on-side =
+      let dart = all .1 .1 .1 .1 in
+      record { table = table; index = index-pass n i (dart .0); lives = dart-pass t d (dart .1 .0) }
 
   pub on-other : (e : ℕ) → dartOk t e ≡ pass → OnSide n t i e
   on-other e dart = record { table = table; index = on-side .index; lives = dart-pass t e dart }

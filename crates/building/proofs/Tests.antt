@@ -36,6 +36,7 @@ module _ (t : List ℕ) (i d : ℕ) where
     unfolding apartOk inSet
     apart-test n is = ap (λ m. must (not (eqb (getD m e 0) 1)) 9) is
 
-    pub pairing-test : (n : ℕ) {r : Bool} {there back : List ℕ} → Paired n t i d e r there back → must r 12 ≡ pairingOk n t i d e
+    pub pairing-test : (n : ℕ) {r : Bool} {there back : List ℕ} → Paired n t i d e r there back
+        → must r 12 ≡ pairingOk n t i d e
     unfolding pairingOk
     pairing-test n paired = ap (λ r. must r 12) (paired .test)

@@ -1,5 +1,5 @@
-// The calls that build: add, sew and unsew. Each takes any input, and its contract is an equation with the model's definition of
-// the call: the refusals in the order of the numbers, and then what the call gives and leaves.
+// The calls that build: add, sew and unsew. Each takes any input, and its contract is an equation with the model's
+// definition of the call: the refusals in the order of the numbers, and then what the call gives and leaves.
 pub use adding::add;
 pub use sewing::sew;
 pub use unsewing::unsew;

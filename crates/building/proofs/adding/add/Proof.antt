@@ -1,9 +1,7 @@
 -- `building::add` meets its contract: its opening, and behind it `add_in`.
 use mathlib.Core.Path.{_≡_}
 use mathlib.Core.List.{List}
-use native.Mathlib.Omega.{arith}
 use borrow.Author.Needs.{needs}
-use Rattle.model.specs.Table.{slots}
 use lib.ListN.{take}
 use Rattle.model.specs.Checks.{Check, pass, inOrder, addChecks}
 use Rattle.answers.proofs.Settled.{Opening, handed-on}

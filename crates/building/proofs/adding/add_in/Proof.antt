@@ -1,5 +1,4 @@
 -- `building::adding::add_in` meets its contract: check 14 by the slots listed, and behind it `edits::commit`.
-use mathlib.Core.Path.{refl}
 use mathlib.Core.List.{List}
 use native.Mathlib.Omega.{arith}
 use borrow.Author.Needs.{needs}
@@ -9,10 +8,9 @@ use Rattle.model.proofs.Calls.Pass.{dim-pass}
 use Rattle.layers.proofs.Orders.{size-few}
 use Rattle.answers.proofs.Ladder.{Rung, rise, up, out, all-passed}
 use Rattle.answers.proofs.Verdicts.{equal-passes, equal-refuses}
-use Rattle.edits.proofs.Tables.{edit-add}
 use Rattle.edits.proofs.Carrying.{carried-same}
 use Rattle.building.proofs.Given.{edit-given}
-use Rattle.building.proofs.Listed.{room-test, listed-fit, listed-slots, listed-first}
+use Rattle.building.proofs.Listed.{room-test, listed-fit, listed-table, listed-first}
 use Rattle.building.proofs.Ends.{add-operates, operation-refused, operation-full, operation-done}
 use Rattle.building.proofs.adding.add_in.Statement.{statement}
 use Rattle.building.proofs.adding.add_in.Tie as tie
@@ -102,8 +100,10 @@ returns-2 c =
     let committed = c .before .before .before .before .before .before in
     let passed = committed .before .before .before .before .before .before in
     let listed = passed .before .before .before .before in
+    let size = sized listed .cell-size .ensures in
+    let slots = listed .list-unused .ensures in
     operation-full (add-operates _ _ _) (all-passed _ (room passed .passed))
-    (carried-same (edit-add _ _ _ _ _ _ (listed-slots _ _ (sized listed .cell-size .ensures) (listed .list-unused .ensures) (passed .if1 .left))) (committed .commit .ensures))
+    (carried-same (listed-table _ _ size slots (passed .if1 .left) _ _) (committed .commit .ensures))
     (not-true _ (c .if2 .taken))
 
 array-read-t9 : tie.Need-array-read-t9
@@ -125,10 +125,11 @@ returns-3 c =
     let passed = committed .before .before .before .before .before .before in
     let listed = passed .before .before .before .before in
     let size = sized listed .cell-size .ensures in
+    let slots = listed .list-unused .ensures in
     let p = room passed .passed in
     operation-done (add-operates _ _ _) (all-passed _ p)
-    (carried-same (edit-add _ _ _ _ _ _ (listed-slots _ _ size (listed .list-unused .ensures) (passed .if1 .left))) (committed .commit .ensures))
-    (not-false _ (c .if2 .left)) (listed-first _ _ size (listed .list-unused .ensures) (passed .if1 .left) (search)) size
+    (carried-same (listed-table _ _ size slots (passed .if1 .left) _ _) (committed .commit .ensures))
+    (not-false _ (c .if2 .left)) (listed-first _ _ size slots (passed .if1 .left) (search)) size
 
 pub add-in-spec : {M : Type 1} → statement M
 add-in-spec =

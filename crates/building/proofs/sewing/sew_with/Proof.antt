@@ -142,7 +142,8 @@ returns-3 c =
     let second = c .before in
     operation-refused (sew-operates _ _ _ _ _ _)
     (out (apart (parted second))
-    (refuses _ 10 (free-test _ _ _ _ (second .before .before .is-free .ensures) (second .is-free2 .ensures)) (c .if3 .taken)))
+    (refuses _ 10 (free-test _ _ _ _ (second .before .before .is-free .ensures) (second .is-free2 .ensures))
+    (c .if3 .taken)))
 
 side-mask-requires : tie.Need-side-mask-requires
 side-mask-requires c κs =
@@ -155,8 +156,8 @@ pair-sides-requires c κs =
     let f = c .before .before .before .before .before in
     let start = entry f .pre in
     let p = free f .passed in
-    sides-given _ _ _ _ _ (start .0) _ (search) _ (c .before .before .before .before .side-mask .ensures) _ _ _ (start .1 .0 .1) (start .1 .1 .0)
-    (sided f .side .kept .1 .1 .1 .0 ∙ start .1 .1 .1)
+    sides-given _ _ _ _ _ (start .0) _ (search) _ (c .before .before .before .before .side-mask .ensures) _ _ _
+    (start .1 .0 .1) (start .1 .1 .0) (sided f .side .kept .1 .1 .1 .0 ∙ start .1 .1 .1)
 
 same-length-8 : tie.Need-same-length-8
 same-length-8 c = search needs
@@ -200,7 +201,9 @@ same-length-14 : tie.Need-same-length-14
 same-length-14 c = search needs
 
 same-length-15 : tie.Need-same-length-15
-same-length-15 c = sided (freed (tested (found (c .before .before .before .before .before .before) .before))) .side .kept .1 .1 .0
+same-length-15 c =
+    let pair = tested (found (c .before .before .before .before .before .before) .before) in
+    sided (freed pair) .side .kept .1 .1 .0
 
 same-length-16 : tie.Need-same-length-16
 same-length-16 c = search needs
@@ -229,7 +232,9 @@ same-length-20 : tie.Need-same-length-20
 same-length-20 c = search needs
 
 same-length-21 : tie.Need-same-length-21
-same-length-21 c = sided (freed (tested (found (c .before .before .before .before .before .before) .before))) .side .kept .1 .1 .0
+same-length-21 c =
+    let pair = tested (found (c .before .before .before .before .before .before) .before) in
+    sided (freed pair) .side .kept .1 .1 .0
 
 same-length-22 : tie.Need-same-length-22
 same-length-22 c = search needs
