@@ -58,6 +58,13 @@ module _ (t u : List ℕ) (x : ℕ) where
       let first : 4 * x + 0 ≡ 4 * x = omega arith in
       rw first s
 
+  -- k changes are at the slots below x, and r at x
+  pub counts-next : (k r : ℕ) → k ≡ length (changesBelow (4 * x) t u) → Counts t u (4 * x) (4 * x + 4) r
+      → k + r ≡ length (changesBelow (4 * (x + 1)) t u)
+  counts-next k r counted more =
+      let next : 4 * (x + 1) ≡ 4 * x + 4 = omega arith in
+      rw next (omega arith)
+
 -- the entry behind link j
 behind : (x j : ℕ) → 4 * x + j + 1 ≡ 4 * x + (j + 1)
 behind x j = omega arith

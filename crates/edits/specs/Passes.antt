@@ -11,6 +11,12 @@ use Rattle.journal.specs.Records.{changesBelow, Scanned}
 abbrev pub Counts : (t u : List ℕ) (e e′ k : ℕ) → Type 0
 Counts t u e e′ k = length (changesBelow e t u) + k ≡ length (changesBelow e′ t u)
 
+-- there are k changes from t to u, and none at the slots below x
+pub record Found (t u : List ℕ) (k x : ℕ) : Type 0 where
+  pub count : k ≡ length (changesFrom 0 t u)
+  pub inside : 4 * x ≤ length t
+  pub none : length (changesBelow (4 * x) t u) ≡ 0
+
 -- in j the record of the changes from t to u has room
 abbrev pub Room : (t u j : List ℕ) → Type 0
 Room t u j = cursor j + (3 * length (changesFrom 0 t u) + 2) ≤ length j

@@ -13,7 +13,7 @@ ghost use Rattle.reading.specs.Sized.{Sized};
 ghost use Rattle.journal.specs.Records.{drafted};
 ghost use Rattle.edits.specs.Edits.{editLink, editTable, Untouched, Fit, FitSew, FitUnsew};
 ghost use Rattle.edits.specs.Carried.{Carried};
-ghost use Rattle.edits.specs.Passes.{Counts, Room, Passes, Writing, Writes};
+ghost use Rattle.edits.specs.Passes.{Counts, Found, Room, Passes, Writing, Writes};
 
 // What an operation makes of the table, from the lists that are lent with it.
 pub enum Edit {
@@ -75,7 +75,7 @@ fn new_link(
     }
 }
 
-// Whether the slot x is one of those that the edit may change: a test of a few loads, by which the passes go over the others.
+// Whether the edit may change the slot x: a test of a few loads, by which the passes go over the other slots.
 fn touches(
     edit: Edit,
     n: u32,
@@ -133,7 +133,13 @@ fn count_slot(
     changed
 }
 
-// How many entries the edit changes.
+// How many entries the edit changes, and a slot below which it changes none.
+struct Counted {
+    changes: u32,
+    first: u32,
+}
+
+// Counts the entries that the edit changes.
 fn count_changes(
     edit: Edit,
     n: u32,
@@ -143,18 +149,26 @@ fn count_changes(
     b: &[u32],
     c: &[u32],
     size: u32,
-) -> u32
+) -> Counted
     requires { ⌜ Fit edit n (now table) (now marks) (now a) (now b) (now c) size ⌝ }
     requires { ⌜ Sized (now table) ⌝ }
-    ensures { λ r. ⌜ r ≡ length (changesFrom 0 (now (table .entry))
-        (editTable edit n (now (table .entry)) (now (marks .entry)) (now (a .entry)) (now (b .entry)) size)) ⌝ }
+    ensures { λ r. ⌜ Found (now (table .entry))
+        (editTable edit n (now (table .entry)) (now (marks .entry)) (now (a .entry)) (now (b .entry)) size)
+        (r .changes) (r .first) ⌝ }
 {
     let end = (table.len() / 4) as u32;
     let mut k = 0;
+    let mut first = 0;
     for x in 0..end {
+        if k == 0 {
+            first = x;
+        }
         k += count_slot(edit, n, table, marks, a, b, c, size, x);
     }
-    k
+    Counted {
+        changes: k,
+        first: first,
+    }
 }
 
 // Writes the change of the entry e, if it is one, as the triple number `done`; the number of the next triple.
@@ -185,7 +199,8 @@ fn write_slot(
 ) -> usize
     requires { ⌜ Fit edit n (now table) (now marks) (now a) (now b) (now c) size ⌝ }
     requires { ⌜ (Sized (now table)) × (x < slots (now table)) ⌝ }
-    requires { ⌜ Writing (now table) (editTable edit n (now table) (now marks) (now a) (now b) size) (4 * x) from (now journal) ⌝ }
+    requires { ⌜ Writing (now table) (editTable edit n (now table) (now marks) (now a) (now b) size)
+        (4 * x) from (now journal) ⌝ }
     ensures { λ r. ⌜ Writes (now (table .entry))
         (editTable edit n (now (table .entry)) (now (marks .entry)) (now (a .entry)) (now (b .entry)) size)
         (4 * x) from (now (journal .entry)) (4 * x + 4) r (now (journal .exit)) ⌝ }
@@ -202,7 +217,7 @@ fn write_slot(
     done
 }
 
-// Writes the triples of the record at the cursor, by rising entry, and stops behind the last of them.
+// Writes the triples of the record at the cursor, by rising entry, from the slot `first` on, and stops behind the last.
 fn write_changes(
     edit: Edit,
     n: u32,
@@ -213,19 +228,19 @@ fn write_changes(
     b: &[u32],
     c: &[u32],
     size: u32,
-    changes: usize,
+    changes: u32,
+    first: u32,
 )
     requires { ⌜ Fit edit n (now table) (now marks) (now a) (now b) (now c) size ⌝ }
     requires { ⌜ Sized (now table) ⌝ }
     requires { ⌜ Room (now table) (editTable edit n (now table) (now marks) (now a) (now b) size) (now journal) ⌝ }
-    requires { ⌜ changes
-        ≡ length (changesFrom 0 (now table) (editTable edit n (now table) (now marks) (now a) (now b) size)) ⌝ }
+    requires { ⌜ Found (now table) (editTable edit n (now table) (now marks) (now a) (now b) size) changes first ⌝ }
     ensures { λ _. ⌜ now (journal .exit) ≡ drafted (now (journal .entry)) (changesFrom 0 (now (table .entry))
         (editTable edit n (now (table .entry)) (now (marks .entry)) (now (a .entry)) (now (b .entry)) size)) ⌝ }
 {
     let mut done = 0;
-    let mut x = 0;
-    while done < changes {
+    let mut x = first;
+    while done < changes as usize {
         done = write_slot(edit, n, table, journal, marks, a, b, c, size, done, x);
         x += 1;
     }
@@ -256,7 +271,8 @@ pub fn commit(
         (editTable edit n (now (table .entry)) (now (marks .entry)) (now (a .entry)) (now (b .entry)) size)
         (now (journal .entry)) (now (table .exit)) (now (journal .exit)) (r .fits) (r .changes) ⌝ }
 {
-    let changes = count_changes(edit, n, table, marks, a, b, c, size);
+    let counted = count_changes(edit, n, table, marks, a, b, c, size);
+    let changes = counted.changes;
     if !journal::record_fits(journal, changes) {
         return Committed {
             fits: false,
@@ -274,7 +290,8 @@ pub fn commit(
         b,
         c,
         size,
-        changes as usize,
+        changes,
+        counted.first,
     );
     journal::close_record(journal, changes);
     journal::put_record(true, table, journal, start, changes as usize);

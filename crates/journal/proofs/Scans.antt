@@ -1,5 +1,6 @@
 -- The pass that writes a record: it begins with `scan-none`, goes over an entry by `scan-same` or, with a call of `write_change`,
--- by `scan-more`, passes over alike entries by `scan-alike`, and has the whole draft by `scan-all`, or by `scan-full` before the end.
+-- by `scan-more`, passes over alike entries by `scan-alike`, and has the whole draft by `scan-all` at the end, by `scan-full`
+-- before it.
 use Prim.Native.Nat.{ℕ, suc, _+_, _*_, _≤_, _<_}
 use mathlib.Core.Path.{_≡_, sym, ap, subst, _∙_}
 use mathlib.Core.List.{List, [], _∷_, _++_}
@@ -9,15 +10,14 @@ use lib.ListN.{length, getD}
 use Rattle.model.specs.Journal.{Change, cursor, changesFrom}
 use Rattle.model.proofs.Lists.Scan.{if-lt}
 use Rattle.journal.specs.Records.{drafted, changesBelow, Scanned}
-use Rattle.journal.proofs.Changes.{below-none, below-all, below-most, below-full, below-same, below-other}
+use Rattle.journal.proofs.Changes.{no-changes, below-all, below-most, below-full, below-same, below-other}
 use Rattle.journal.proofs.Changes.{below-count, below-alike}
 use Rattle.journal.proofs.Drafts.{draft-none, draft-keeps}
 
 module _ (t u j : List ℕ) (long : length t ≡ length u) where
-  pub scan-none : Scanned t u j 0 0 j
-  scan-none =
-      let z = below-none t u long in
-      record { draft = sym (ap (drafted j) z ∙ draft-none j); count = sym (ap length z) }
+  -- where no entry below e is changed
+  pub scan-none : (e : ℕ) → length (changesBelow e t u) ≡ 0 → Scanned t u j e 0 j
+  scan-none e z = record { draft = sym (ap (drafted j) (no-changes _ z) ∙ draft-none j); count = sym z }
 
   pub scan-all : {k : ℕ} {w : List ℕ} → Scanned t u j (length t) k w
       → (w ≡ drafted j (changesFrom 0 t u)) × (k ≡ length (changesFrom 0 t u))

@@ -158,7 +158,8 @@ pub fn sewn_link(table: &[u32], there: &[u32], back: &[u32], i: u32, x: u32) -> 
 // Whether x has a partner there or back: sew changes link i of no other slot.
 pub fn has_partner(there: &[u32], back: &[u32], x: u32) -> bool
     requires { ⌜ (x < length (now there)) × (x < length (now back)) ⌝ }
-    ensures { λ r. ⌜ (r ≡ false → (t : List ℕ) (i : ℕ) → link t i x ≡ sewnLink t i (now (there .entry)) (now (back .entry)) x) ⌝ }
+    ensures { λ r. ⌜ (r ≡ false → (t : List ℕ) (i : ℕ)
+        → link t i x ≡ sewnLink t i (now (there .entry)) (now (back .entry)) x) ⌝ }
 {
     (there[x as usize] != UNUSED) | (back[x as usize] != UNUSED)
 }

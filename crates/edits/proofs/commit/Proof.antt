@@ -28,7 +28,8 @@ same-length-2 c = search needs
 returns : tie.Need-returns
 returns c =
     let f = c .before in
-    refusal-carried _ _ _ _ (f .before .before .count-changes .ensures) _ (f .record-fits .ensures) (not-true _ (c .if1 .taken))
+    let count = f .before .before .count-changes .ensures .count in
+    refusal-carried _ _ _ _ count _ (f .record-fits .ensures) (not-true _ (c .if1 .taken))
 
 slice-read-start : tie.Need-slice-read-start
 slice-read-start c = search needs
@@ -36,16 +37,14 @@ slice-read-start c = search needs
 cast-start : tie.Need-cast-start
 cast-start c = omega (arith, c .slice-known3 .given 0)
 
-cast-write-changes : tie.Need-cast-write-changes
-cast-write-changes c = search needs
-
 write-changes-requires : tie.Need-write-changes-requires
 write-changes-requires c κs =
     let e = c .before .before .before in
     let f = e .before in
     let p = start f .pre in
-    let count = f .before .before .count-changes .ensures in
-    (p .0, (p .1 .0, (fits-room _ _ _ _ count _ (f .record-fits .ensures) (not-false _ (e .if1 .left)), count)))
+    let found = f .before .before .count-changes .ensures in
+    let room = fits-room _ _ _ _ (found .count) _ (f .record-fits .ensures) (not-false _ (e .if1 .left)) in
+    (p .0, (p .1 .0, (room, found)))
 
 -- where the test has passed, from where the triples stand, and from where the record stands
 abbrev written : tie.After-write-changes → tie.Else1
@@ -59,7 +58,7 @@ close-record-requires c κs =
     let w = c .before .before .before in
     let e = written w in
     let f = e .before in
-    let count = f .before .before .count-changes .ensures in
+    let count = f .before .before .count-changes .ensures .count in
     draft-closes _ _ _ _ count _ (f .record-fits .ensures) (edit-long _ _ _ _ _ _ _) (start f .pre .1 .1)
     (not-false _ (e .if1 .left)) _ (w .write-changes .ensures)
 
@@ -73,7 +72,7 @@ put-record-requires c κs =
     let w = closed k in
     let e = written w in
     let f = e .before in
-    let count = f .before .before .count-changes .ensures in
+    let count = f .before .before .count-changes .ensures .count in
     record-puts _ _ _ _ count _ (f .record-fits .ensures) (edit-long _ _ _ _ _ _ _) (start f .pre .1 .1)
     (not-false _ (e .if1 .left)) _ (k .close-record .ensures _ _ (w .write-changes .ensures) count)
 
@@ -91,7 +90,7 @@ returns-2 c =
     let w = closed k in
     let e = written w in
     let f = e .before in
-    let count = f .before .before .count-changes .ensures in
+    let count = f .before .before .count-changes .ensures .count in
     record-carried _ _ _ _ count _ (f .record-fits .ensures) (edit-long _ _ _ _ _ _ _) (start f .pre .1 .1)
     (not-false _ (e .if1 .left)) _ (k .close-record .ensures _ _ (w .write-changes .ensures) count) _ (p .put-record .ensures)
 
@@ -106,7 +105,6 @@ commit-spec =
     returns
     slice-read-start
     cast-start
-    cast-write-changes
     write-changes-requires
     close-record-requires
     cast-put-record

@@ -1,6 +1,8 @@
--- `edits::count_changes` meets its contract. The loop's invariant: k entries of the slots below x are changed.
-use Prim.Native.Nat.{_+_, _*_, _-_, _≤_}
+-- `edits::count_changes` meets its contract. The loop's invariant: k entries of the slots below x are changed, none of them
+-- below `first`.
+use Prim.Native.Nat.{ℕ, _*_, _-_, _≤_}
 use mathlib.Core.Path.{_≡_, refl, sym, ap, _∙_}
+use mathlib.Core.Logic.{⊎-elim}
 use native.Mathlib.Omega.{arith}
 use lib.ListN.{length}
 use borrow.Author.Needs.{needs}
@@ -9,16 +11,17 @@ use Rattle.journal.specs.Records.{changesBelow}
 use Rattle.journal.proofs.Changes.{below-none, below-all}
 use Rattle.edits.specs.Edits.{editTable}
 use Rattle.edits.proofs.Edited.{edit-long}
+use Rattle.edits.proofs.Pass.{counts-next}
 use Rattle.edits.proofs.count_changes.Statement.{statement}
 use Rattle.edits.proofs.count_changes.Tie as tie
 
 abbrev Inv-loop : tie.InvT-loop
-Inv-loop edit n table marks a b c size end k₀ x₀ k x =
-    (end ≡ slots table) × (x ≤ end) × (k ≤ 4 * x)
-    × (k ≡ length (changesBelow (4 * x) table (editTable edit n table marks a b size)))
+Inv-loop edit n table marks a b c size end k₀ first₀ x₀ k first x =
+    let changed : ℕ → ℕ = λ y. length (changesBelow (4 * y) table (editTable edit n table marks a b size)) in
+    (end ≡ slots table) × (x ≤ end) × (k ≤ 4 * x) × (k ≡ changed x) × (first ≤ x) × (changed first ≡ 0)
 
 abbrev μ-loop : tie.MeasureT-loop
-μ-loop edit n table marks a b c size end k₀ x₀ k x = end - x
+μ-loop edit n table marks a b c size end k₀ first₀ x₀ k first x = end - x
 
 -- the function's entry, from where the loop begins
 abbrev start : tie.After-shared-slice-known5 Inv-loop μ-loop → tie.Start Inv-loop μ-loop
@@ -32,17 +35,19 @@ loop-holds : tie.Need-loop-holds Inv-loop μ-loop
 unfolding slots
 loop-holds c =
     let t = start c .args .table .now in
-    (refl, omega arith, omega arith, sym (ap length (below-none t _ (edit-long _ _ _ _ _ _ _))))
+    let none = ap length (below-none t _ (edit-long _ _ _ _ _ _ _)) in
+    (refl, omega arith, omega arith, sym none, omega arith, none)
 
 count-slot-requires : tie.Need-count-slot-requires Inv-loop μ-loop
 count-slot-requires c κs =
-    let l = c .before in
+    let i = c .before in
+    let l = i .before in
     let p = start (l .before) .pre in
-    (p .0, (p .1, rw (l .loop .inv .0) at (c .loop-test .taken)))
+    (p .0, (p .1, rw (l .loop .inv .0) at (i .loop-test .taken)))
 
 add-k : tie.Need-add-k Inv-loop μ-loop
 add-k c =
-    let l = c .before .before in
+    let l = c .before .before .before in
     let few = start (l .before) .pre .1 .few in
     omega arith
 
@@ -54,20 +59,27 @@ loop-less c = search needs
 
 loop-again : tie.Need-loop-again Inv-loop μ-loop
 loop-again c =
-    let l = c .before .before .loop in
-    let counted = l .inv .3 in
-    let more = c .count-slot .ensures .1 in
-    let next : 4 * (l .x + 1) ≡ 4 * l .x + 4 = omega arith in
-    (l .inv .0, omega arith, omega arith, rw next (omega arith))
+    let l = c .before .before .before .loop in
+    let v = l .inv in
+    let more = counts-next _ _ (l .x) (l .k) _ (v .3) (c .count-slot .ensures .1) in
+    ⊎-elim
+    (λ w. (v .0, omega arith, omega arith, more, omega arith, rw (w .1) (sym (v .3) ∙ w .0 .taken)))
+    (λ w. (v .0, omega arith, omega arith, more, omega arith, rw (w .1) (v .5)))
+    (c .before .if1 .came)
 
 returns : tie.Need-returns Inv-loop μ-loop
 returns c =
     let l = c .before in
+    let v = l .loop .inv in
     let s = start (l .before) in
     let t = s .args .table .now in
     let fits = s .pre .1 .fits in
     let end : 4 * l .loop .x ≡ length t = omega arith in
-    rw end at (l .loop .inv .3) ∙ ap length (below-all t _ (edit-long _ _ _ _ _ _ _))
+    record {
+      count = rw end at (v .3) ∙ ap length (below-all t _ (edit-long _ _ _ _ _ _ _));
+      inside = omega arith;
+      none = v .5;
+    }
 
 pub count-changes-spec : {M : Type 1} → statement M
 count-changes-spec =

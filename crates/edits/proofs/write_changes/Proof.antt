@@ -14,11 +14,11 @@ use Rattle.edits.proofs.write_changes.Statement.{statement}
 use Rattle.edits.proofs.write_changes.Tie as tie
 
 abbrev Inv-loop : tie.InvT-loop
-Inv-loop edit n table journal₀ marks a b c size changes done₀ x₀ journal done x =
+Inv-loop edit n table journal₀ marks a b c size changes first done₀ x₀ journal done x =
     (4 * x ≤ length table) × Scanned table (editTable edit n table marks a b size) journal₀ (4 * x) done journal
 
 abbrev μ-loop : tie.MeasureT-loop
-μ-loop edit n table journal₀ marks a b c size changes done₀ x₀ journal done x = length table - 4 * x
+μ-loop edit n table journal₀ marks a b c size changes first done₀ x₀ journal done x = length table - 4 * x
 
 -- the function's entry, from where the loop begins
 abbrev start : tie.After-shared-slice-known5 Inv-loop μ-loop → tie.Start Inv-loop μ-loop
@@ -32,12 +32,14 @@ inside i =
     let l = i .before in
     let p = start (l .before) .pre .1 in
     let fits = p .0 .fits in
-    let all = p .1 .1 in
+    let all = p .1 .1 .count in
     let some = scan-open _ _ _ (edit-long _ _ _ _ _ _ _) (l .loop .inv .0) (l .loop .inv .1) (omega arith) in
     omega arith
 
 loop-holds : tie.Need-loop-holds Inv-loop μ-loop
-loop-holds c = (omega arith, scan-none _ _ _ (edit-long _ _ _ _ _ _ _))
+loop-holds c =
+    let found = start c .pre .1 .1 .1 in
+    (found .inside, scan-none _ _ _ (edit-long _ _ _ _ _ _ _) _ (found .none))
 
 write-slot-requires : tie.Need-write-slot-requires Inv-loop μ-loop
 write-slot-requires c κs =
@@ -79,7 +81,7 @@ same-length c =
 returns : tie.Need-returns Inv-loop μ-loop
 returns c =
     let l = c .before in
-    let all = start (l .before) .pre .1 .1 .1 in
+    let all = start (l .before) .pre .1 .1 .1 .count in
     scan-full _ _ _ (edit-long _ _ _ _ _ _ _) (l .loop .inv .0) (l .loop .inv .1) (omega arith)
 
 pub write-changes-spec : {M : Type 1} → statement M

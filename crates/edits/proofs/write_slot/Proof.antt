@@ -61,8 +61,9 @@ write-entry-requires c κs =
     let t = a .table .now in
     let (sized, inside) = s .pre .1 .0 in
     let new = n .new-link .ensures ∙ sym (edit-link _ _ t _ _ _ _ (sized .fits) (a .x) (l .loop .j) inside low) in
-    writes-room t _ (edit-long _ _ _ _ _ _ _) (sized .fits) (a .x) inside (l .loop .j) low _ _ (n .before .link-in .ensures) new
-    _ _ _ _ (l .loop .inv .1) (s .pre .1 .1)
+    let old = n .before .link-in .ensures in
+    writes-room t _ (edit-long _ _ _ _ _ _ _) (sized .fits) (a .x) inside (l .loop .j) low _ _ old new _ _ _ _
+    (l .loop .inv .1) (s .pre .1 .1)
 
 add-j : tie.Need-add-j Inv-loop μ-loop
 add-j c = search needs
@@ -81,10 +82,11 @@ loop-again c =
     let a = s .args in
     let t = a .table .now in
     let (sized, inside) = s .pre .1 .0 in
-    let new = n .new-link .ensures ∙ sym (edit-link _ _ t _ _ _ _ (sized .fits) (a .x) (l .loop .j) inside low) in (
+    let new = n .new-link .ensures ∙ sym (edit-link _ _ t _ _ _ _ (sized .fits) (a .x) (l .loop .j) inside low) in
+    let old = n .before .link-in .ensures in (
       omega arith,
-      writes-more t _ (edit-long _ _ _ _ _ _ _) (sized .fits) (a .x) inside (l .loop .j) low _ _ (n .before .link-in .ensures) new
-          _ _ _ _ (l .loop .inv .1) _ _ (w .write-entry .ensures),
+      writes-more t _ (edit-long _ _ _ _ _ _ _) (sized .fits) (a .x) inside (l .loop .j) low _ _ old new _ _ _ _
+          (l .loop .inv .1) _ _ (w .write-entry .ensures),
     )
 
 same-length : tie.Need-same-length Inv-loop μ-loop
