@@ -1,7 +1,7 @@
--- The test of a listed cell. Each link between places is a step of the listing, a row of tests, or one of these turned round;
--- a step leads where the numbering says, so where the rows fit every link does.
+-- The test of a listed cell. Each link between places is a step of the listing, a row of tests, or one of these turned
+-- round; a step leads where the numbering says, so where the rows fit every link does.
 -- Main theorems: `tests-there` (what the tests read is there), `good-by` (they pass exactly if the cell is good).
-use Prim.Native.Nat.{ℕ, zero, suc, _+_, _*_, _-_, _≤_, _<_}
+use Prim.Native.Nat.{ℕ, zero, suc, _-_, _<_}
 use mathlib.Core.Path.{_≡_, refl, sym, ap, _∙_}
 use mathlib.Core.Logic.{_≢_, inr, ⊎-elim}
 use mathlib.Core.Bool.{Bool, true, false, not, _&&_, _||_}

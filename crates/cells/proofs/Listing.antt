@@ -1,5 +1,6 @@
 -- The listing of a cell, step by step: after all steps each place has its dart.
--- Main definition: `listing`. Main theorems: `step-ready` (what a step reads and writes is there), `listing-next`, `listing-all`.
+-- Main definition: `listing`.
+-- Main theorems: `step-ready` (what a step reads and writes is there), `listing-next`, `listing-all`.
 use Prim.Native.Nat.{ℕ, zero, suc, _+_, _*_, _-_, _≤_, _<_}
 use mathlib.Core.Path.{_≡_, refl, sym, ap, _∙_}
 use mathlib.Core.Bool.{Bool, true, _&&_}

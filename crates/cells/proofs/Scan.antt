@@ -1,5 +1,6 @@
 -- The scan for the least live slot in a wrong cell.
--- Main definition: `Scanned`, what holds before the slot d. Main theorems: `scan-first`, `scan-next`, `scan-found`, `scan-none`.
+-- Main definition: `Scanned`, what holds before the slot d.
+-- Main theorems: `scan-first`, `scan-next`, `scan-found`, `scan-none`.
 use Prim.Native.Nat.{ℕ, _+_, _≤_, _<_}
 use mathlib.Core.Path.{_≡_, sym}
 use mathlib.Core.Bool.{true, false}
@@ -30,9 +31,10 @@ pub record Scanned (n : ℕ) (t seen : List ℕ) (d : ℕ) : Type 0 where
   pub right : (k : ℕ) → k < d → inWrongCell n t k ≡ false
 
 module _ (n : ℕ) (t : List ℕ) where
-  pub scan-first : (seen : List ℕ) → slots t ≤ length seen → ((k : ℕ) → k < slots t → getD seen k 0 ≡ 0) → Scanned n t seen 0
+  pub scan-first : (seen : List ℕ) → slots t ≤ length seen → ((k : ℕ) → k < length seen → getD seen k 0 ≡ 0)
+      → Scanned n t seen 0
   scan-first seen long clear = record {
-    seen-good = record { long = long; good = λ x l h. absurd (h (clear x l)) };
+    seen-good = record { long = long; good = λ x l h. absurd (h (clear x (omega arith))) };
     right = below-none _;
   }
 

@@ -8,7 +8,7 @@ use mathlib.Core.List.{List, [], _∷_, _++_, List·Memᴰ as In, List·Memᴰ·
 use native.Mathlib.Numerals.{add-one}
 use native.Mathlib.Omega.{arith}
 use lib.ListN.{length, getD, set, take, length-set}
-use lib.Seq.{take-suc, take-length, getD-set-same, getD-set-other}
+use lib.Seq.{take-suc, take-length, getD-set-other}
 use Rattle.model.specs.Lists.{tabulate}
 use Rattle.model.specs.Table.{unused, link, live}
 use Rattle.model.specs.Cell.{cellSize, cellOf, goodCell, inWrongCell}
@@ -22,12 +22,6 @@ use Rattle.cells.specs.Good.{MapDart, seenWith, SeenGood}
 use Rattle.cells.proofs.Good.{places-length, places-at, place-live}
 
 -- ---- setting marks
-
--- one byte more is 0
-pub cleared : (seen : List ℕ) (k : ℕ) → k < length seen → ((j : ℕ) → j < k → getD seen j 0 ≡ 0)
-    → (j : ℕ) → j < k + 1 → getD (set seen k 0) j 0 ≡ 0
-cleared seen k l h j low =
-    if-eq j k (λ e. rw (e, getD-set-same seen k 0 0 l)) (λ e. getD-set-other seen k j 0 0 e ∙ h j (omega arith))
 
 pub seen-first : (s : List ℕ) → s ≡ seenWith s []
 unfolding seenWith

@@ -1,4 +1,4 @@
--- The rows that a cell is listed and tested by: the steps from place to place, and the links between places that are no steps.
+-- The rows that a cell is listed and tested by: the steps from place to place, and the links that are no steps.
 -- Main definitions: `stepRows`, `testRows`, `places`.
 use Prim.Native.Nat.{ℕ, zero, suc, _*_, _-_, _/_, _%_}
 use mathlib.Core.Bool.{Bool, true, false, not, _&&_, _||_}
@@ -38,11 +38,11 @@ isTested n k i =
     let m = cellLink n i k in
     ltb k m && not (eqb (lastLink n m) i || eqb (lastLink n k) i)
 
--- the places and the link between them that number n * k + i stands for: link i from the place k
+-- the row for link i from the place k, given as the number n * k + i: the place, the link, and the place that it leads to
 unfoldable pub testRow : ℕ → ℕ → List ℕ
 testRow n e = e / n ∷ e % n ∷ cellLink n (e % n) (e / n) ∷ []
 
--- all that are tested
+-- the rows of all links that are tested
 unfoldable pub testRows : ℕ → List (List ℕ)
 testRows n =
     map (testRow n) (ones (tabulate (n * cellSize n) (λ e. elim (isTested n (e / n) (e % n)) [ true ↦ 1 | false ↦ 0 ])))

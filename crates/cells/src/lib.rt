@@ -171,25 +171,13 @@ fn in_wrong_cell(n: u32, table: &[u32], seen: &mut [u8], d: u32) -> bool
     !visit_3d(table, seen, d)
 }
 
-// No slot is marked as seen.
-fn clear(seen: &mut [u8], end: u32)
-    requires { ⌜ end ≤ length (now seen) ⌝ }
-    ensures { λ _. ⌜ ((k : ℕ) → k < end → getD (now (seen .exit)) k 0 ≡ 0) ⌝ }
-{
-    for k in 0..end {
-        seen[k as usize] = 0;
-    }
-}
-
-// The least live slot in a wrong cell, or the number of slots. Each cell is tested once; seen has a byte for each slot,
-// and what it held before is not read.
+// The least live slot in a wrong cell, or the number of slots. Each cell is tested once; no slot is marked as seen before.
 fn first_wrong(n: u32, table: &[u32], seen: &mut [u8]) -> u32
     requires { ⌜ (dimOk n ≡ pass) × (tableOk (now table) ≡ pass) × (isMap n (now table) ≡ true) ⌝ }
-    requires { ⌜ slots (now table) ≤ length (now seen) ⌝ }
+    requires { ⌜ (slots (now table) ≤ length (now seen)) × ((k : ℕ) → k < length (now seen) → getD (now seen) k 0 ≡ 0) ⌝ }
     ensures { λ r. ⌜ r ≡ leastWrong n (now (table .entry)) ⌝ }
 {
     let end = slots(table);
-    clear(seen, end);
     for d in 0..end {
         if in_wrong_cell(n, table, seen, d) {
             return d;
@@ -198,7 +186,7 @@ fn first_wrong(n: u32, table: &[u32], seen: &mut [u8]) -> u32
     end
 }
 
-// The least live slot in a wrong cell, or the number of slots. A small table does not pay for a byte for each of 65,536 slots.
+// The least live slot in a wrong cell, or the number of slots. A small table does not pay for marks of 65,536 slots.
 pub fn least_wrong(n: u32, table: &[u32]) -> u32
     requires { ⌜ (dimOk n ≡ pass) × (tableOk (now table) ≡ pass) × (isMap n (now table) ≡ true) ⌝ }
     ensures { λ r. ⌜ r ≡ leastWrong n (now (table .entry)) ⌝ }

@@ -1,6 +1,6 @@
 -- `cells::all_fit` meets its contract. The loop's invariant: the rows passed fit.
 use Prim.Native.Nat.{ℕ, _≤_, _<_, _-_}
-use mathlib.Core.Path.{_≡_, refl, sym, _∙_}
+use mathlib.Core.Path.{_≡_, sym, _∙_}
 use mathlib.Core.Bool.{true}
 use mathlib.Core.List.{[]}
 use native.Mathlib.Omega.{arith}
@@ -22,7 +22,7 @@ abbrev μ-loop : tie.MeasureT-loop
 μ-loop table cell tests k₀ k-end k = k-end - k
 
 loop-holds : tie.Need-loop-holds Inv-loop μ-loop
-loop-holds c = (omega arith, refl, below-none _)
+loop-holds c = (omega arith, omega arith, below-none _)
 
 mul-fits : tie.Need-mul-fits Inv-loop μ-loop
 mul-fits c = search needs

@@ -1,4 +1,4 @@
--- `cells::first_wrong` meets its contract. The loop's invariant: no slot passed is in a wrong cell, and no dart that is seen.
+-- `cells::first_wrong` meets its contract. The loop's invariant: no slot passed, and no dart that is seen, is in a wrong cell.
 use Prim.Native.Nat.{_≤_, _-_}
 use mathlib.Core.Path.{_≡_, refl, sym, _∙_}
 use native.Mathlib.Omega.{arith}
@@ -18,23 +18,13 @@ abbrev μ-loop : tie.MeasureT-loop
 slots-requires : tie.Need-slots-requires Inv-loop μ-loop
 slots-requires c κs = c .before .before .pre .0 .1
 
-clear-requires : tie.Need-clear-requires Inv-loop μ-loop
-clear-requires c κs =
-    let end = c .before .slots .ensures in
-    let long = c .before .before .before .before .pre .1 in
-    omega arith
-
 loop-holds : tie.Need-loop-holds Inv-loop μ-loop
 loop-holds c =
-    let cleared = c .before .before in
-    let counted = cleared .before .before in
-    let end-is = counted .slots .ensures in
-    let long = counted .before .before .before .pre .1 in
-    let same = cleared .clear .kept .0 in
-    (omega arith, refl, scan-first _ _ _ (omega arith) (λ k l. cleared .clear .ensures k (omega arith)))
+    let s = c .before .before .before in
+    (omega arith, refl, scan-first _ _ _ (s .pre .1 .0) (s .pre .1 .1))
 
 abbrev counted : tie.At-loop Inv-loop μ-loop → tie.After-slots Inv-loop μ-loop
-counted c = c .before .before .before .before .before
+counted c = c .before
 
 abbrev start : tie.At-loop Inv-loop μ-loop → tie.Start Inv-loop μ-loop
 start c = counted c .before .before .before
@@ -54,7 +44,7 @@ same-length : tie.Need-same-length Inv-loop μ-loop
 same-length c =
     let tested = c .before .before .before in
     let l = tested .before .before .before in
-    tested .in-wrong-cell .kept .1 .1 .0 ∙ l .loop .inv .1 ∙ l .before .before .before .clear .kept .0
+    tested .in-wrong-cell .kept .1 .1 .0 ∙ l .loop .inv .1
 
 returns : tie.Need-returns Inv-loop μ-loop
 returns c =
@@ -79,9 +69,7 @@ loop-again c =
     (omega arith, tested .in-wrong-cell .kept .1 .1 .0 ∙ l .loop .inv .1, next)
 
 same-length-2 : tie.Need-same-length-2 Inv-loop μ-loop
-same-length-2 c =
-    let l = c .before in
-    l .loop .inv .1 ∙ l .before .before .before .clear .kept .0
+same-length-2 c = c .before .loop .inv .1
 
 returns-2 : tie.Need-returns-2 Inv-loop μ-loop
 returns-2 c =
@@ -95,7 +83,6 @@ first-wrong-spec =
     Inv-loop
     μ-loop
     slots-requires
-    clear-requires
     loop-holds
     in-wrong-cell-requires
     same-length

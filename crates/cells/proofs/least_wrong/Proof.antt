@@ -1,6 +1,7 @@
--- `cells::least_wrong` meets its contract: either list has a byte for each slot.
+-- `cells::least_wrong` meets its contract: either list has a 0 for each slot.
 use native.Mathlib.Omega.{arith}
 use borrow.Author.Needs.{needs}
+use lib.ListN.{getD-replicate}
 use Rattle.model.proofs.Calls.Pass.{table-pass}
 use Rattle.cells.proofs.least_wrong.Statement.{statement}
 use Rattle.cells.proofs.least_wrong.Tie as tie
@@ -13,7 +14,7 @@ first-wrong-requires c κs =
     let p = c .before .before .before .pre in
     let sized = table-pass _ (p .1) in
     let small = c .before .if1 .taken in
-    (p, omega arith)
+    (p, (omega arith, λ k l. getD-replicate 8192 k 0 0 (omega arith)))
 
 returns : tie.Need-returns
 returns c = search needs
@@ -25,7 +26,7 @@ first-wrong-requires-2 : tie.Need-first-wrong-requires-2
 first-wrong-requires-2 c κs =
     let p = c .before .before .before .pre in
     let sized = table-pass _ (p .1) in
-    (p, omega arith)
+    (p, (omega arith, λ k l. getD-replicate 65536 k 0 0 (omega arith)))
 
 returns-2 : tie.Need-returns-2
 returns-2 c = search needs

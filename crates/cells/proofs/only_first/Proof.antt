@@ -1,9 +1,9 @@
 -- `cells::only_first` meets its contract. The loop's invariant: no place passed but the first holds d.
-use Prim.Native.Nat.{ℕ, _≤_, _<_, _-_}
-use mathlib.Core.Path.{_≡_, refl, sym}
+use Prim.Native.Nat.{ℕ, _<_, _-_}
+use mathlib.Core.Path.{_≡_, sym}
 use mathlib.Core.Bool.{true}
 use native.Mathlib.Omega.{arith}
-use borrow.Author.Count.{below-none, below-more}
+use borrow.Author.Count.{below-more}
 use borrow.Author.Needs.{needs}
 use lib.ListN.{length}
 use Rattle.model.proofs.Lists.Scan.{below-of}
@@ -19,7 +19,7 @@ abbrev μ-loop : tie.MeasureT-loop
 μ-loop d cell k₀ k-end k = k-end - k
 
 loop-holds : tie.Need-loop-holds Inv-loop μ-loop
-loop-holds c = (omega arith, refl, below-more _ _ (below-none _) (not-again-first _ _))
+loop-holds c = (omega arith, omega arith, λ j h. let first : j ≡ 0 = omega arith in rw first (not-again-first _ _))
 
 mul-if1 : tie.Need-mul-if1 Inv-loop μ-loop
 mul-if1 c = search needs
