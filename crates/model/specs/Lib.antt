@@ -17,3 +17,6 @@ pub mod Runs
 pub mod Meaning
 pub mod Everything
 pub mod Worked
+pub mod Text
+pub mod Session
+pub mod WorkedSession

@@ -1,0 +1,3 @@
+pub mod Comparing
+pub mod Reading
+pub mod Writing
