@@ -2,15 +2,15 @@
 use Prim.Native.Nat.{ℕ}
 use mathlib.Core.Path.{_≡_, sym, ap, subst, _∙_}
 use mathlib.Core.List.{List}
-use Rattle.edits.specs.Edits.{editLink, Untouched, Fit}
+use Rattle.edits.specs.Edits.{editLink, four, Untouched, Fit}
 use Rattle.edits.specs.declared.Edit.{Edit}
 
 module _ {edit case : Edit} (known : edit ≡ case) (n : ℕ) (t m a b : List ℕ) (size : ℕ) where
   pub known-fits : (c : List ℕ) → Fit edit n t m a b c size → Fit case n t m a b c size
   known-fits c h = subst (λ (e : Edit). Fit e n t m a b c size) known h
 
-  pub known-link : (x j r : ℕ) → r ≡ editLink case n t m a b size x j → r ≡ editLink edit n t m a b size x j
-  known-link x j r h = h ∙ sym (ap (λ (e : Edit). editLink e n t m a b size x j) known)
+  pub known-links : (x : ℕ) (r : List ℕ) → r ≡ four (editLink case n t m a b size x) → r ≡ four (editLink edit n t m a b size x)
+  known-links x r h = h ∙ sym (ap (λ (e : Edit). four (editLink e n t m a b size x)) known)
 
   pub known-leaves : (x : ℕ) → Untouched case n t m a b size x → Untouched edit n t m a b size x
   known-leaves x h = subst (λ (e : Edit). Untouched e n t m a b size x) (sym known) h

@@ -1,3 +1,4 @@
+pub mod Four
 pub mod Edited
 pub mod Cases
 pub mod Untouched

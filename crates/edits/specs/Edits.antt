@@ -3,7 +3,7 @@
 use Prim.Native.Nat.{ℕ, _*_, _<_}
 use mathlib.Core.Path.{_≡_}
 use mathlib.Core.Bool.{false}
-use mathlib.Core.List.{List}
+use mathlib.Core.List.{List, [], _∷_}
 use lib.ListN.{length, take}
 use Rattle.model.specs.Checks.{pass, dimOk}
 use Rattle.model.specs.Table.{unused, slots, link, live, relinkAt, retable}
@@ -30,6 +30,10 @@ editLink Split n t m a b size x j = halvedLink n t (take size a) (take (n * size
 
 unfoldable pub editTable : Edit → ℕ → List ℕ → List ℕ → List ℕ → List ℕ → ℕ → List ℕ
 editTable edit n t m a b size = retable t (editLink edit n t m a b size)
+
+-- the four links of a slot
+unfoldable pub four : (ℕ → ℕ) → List ℕ
+four f = f 0 ∷ f 1 ∷ f 2 ∷ f 3 ∷ []
 
 -- the edit leaves the links of the slot x
 abbrev pub Untouched : Edit → ℕ → List ℕ → List ℕ → List ℕ → List ℕ → ℕ → ℕ → Type 0

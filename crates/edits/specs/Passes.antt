@@ -3,9 +3,14 @@ use Prim.Native.Nat.{ℕ, _+_, _*_, _≤_, _<_}
 use mathlib.Core.Path.{_≡_}
 use mathlib.Core.List.{List}
 use lib.ListN.{length, getD}
-use Rattle.model.specs.Table.{unused}
+use Rattle.model.specs.Table.{unused, link}
 use Rattle.model.specs.Journal.{cursor, changesFrom}
 use Rattle.journal.specs.Records.{changesBelow, Scanned}
+
+-- l has the links of the slot x of u, a table as long as t
+pub record Links (t u l : List ℕ) (x : ℕ) : Type 0 where
+  pub long : length t ≡ length u
+  pub at : (j : ℕ) → j < 4 → getD l j 0 ≡ link u j x
 
 -- k of the changes from t to u are at the entries from e on and below e′
 abbrev pub Counts : (t u : List ℕ) (e e′ k : ℕ) → Type 0
@@ -32,6 +37,12 @@ pub record Writing (t u : List ℕ) (e done : ℕ) (w : List ℕ) : Type 0 where
   pub journal : List ℕ
   pub room : Room t u journal
   pub scanned : Scanned t u journal e done w
+
+-- w has the draft of the changes below the slot x, done of them, to some table that has there the links l
+pub record WritingLinks (t l : List ℕ) (x done : ℕ) (w : List ℕ) : Type 0 where
+  pub new : List ℕ
+  pub links : Links t new l x
+  pub writing : Writing t new (4 * x) done w
 
 -- whatever journal the pass began with: it has met the entries below e, and has met those below e′ then
 abbrev pub Writes : (t u : List ℕ) (e done : ℕ) (w : List ℕ) (e′ next : ℕ) (w′ : List ℕ) → Type 0

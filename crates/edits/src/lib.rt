@@ -1,19 +1,25 @@
 // The change that an operation makes: worked out from the old table slot by slot, refused if its record does not fit, else
 // written as a record in a rising pass and put into the table from that record, as redo does.
 ghost use mathlib.Core.Path.{_≡_};
-ghost use Prim.Native.Nat.{_+_, _*_, _<_, _≤_};
+ghost use Prim.Native.Nat.{ℕ, _+_, _*_, _<_, _≤_};
 ghost use mathlib.Core.Logic.{_≢_};
 ghost use mathlib.Core.Bool.{false};
-ghost use lib.ListN.{length};
+ghost use mathlib.Core.List.{List};
+ghost use lib.ListN.{length, take};
 ghost use Rattle.model.specs.Meaning.Numbers.{JournalRule};
 ghost use Rattle.model.specs.Journal.{cursor, changesFrom};
 ghost use Rattle.model.specs.Table.{slots, relinkAt};
+ghost use Rattle.model.specs.Add.{addedLink};
 ghost use Rattle.model.specs.Sew.{sewnLink, unsewnLink};
+ghost use Rattle.model.specs.Remove.{removedLink};
+ghost use Rattle.model.specs.Split.{halvedLink};
+ghost use Rattle.model.specs.Meaning.Walks.{Layer};
+ghost use Rattle.layers.specs.Ranks.{Halving};
 ghost use Rattle.reading.specs.Sized.{Sized};
 ghost use Rattle.journal.specs.Records.{drafted};
-ghost use Rattle.edits.specs.Edits.{editLink, editTable, Untouched, Fit, FitSew, FitUnsew};
+ghost use Rattle.edits.specs.Edits.{editLink, editTable, four, Untouched, Fit, FitAdd, FitSew, FitUnsew};
 ghost use Rattle.edits.specs.Carried.{Carried};
-ghost use Rattle.edits.specs.Passes.{Counts, Found, Room, Passes, Writing, Writes};
+ghost use Rattle.edits.specs.Passes.{Links, Counts, Found, Room, Passes, Writing, WritingLinks, Writes};
 
 // What an operation makes of the table, from the lists that are lent with it.
 pub enum Edit {
@@ -49,8 +55,83 @@ fn after_unsew(table: &[u32], side: &[u8], i: u32, x: u32, j: u32) -> u32
     }
 }
 
-// Link j of the slot x after the edit.
-fn new_link(
+// The links of the slot x after add.
+fn links_added(n: u32, table: &[u32], a: &[u32], c: &[u32], size: u32, x: u32) -> [u32; 4]
+    requires { ⌜ FitAdd n (now a) (now c) size ⌝ }
+    ensures { λ r. ⌜ r ≡ four (addedLink n (now (table .entry)) (take size (now (a .entry))) x) ⌝ }
+{
+    [
+        layers::added_link(n, table, a, c, size, x, 0),
+        layers::added_link(n, table, a, c, size, x, 1),
+        layers::added_link(n, table, a, c, size, x, 2),
+        layers::added_link(n, table, a, c, size, x, 3),
+    ]
+}
+
+// The links of the slot x after sew by link i.
+fn links_sewn(table: &[u32], a: &[u32], b: &[u32], i: u32, x: u32) -> [u32; 4]
+    requires { ⌜ (FitSew (now table) i (now a) (now b)) × (x < slots (now table)) ⌝ }
+    ensures { λ r. ⌜ r ≡ four (relinkAt (now (table .entry)) i
+        (sewnLink (now (table .entry)) i (now (a .entry)) (now (b .entry))) x) ⌝ }
+{
+    [
+        after_sew(table, a, b, i, x, 0),
+        after_sew(table, a, b, i, x, 1),
+        after_sew(table, a, b, i, x, 2),
+        after_sew(table, a, b, i, x, 3),
+    ]
+}
+
+// The links of the slot x after unsew by link i.
+fn links_unsewn(table: &[u32], marks: &[u8], i: u32, x: u32) -> [u32; 4]
+    requires { ⌜ (FitUnsew (now table) i (now marks)) × (x < slots (now table)) ⌝ }
+    ensures { λ r. ⌜ r ≡ four (relinkAt (now (table .entry)) i (unsewnLink (now (table .entry)) i (now (marks .entry))) x) ⌝ }
+{
+    [
+        after_unsew(table, marks, i, x, 0),
+        after_unsew(table, marks, i, x, 1),
+        after_unsew(table, marks, i, x, 2),
+        after_unsew(table, marks, i, x, 3),
+    ]
+}
+
+// The links of the slot x after remove.
+fn links_removed(n: u32, table: &[u32], marks: &[u8], x: u32) -> [u32; 4]
+    requires { ⌜ Layer n (now table) (now marks) ⌝ }
+    ensures { λ r. ⌜ r ≡ four (removedLink n (now (table .entry)) (now (marks .entry)) x) ⌝ }
+{
+    [
+        layers::removed_link(n, table, marks, x, 0),
+        layers::removed_link(n, table, marks, x, 1),
+        layers::removed_link(n, table, marks, x, 2),
+        layers::removed_link(n, table, marks, x, 3),
+    ]
+}
+
+// The links of the slot x after split.
+fn links_split(
+    n: u32,
+    table: &[u32],
+    a: &[u32],
+    b: &[u32],
+    c: &[u32],
+    size: u32,
+    x: u32,
+) -> [u32; 4]
+    requires { ⌜ Halving n size (now a) (now b) (now c) ⌝ }
+    ensures { λ r. ⌜ r ≡ four (halvedLink n (now (table .entry))
+        (take size (now (a .entry))) (take (n * size) (now (b .entry))) x) ⌝ }
+{
+    [
+        layers::split_link(n, table, a, b, c, size, x, 0),
+        layers::split_link(n, table, a, b, c, size, x, 1),
+        layers::split_link(n, table, a, b, c, size, x, 2),
+        layers::split_link(n, table, a, b, c, size, x, 3),
+    ]
+}
+
+// The links of the slot x after the edit.
+fn new_links(
     edit: Edit,
     n: u32,
     table: &[u32],
@@ -60,18 +141,17 @@ fn new_link(
     c: &[u32],
     size: u32,
     x: u32,
-    j: u32,
-) -> u32
+) -> [u32; 4]
     requires { ⌜ Fit edit n (now table) (now marks) (now a) (now b) (now c) size ⌝ }
-    requires { ⌜ (x < slots (now table)) × (j < 4) ⌝ }
-    ensures { λ r. ⌜ r ≡ editLink edit n (now (table .entry)) (now (marks .entry)) (now (a .entry)) (now (b .entry)) size x j ⌝ }
+    requires { ⌜ x < slots (now table) ⌝ }
+    ensures { λ r. ⌜ r ≡ four (editLink edit n (now (table .entry)) (now (marks .entry)) (now (a .entry)) (now (b .entry)) size x) ⌝ }
 {
     match edit {
-        Edit::Add => layers::added_link(n, table, a, c, size, x, j),
-        Edit::Sew(i) => after_sew(table, a, b, i, x, j),
-        Edit::Unsew(i) => after_unsew(table, marks, i, x, j),
-        Edit::Remove => layers::removed_link(n, table, marks, x, j),
-        Edit::Split => layers::split_link(n, table, a, b, c, size, x, j),
+        Edit::Add => links_added(n, table, a, c, size, x),
+        Edit::Sew(i) => links_sewn(table, a, b, i, x),
+        Edit::Unsew(i) => links_unsewn(table, marks, i, x),
+        Edit::Remove => links_removed(n, table, marks, x),
+        Edit::Split => links_split(n, table, a, b, c, size, x),
     }
 }
 
@@ -101,6 +181,22 @@ fn touches(
     }
 }
 
+// How many links of the slot x differ from those of `links`.
+fn count_links(table: &[u32], links: [u32; 4], x: u32) -> u32
+    requires { ⌜ (Sized (now table)) × (x < slots (now table)) ⌝ }
+    ensures few { λ r. ⌜ r ≤ 4 ⌝ }
+    ensures { λ r. ⌜ ((u : List ℕ) → Links (now (table .entry)) u links x
+        → Counts (now (table .entry)) u (4 * x) (4 * x + 4) r) ⌝ }
+{
+    let mut changed = 0;
+    for j in 0..4 {
+        if reading::link_in(table, j, x) != links[j] {
+            changed += 1;
+        }
+    }
+    changed
+}
+
 // How many links of the slot x the edit changes.
 fn count_slot(
     edit: Edit,
@@ -123,14 +219,7 @@ fn count_slot(
     if !touches(edit, n, table, marks, a, b, c, size, x) {
         return 0;
     }
-    let mut changed = 0;
-    for j in 0..4 {
-        let new = new_link(edit, n, table, marks, a, b, c, size, x, j);
-        if reading::link_in(table, j as usize, x) != new {
-            changed += 1;
-        }
-    }
-    changed
+    count_links(table, new_links(edit, n, table, marks, a, b, c, size, x), x)
 }
 
 // How many entries the edit changes, and a slot below which it changes none.
@@ -183,7 +272,22 @@ fn write_entry(journal: &mut [u32], done: usize, e: u32, old: u32, new: u32) -> 
     done + 1
 }
 
-// Writes the changes of the slot x, `from` being the number of the first triple; the number of the next triple.
+// Writes the changes of the slot x to `links`, `from` being the number of the first triple; the number of the next triple.
+fn write_links(table: &[u32], journal: &mut [u32], links: [u32; 4], from: usize, x: u32) -> usize
+    requires { ⌜ (Sized (now table)) × (x < slots (now table)) ⌝ }
+    requires { ⌜ WritingLinks (now table) links x from (now journal) ⌝ }
+    ensures { λ r. ⌜ ((u : List ℕ) → Links (now (table .entry)) u links x
+        → Writes (now (table .entry)) u (4 * x) from (now (journal .entry)) (4 * x + 4) r (now (journal .exit))) ⌝ }
+{
+    let mut done = from;
+    for j in 0..4 {
+        let old = reading::link_in(table, j, x);
+        done = write_entry(journal, done, 4 * x + j as u32, old, links[j]);
+    }
+    done
+}
+
+// Writes the changes that the edit makes at the slot x, with the triples numbered as by `write_links`.
 fn write_slot(
     edit: Edit,
     n: u32,
@@ -208,13 +312,13 @@ fn write_slot(
     if !touches(edit, n, table, marks, a, b, c, size, x) {
         return from;
     }
-    let mut done = from;
-    for j in 0..4 {
-        let old = reading::link_in(table, j as usize, x);
-        let new = new_link(edit, n, table, marks, a, b, c, size, x, j);
-        done = write_entry(journal, done, 4 * x + j, old, new);
-    }
-    done
+    write_links(
+        table,
+        journal,
+        new_links(edit, n, table, marks, a, b, c, size, x),
+        from,
+        x,
+    )
 }
 
 // Writes the triples of the record at the cursor, by rising entry, from the slot `first` on, and stops behind the last.

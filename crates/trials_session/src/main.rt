@@ -1,9 +1,28 @@
-// Sessions, each given as one text: every op on 01's small maps, and every kind of line that does not fit. What is printed for
-// a session follows its title.
-fn session(title: &[u8], input: &[u8]) {
+// Sessions, each given as one text: every op on 01's small maps, and every kind of line that does not fit. What is
+// printed for a session follows its title.
+ghost use Prim.Native.Nat.{_≤_};
+ghost use lib.ListN.{length};
+ghost use Rattle.lines.specs.Held.{Room};
+
+// Prints what a session prints for an input of at most 1700 bytes.
+fn show(
+    input: &[u8],
+    text: &mut [u8],
+    table: &mut [u32],
+    marks: &mut [u8],
+    journal: &mut [u32],
+    out: &mut [u8],
+)
+    requires { ⌜ (Room (now text) (now table) (now marks) (now journal)) × (262144 ≤ length (now out)) ⌝ }
+{
     if input.len() > 1700 {
         return;
     }
+    let end = lines::whole(input, text, table, marks, journal, out);
+    io::write_all(1, &out[..end]);
+}
+
+fn session(title: &[u8], input: &[u8]) {
     io::write_all(1, b"# ");
     io::write_all(1, title);
     io::write_all(1, b"\n");
@@ -12,7 +31,7 @@ fn session(title: &[u8], input: &[u8]) {
     let mut marks = [0u8; 960];
     let mut journal = [0u32; 16384];
     let mut out = [0u8; 262144];
-    let end = lines::whole(
+    show(
         input,
         &mut text,
         &mut table,
@@ -20,7 +39,6 @@ fn session(title: &[u8], input: &[u8]) {
         &mut journal,
         &mut out,
     );
-    io::write_all(1, &out[..end]);
 }
 
 // Every op, accepted and refused, on 01's small maps.

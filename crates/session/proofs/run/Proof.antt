@@ -46,8 +46,7 @@ loop-again c =
     let turned = c .before .before .before .before .before .before .before .before .before .before .before .before in
     let l = turned .before .before .before .before .before .before .before in
     let g = l .loop .inv in
-    let k = turned .turn .kept in
-    (
+    let k = turned .turn .kept in (
       room-kept (g .0) (k .1 .0) (k .1 .1 .0) (k .1 .1 .1 .0) (k .1 .1 .1 .1 .0),
       turned .turn .ensures .0,
       omega (arith, turned .turn .ensures .1, g .2, turned .before .before .before .before .before .before .loop-test .taken),
@@ -66,8 +65,7 @@ loop-again-2 c =
     let turned = c .before .before .before .before .before .before .before .before .before .before .before .before in
     let l = turned .before .before .before .before .before .before .before in
     let g = l .loop .inv in
-    let k = turned .turn .kept in
-    (
+    let k = turned .turn .kept in (
       room-kept (g .0) (k .1 .0) (k .1 .1 .0) (k .1 .1 .1 .0) (k .1 .1 .1 .1 .0),
       turned .turn .ensures .0,
       omega (arith, turned .turn .ensures .1, g .2, turned .before .before .before .before .before .before .loop-test .taken),
