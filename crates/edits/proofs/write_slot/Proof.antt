@@ -1,6 +1,4 @@
 -- `edits::write_slot` meets its contract.
-use mathlib.Core.Path.{_≡_}
-use native.Mathlib.Omega.{arith}
 use borrow.Author.Needs.{needs}
 use borrow.Author.Tests.{not-true}
 use Rattle.edits.proofs.Edited.{edit-long, edit-links, edit-leaves}
