@@ -1,5 +1,5 @@
--- The table after an edit: as long as before, each link by `editLink`, the links of a slot as `new_links` has them, and those of
--- an untouched slot as before.
+-- The table after an edit: as long as before, each link by `editLink`, a slot's links as `new_links` has them, and those of an
+-- untouched slot as before.
 use Prim.Native.Nat.{ℕ, _*_, _<_}
 use mathlib.Core.Path.{_≡_, sym, ap, _∙_}
 use mathlib.Core.List.{List}

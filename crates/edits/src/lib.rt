@@ -144,7 +144,8 @@ fn new_links(
 ) -> [u32; 4]
     requires { ⌜ Fit edit n (now table) (now marks) (now a) (now b) (now c) size ⌝ }
     requires { ⌜ x < slots (now table) ⌝ }
-    ensures { λ r. ⌜ r ≡ four (editLink edit n (now (table .entry)) (now (marks .entry)) (now (a .entry)) (now (b .entry)) size x) ⌝ }
+    ensures { λ r. ⌜ r ≡ four (editLink edit n
+        (now (table .entry)) (now (marks .entry)) (now (a .entry)) (now (b .entry)) size x) ⌝ }
 {
     match edit {
         Edit::Add => links_added(n, table, a, c, size, x),

@@ -51,8 +51,8 @@ write-entry-requires c κs =
     let (sized, inside) = s .pre .0 in
     let g = s .pre .1 in
     let h = g .links in
-    writes-room _ _ (h .long) (sized .fits) (s .args .x) inside (l .loop .j) low _ _ (n .link-in .ensures) (h .at _ low) _ _ _ _
-    (l .loop .inv .1 _ h) (g .writing)
+    writes-room _ _ (h .long) (sized .fits) (s .args .x) inside (l .loop .j) low _ _ (n .link-in .ensures) (h .at _ low)
+    _ _ _ _ (l .loop .inv .1 _ h) (g .writing)
 
 add-j : tie.Need-add-j Inv-loop μ-loop
 add-j c = search needs
@@ -70,8 +70,8 @@ loop-again c =
     let s = start l in
     let (sized, inside) = s .pre .0 in (
       omega arith,
-      λ u h. writes-more _ u (h .long) (sized .fits) (s .args .x) inside (l .loop .j) low _ _ (n .link-in .ensures) (h .at _ low)
-          _ _ _ _ (l .loop .inv .1 u h) _ _ (w .write-entry .ensures),
+      λ u h. writes-more _ u (h .long) (sized .fits) (s .args .x) inside (l .loop .j) low _ _ (n .link-in .ensures)
+          (h .at _ low) _ _ _ _ (l .loop .inv .1 u h) _ _ (w .write-entry .ensures),
     )
 
 same-length : tie.Need-same-length Inv-loop μ-loop
