@@ -1,81 +1,171 @@
 // undo and redo over the operations, and 16.
-use crate::calls::UNUSED;
-use crate::calls::add;
-use crate::calls::fresh;
-use crate::calls::redo;
-use crate::calls::sew;
-use crate::calls::undo;
-use crate::calls::unsew;
-use crate::calls::window;
-use crate::quads::add_three;
+use crate::quads::ONE;
+use playing::ADD;
+use playing::DIGESTS;
+use playing::JOURNAL;
+use playing::REDO;
+use playing::SEW;
+use playing::UNDO;
+use playing::UNSEW;
+use playing::scene;
 
-pub fn run() {
-    row();
-    written_over();
-}
+// T is taken back to the empty table.
+const ROW_UNDONE: [u32; 56] = [
+    UNDO,
+    0,
+    0,
+    0,
+    ADD,
+    0,
+    0,
+    0,
+    ADD,
+    0,
+    0,
+    0,
+    ADD,
+    0,
+    0,
+    0,
+    SEW,
+    2,
+    5,
+    12,
+    SEW,
+    2,
+    13,
+    20,
+    UNDO,
+    0,
+    0,
+    0,
+    JOURNAL,
+    0,
+    2,
+    0,
+    UNDO,
+    0,
+    0,
+    0,
+    JOURNAL,
+    0,
+    2,
+    0,
+    UNDO,
+    0,
+    0,
+    0,
+    UNDO,
+    0,
+    0,
+    0,
+    UNDO,
+    0,
+    0,
+    0,
+    UNDO,
+    0,
+    0,
+    0,
+];
 
-// T is taken back to the empty table and put again.
-fn row() {
-    showing::title(b"T undone and done again");
-    let mut table = [UNUSED; 96];
-    let mut journal = [9u32; 400];
-    fresh(&mut journal);
-    undo(2, &mut table, &mut journal);
-    add_three(&mut table, &mut journal);
-    sew(2, &mut table, &mut journal, 2, 5, 12);
-    sew(2, &mut table, &mut journal, 2, 13, 20);
-    take_back(&mut table, &mut journal);
-    put_again(&mut table, &mut journal);
-}
-
-fn take_back(table: &mut [u32], journal: &mut [u32]) {
-    undo(2, table, journal);
-    window(journal, 0, 2);
-    undo(2, table, journal);
-    window(journal, 0, 2);
-    undo_three(table, journal);
-    undo(2, table, journal);
-}
-
-fn undo_three(table: &mut [u32], journal: &mut [u32]) {
-    undo(2, table, journal);
-    undo(2, table, journal);
-    undo(2, table, journal);
-}
-
-fn put_again(table: &mut [u32], journal: &mut [u32]) {
-    redo(2, table, journal);
-    window(journal, 0, 2);
-    redo_two(table, journal);
-    redo_two(table, journal);
-    redo(2, table, journal);
-}
-
-fn redo_two(table: &mut [u32], journal: &mut [u32]) {
-    redo(2, table, journal);
-    redo(2, table, journal);
-}
+// It is put again.
+const ROW_REDONE: [u32; 28] = [
+    REDO,
+    0,
+    0,
+    0,
+    JOURNAL,
+    0,
+    2,
+    0,
+    REDO,
+    0,
+    0,
+    0,
+    REDO,
+    0,
+    0,
+    0,
+    REDO,
+    0,
+    0,
+    0,
+    REDO,
+    0,
+    0,
+    0,
+    REDO,
+    0,
+    0,
+    0,
+];
 
 // A record that was undone is written over: 15 looks at the words from the cursor to the length, and redo finds nothing.
-fn written_over() {
-    showing::title(b"undone records written over");
-    let mut table = [UNUSED; 32];
-    let mut journal = [9u32; 114];
-    fresh(&mut journal);
-    add(2, &mut table, &mut journal);
-    sew(2, &mut table, &mut journal, 2, 5, 2);
-    sew(2, &mut table, &mut journal, 2, 0, 6);
-    undo(2, &mut table, &mut journal);
-    over(&mut table, &mut journal);
-}
+const OVER: [u32; 44] = [
+    SEW,
+    2,
+    5,
+    2,
+    SEW,
+    2,
+    0,
+    6,
+    UNDO,
+    0,
+    0,
+    0,
+    JOURNAL,
+    0,
+    2,
+    0,
+    UNSEW,
+    1,
+    0,
+    0,
+    JOURNAL,
+    0,
+    2,
+    0,
+    JOURNAL,
+    100,
+    114,
+    0,
+    REDO,
+    0,
+    0,
+    0,
+    UNDO,
+    0,
+    0,
+    0,
+    UNDO,
+    0,
+    0,
+    0,
+    ADD,
+    0,
+    0,
+    0,
+];
 
-fn over(table: &mut [u32], journal: &mut [u32]) {
-    window(journal, 0, 2);
-    unsew(2, table, journal, 1, 0);
-    window(journal, 0, 2);
-    window(journal, 100, 114);
-    redo(2, table, journal);
-    undo(2, table, journal);
-    undo(2, table, journal);
-    add(2, table, journal);
+pub fn run() {
+    scene(
+        b"T undone and done again",
+        DIGESTS,
+        2,
+        24,
+        400,
+        &ROW_UNDONE,
+        &ROW_REDONE,
+    );
+    scene(
+        b"undone records written over",
+        DIGESTS,
+        2,
+        8,
+        114,
+        &ONE,
+        &OVER,
+    );
 }

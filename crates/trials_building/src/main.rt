@@ -2,7 +2,6 @@
 // are out of rule and records that are broken. Each call's line has what it was given, what it answers, and digests of
 // table and journal as it leaves them, which a refusal does not change.
 mod broken;
-mod calls;
 mod history;
 mod quads;
 mod refusals;

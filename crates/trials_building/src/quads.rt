@@ -1,113 +1,263 @@
 // Dimension 2: the worked cases Q, T, 2 and 8 to 12 of 01, and links 0 and 1.
-use crate::calls::UNUSED;
-use crate::calls::add;
-use crate::calls::fresh;
-use crate::calls::sew;
-use crate::calls::unsew;
-use crate::calls::window;
+use playing::ADD;
+use playing::JOURNAL;
+use playing::LINKS;
+use playing::SEW;
+use playing::UNSEW;
 
-pub fn run() {
-    quad();
-    seven_slots();
-    row();
-    closed();
-    one_side();
-    unpaired();
-    lower_links();
-}
+// A block; and nothing behind it.
+pub const ONE: [u32; 4] = [ADD, 0, 0, 0];
+
+const NONE: [u32; 0] = [];
+
+// T: three quads in a row.
+const ROW: [u32; 20] = [
+    ADD,
+    0,
+    0,
+    0,
+    ADD,
+    0,
+    0,
+    0,
+    ADD,
+    0,
+    0,
+    0,
+    SEW,
+    2,
+    5,
+    12,
+    SEW,
+    2,
+    13,
+    20,
+];
 
 // Q: the links are those that 01's session prints. Its record has 98 words.
-fn quad() {
-    showing::title(b"Q: a quad");
-    let mut table = [UNUSED; 32];
-    let mut journal = [9u32; 210];
-    fresh(&mut journal);
-    add(2, &mut table, &mut journal);
-    showing::links(&table, &[0, 1, 2, 3, 4, 5, 6, 7]);
-    window(&journal, 0, 102);
-    add(2, &mut table, &mut journal);
-}
+const QUAD: [u32; 40] = [
+    LINKS,
+    0,
+    0,
+    0,
+    LINKS,
+    1,
+    0,
+    0,
+    LINKS,
+    2,
+    0,
+    0,
+    LINKS,
+    3,
+    0,
+    0,
+    LINKS,
+    4,
+    0,
+    0,
+    LINKS,
+    5,
+    0,
+    0,
+    LINKS,
+    6,
+    0,
+    0,
+    LINKS,
+    7,
+    0,
+    0,
+    JOURNAL,
+    0,
+    102,
+    0,
+    ADD,
+    0,
+    0,
+    0,
+];
 
-fn seven_slots() {
-    showing::title(b"case 2: seven slots");
-    let mut table = [UNUSED; 28];
-    let mut journal = [9u32; 210];
-    fresh(&mut journal);
-    add(2, &mut table, &mut journal);
-}
+const ROW_SEEN: [u32; 48] = [
+    LINKS,
+    5,
+    0,
+    0,
+    LINKS,
+    7,
+    0,
+    0,
+    LINKS,
+    12,
+    0,
+    0,
+    LINKS,
+    14,
+    0,
+    0,
+    LINKS,
+    13,
+    0,
+    0,
+    LINKS,
+    15,
+    0,
+    0,
+    LINKS,
+    20,
+    0,
+    0,
+    LINKS,
+    22,
+    0,
+    0,
+    JOURNAL,
+    0,
+    3,
+    0,
+    JOURNAL,
+    296,
+    326,
+    0,
+    SEW,
+    2,
+    5,
+    0,
+    SEW,
+    2,
+    0,
+    5,
+];
 
-fn row() {
-    showing::title(b"T: three quads in a row; case 10");
-    let mut table = [UNUSED; 96];
-    let mut journal = [9u32; 400];
-    fresh(&mut journal);
-    add_three(&mut table, &mut journal);
-    sew(2, &mut table, &mut journal, 2, 5, 12);
-    sew(2, &mut table, &mut journal, 2, 13, 20);
-    see_row(&table, &journal);
-    sew(2, &mut table, &mut journal, 2, 5, 0);
-    sew(2, &mut table, &mut journal, 2, 0, 5);
-}
+const CLOSED: [u32; 44] = [
+    SEW,
+    2,
+    5,
+    2,
+    LINKS,
+    5,
+    0,
+    0,
+    LINKS,
+    7,
+    0,
+    0,
+    LINKS,
+    2,
+    0,
+    0,
+    LINKS,
+    3,
+    0,
+    0,
+    UNSEW,
+    2,
+    3,
+    0,
+    LINKS,
+    5,
+    0,
+    0,
+    LINKS,
+    7,
+    0,
+    0,
+    LINKS,
+    2,
+    0,
+    0,
+    LINKS,
+    3,
+    0,
+    0,
+    JOURNAL,
+    98,
+    130,
+    0,
+];
 
-pub fn add_three(table: &mut [u32], journal: &mut [u32]) {
-    add(2, table, journal);
-    add(2, table, journal);
-    add(2, table, journal);
-}
+const ONE_SIDE: [u32; 12] = [SEW, 2, 5, 7, SEW, 2, 5, 5, UNSEW, 2, 0, 0];
 
-fn see_row(table: &[u32], journal: &[u32]) {
-    showing::links(table, &[5, 7, 12, 14, 13, 15, 20, 22]);
-    window(journal, 0, 3);
-    window(journal, 296, 326);
-}
-
-fn closed() {
-    showing::title(b"case 8: a quad whose layer crosses itself");
-    let mut table = [UNUSED; 32];
-    let mut journal = [9u32; 210];
-    fresh(&mut journal);
-    add(2, &mut table, &mut journal);
-    sew(2, &mut table, &mut journal, 2, 5, 2);
-    showing::links(&table, &[5, 7, 2, 3]);
-    unsew(2, &mut table, &mut journal, 2, 3);
-    showing::links(&table, &[5, 7, 2, 3]);
-    window(&journal, 98, 130);
-}
-
-fn one_side() {
-    showing::title(b"cases 9 and 11: one side, and a free one");
-    let mut table = [UNUSED; 32];
-    let mut journal = [9u32; 210];
-    fresh(&mut journal);
-    add(2, &mut table, &mut journal);
-    sew(2, &mut table, &mut journal, 2, 5, 7);
-    sew(2, &mut table, &mut journal, 2, 5, 5);
-    unsew(2, &mut table, &mut journal, 2, 0);
-}
-
-fn unpaired() {
-    showing::title(b"case 12: sides that have no pairing");
-    let mut table = [UNUSED; 32];
-    let mut journal = [9u32; 210];
-    fresh(&mut journal);
-    add(2, &mut table, &mut journal);
-    unsew(2, &mut table, &mut journal, 0, 0);
-    sew(2, &mut table, &mut journal, 2, 0, 5);
-    sew(2, &mut table, &mut journal, 2, 5, 0);
-    sew(2, &mut table, &mut journal, 2, 0, 1);
-}
+const UNPAIRED: [u32; 16] = [UNSEW, 0, 0, 0, SEW, 2, 0, 5, SEW, 2, 5, 0, SEW, 2, 0, 1];
 
 // A side of link 1 is a dart, and one of link 0 by link 2.
-fn lower_links() {
-    showing::title(b"links 0 and 1");
-    let mut table = [UNUSED; 32];
-    let mut journal = [9u32; 210];
-    fresh(&mut journal);
-    add(2, &mut table, &mut journal);
-    unsew(2, &mut table, &mut journal, 1, 0);
-    sew(2, &mut table, &mut journal, 1, 4, 0);
-    sew(2, &mut table, &mut journal, 2, 0, 6);
-    unsew(2, &mut table, &mut journal, 0, 0);
-    sew(2, &mut table, &mut journal, 0, 6, 1);
-    showing::links(&table, &[0, 1, 2, 4, 6]);
+const LOWER_LINKS: [u32; 40] = [
+    UNSEW,
+    1,
+    0,
+    0,
+    SEW,
+    1,
+    4,
+    0,
+    SEW,
+    2,
+    0,
+    6,
+    UNSEW,
+    0,
+    0,
+    0,
+    SEW,
+    0,
+    6,
+    1,
+    LINKS,
+    0,
+    0,
+    0,
+    LINKS,
+    1,
+    0,
+    0,
+    LINKS,
+    2,
+    0,
+    0,
+    LINKS,
+    4,
+    0,
+    0,
+    LINKS,
+    6,
+    0,
+    0,
+];
+
+pub fn run() {
+    quads(b"Q: a quad", 8, 210, &ONE, &QUAD);
+    quads(b"case 2: seven slots", 7, 210, &ONE, &NONE);
+    quads(
+        b"T: three quads in a row; case 10",
+        24,
+        400,
+        &ROW,
+        &ROW_SEEN,
+    );
+    quads(
+        b"case 8: a quad whose layer crosses itself",
+        8,
+        210,
+        &ONE,
+        &CLOSED,
+    );
+    quads(
+        b"cases 9 and 11: one side, and a free one",
+        8,
+        210,
+        &ONE,
+        &ONE_SIDE,
+    );
+    quads(
+        b"case 12: sides that have no pairing",
+        8,
+        210,
+        &ONE,
+        &UNPAIRED,
+    );
+    quads(b"links 0 and 1", 8, 210, &ONE, &LOWER_LINKS);
+}
+
+fn quads(title: &[u8], slots: u32, words: u32, made: &[u32], then: &[u32]) {
+    playing::scene(title, playing::DIGESTS, 2, slots, words, made, then);
 }

@@ -1,20 +1,319 @@
 // Refusals by 1 to 7 and by 15; 9 to 12 and 14 stand with the maps.
-use crate::calls::UNUSED;
-use crate::calls::add;
-use crate::calls::fresh;
-use crate::calls::put;
-use crate::calls::redo;
-use crate::calls::sew;
-use crate::calls::undo;
-use crate::calls::unsew;
-use crate::calls::window;
+use crate::quads::ONE;
+use playing::ADD;
+use playing::DIGESTS;
+use playing::DIM;
+use playing::JOURNAL;
+use playing::PUT;
+use playing::REDO;
+use playing::SEW;
+use playing::UNDO;
+use playing::UNSEW;
+use playing::UNUSED;
+use playing::WRITE;
+use playing::play;
+use playing::scene;
+
+const EACH_CALL: [u32; 20] = [
+    ADD,
+    0,
+    0,
+    0,
+    SEW,
+    9,
+    9,
+    9,
+    UNSEW,
+    9,
+    9,
+    0,
+    UNDO,
+    0,
+    0,
+    0,
+    REDO,
+    0,
+    0,
+    0,
+];
+
+// Cursors and ends, in a journal of 4 words.
+const WORDS: [u32; 140] = [
+    WRITE,
+    0,
+    1,
+    0,
+    WRITE,
+    1,
+    2,
+    0,
+    JOURNAL,
+    0,
+    2,
+    0,
+    ADD,
+    0,
+    0,
+    0,
+    UNDO,
+    0,
+    0,
+    0,
+    WRITE,
+    0,
+    3,
+    0,
+    WRITE,
+    1,
+    2,
+    0,
+    JOURNAL,
+    0,
+    2,
+    0,
+    ADD,
+    0,
+    0,
+    0,
+    UNDO,
+    0,
+    0,
+    0,
+    WRITE,
+    0,
+    2,
+    0,
+    WRITE,
+    1,
+    5,
+    0,
+    JOURNAL,
+    0,
+    2,
+    0,
+    ADD,
+    0,
+    0,
+    0,
+    UNDO,
+    0,
+    0,
+    0,
+    WRITE,
+    0,
+    2,
+    0,
+    WRITE,
+    1,
+    4,
+    0,
+    JOURNAL,
+    0,
+    2,
+    0,
+    ADD,
+    0,
+    0,
+    0,
+    UNDO,
+    0,
+    0,
+    0,
+    WRITE,
+    0,
+    4,
+    0,
+    WRITE,
+    1,
+    4,
+    0,
+    JOURNAL,
+    0,
+    2,
+    0,
+    ADD,
+    0,
+    0,
+    0,
+    UNDO,
+    0,
+    0,
+    0,
+    WRITE,
+    0,
+    5,
+    0,
+    WRITE,
+    1,
+    5,
+    0,
+    JOURNAL,
+    0,
+    2,
+    0,
+    ADD,
+    0,
+    0,
+    0,
+    UNDO,
+    0,
+    0,
+    0,
+    WRITE,
+    0,
+    4294967295,
+    0,
+    WRITE,
+    1,
+    4294967295,
+    0,
+    JOURNAL,
+    0,
+    2,
+    0,
+    ADD,
+    0,
+    0,
+    0,
+    UNDO,
+    0,
+    0,
+    0,
+];
+
+// The quad with 1.2 = 4294967295 has place 0.
+const NO_MAP: [u32; 52] = [
+    PUT,
+    6,
+    UNUSED,
+    0,
+    ADD,
+    0,
+    0,
+    0,
+    SEW,
+    9,
+    9,
+    9,
+    UNSEW,
+    9,
+    9,
+    0,
+    UNDO,
+    0,
+    0,
+    0,
+    REDO,
+    0,
+    0,
+    0,
+    PUT,
+    6,
+    1,
+    0,
+    PUT,
+    31,
+    6,
+    0,
+    ADD,
+    0,
+    0,
+    0,
+    SEW,
+    9,
+    9,
+    9,
+    UNSEW,
+    9,
+    9,
+    0,
+    UNDO,
+    0,
+    0,
+    0,
+    REDO,
+    0,
+    0,
+    0,
+];
+
+// Slot 8 is unused, 17 lies past the table.
+const RANGES: [u32; 56] = [
+    SEW,
+    3,
+    0,
+    99,
+    SEW,
+    UNUSED,
+    99,
+    0,
+    UNSEW,
+    3,
+    99,
+    0,
+    DIM,
+    3,
+    0,
+    0,
+    SEW,
+    3,
+    0,
+    5,
+    SEW,
+    4,
+    0,
+    5,
+    UNSEW,
+    4,
+    0,
+    0,
+    DIM,
+    2,
+    0,
+    0,
+    SEW,
+    2,
+    8,
+    0,
+    SEW,
+    2,
+    0,
+    8,
+    SEW,
+    2,
+    17,
+    0,
+    SEW,
+    2,
+    0,
+    UNUSED,
+    UNSEW,
+    2,
+    8,
+    0,
+    UNSEW,
+    2,
+    1073741824,
+    0,
+];
+
+const FOLD: [u32; 4] = [SEW, 2, 0, 6];
+
+const OPEN: [u32; 4] = [UNSEW, 1, 0, 0];
 
 pub fn run() {
     dimensions();
-    lengths();
     journals();
-    no_map();
-    ranges();
+    scene(b"5: not a map", DIGESTS, 2, 8, 210, &ONE, &NO_MAP);
+    scene(
+        b"6 and 7: links and darts out of range",
+        DIGESTS,
+        2,
+        17,
+        300,
+        &ONE,
+        &RANGES,
+    );
     no_room();
 }
 
@@ -24,30 +323,27 @@ fn dimensions() {
     let mut journal = [9u32; 2];
     each_call(1, &mut table, &mut journal);
     each_call(4294967295, &mut table, &mut journal);
-}
-
-fn lengths() {
     showing::title(b"2: a table of 5 entries");
-    let mut table = [UNUSED; 5];
-    let mut journal = [9u32; 2];
     each_call(2, &mut table, &mut journal);
 }
 
 fn each_call(n: u32, table: &mut [u32], journal: &mut [u32]) {
-    add(n, table, journal);
-    sew(n, table, journal, 9, 9, 9);
-    unsew(n, table, journal, 9, 9);
-    undo(n, table, journal);
-    redo(n, table, journal);
+    in_journal(n, table, journal, &EACH_CALL);
+}
+
+fn in_journal(n: u32, table: &mut [u32], journal: &mut [u32], rows: &[u32]) {
+    let mut marks = [0u8; 0];
+    play(DIGESTS, n, table, &mut marks, journal, rows);
 }
 
 // The table has a slot that breaks a rule, so that what 4 lets through 5 refuses.
 fn journals() {
     showing::title(b"4: journals of 0 to 3 words, and words out of rule");
     let mut table = [UNUSED; 32];
-    put(&mut table, 13, 0);
+    let mut journal = [9u32; 4];
+    table[13] = 0;
     short(&mut table);
-    words(&mut table);
+    in_journal(2, &mut table, &mut journal, &WORDS);
 }
 
 fn short(table: &mut [u32]) {
@@ -59,81 +355,6 @@ fn short(table: &mut [u32]) {
     each_call(2, table, &mut one);
     each_call(2, table, &mut two);
     each_call(2, table, &mut three);
-}
-
-fn words(table: &mut [u32]) {
-    with_words(table, 1, 2);
-    with_words(table, 3, 2);
-    with_words(table, 2, 5);
-    with_words(table, 2, 4);
-    words_alike(table);
-}
-
-fn words_alike(table: &mut [u32]) {
-    with_words(table, 4, 4);
-    with_words(table, 5, 5);
-    with_words(table, 4294967295, 4294967295);
-}
-
-// A journal of 4 words with these two first.
-fn with_words(table: &mut [u32], cursor: u32, end: u32) {
-    let mut journal = [9u32; 4];
-    put(&mut journal, 0, cursor);
-    put(&mut journal, 1, end);
-    window(&journal, 0, 2);
-    add(2, table, &mut journal);
-    undo(2, table, &mut journal);
-}
-
-// The quad with 1.2 = 4294967295 has place 0.
-fn no_map() {
-    showing::title(b"5: not a map");
-    let mut table = [UNUSED; 32];
-    let mut journal = [9u32; 210];
-    fresh(&mut journal);
-    add(2, &mut table, &mut journal);
-    put(&mut table, 6, UNUSED);
-    each_call(2, &mut table, &mut journal);
-    put(&mut table, 6, 1);
-    put(&mut table, 31, 6);
-    each_call(2, &mut table, &mut journal);
-}
-
-fn ranges() {
-    showing::title(b"6 and 7: links and darts out of range");
-    let mut table = [UNUSED; 68];
-    let mut journal = [9u32; 300];
-    fresh(&mut journal);
-    add(2, &mut table, &mut journal);
-    index(&mut table, &mut journal);
-    darts(&mut table, &mut journal);
-}
-
-fn index(table: &mut [u32], journal: &mut [u32]) {
-    sew(2, table, journal, 3, 0, 99);
-    sew(2, table, journal, 4294967295, 99, 0);
-    unsew(2, table, journal, 3, 99);
-    index_3d(table, journal);
-}
-
-fn index_3d(table: &mut [u32], journal: &mut [u32]) {
-    sew(3, table, journal, 3, 0, 5);
-    sew(3, table, journal, 4, 0, 5);
-    unsew(3, table, journal, 4, 0);
-}
-
-// Slot 8 is unused, 17 lies past the table.
-fn darts(table: &mut [u32], journal: &mut [u32]) {
-    sew(2, table, journal, 2, 8, 0);
-    sew(2, table, journal, 2, 0, 8);
-    sew(2, table, journal, 2, 17, 0);
-    sew(2, table, journal, 2, 0, 4294967295);
-    no_dart(table, journal);
-}
-
-fn no_dart(table: &mut [u32], journal: &mut [u32]) {
-    unsew(2, table, journal, 2, 8);
-    unsew(2, table, journal, 2, 1073741824);
 }
 
 // add's record has 98 words, sew's of a side of 2 has 14, unsew's of link 1 has 8.
@@ -148,20 +369,20 @@ fn no_room() {
 fn add_in(table: &mut [u32]) {
     let mut scant = [2u32; 99];
     let mut enough = [2u32; 100];
-    add(2, table, &mut scant);
-    add(2, table, &mut enough);
+    in_journal(2, table, &mut scant, &ONE);
+    in_journal(2, table, &mut enough, &ONE);
 }
 
 fn sew_in(table: &mut [u32]) {
     let mut scant = [2u32; 15];
     let mut enough = [2u32; 16];
-    sew(2, table, &mut scant, 2, 0, 6);
-    sew(2, table, &mut enough, 2, 0, 6);
+    in_journal(2, table, &mut scant, &FOLD);
+    in_journal(2, table, &mut enough, &FOLD);
 }
 
 fn unsew_in(table: &mut [u32]) {
     let mut scant = [2u32; 9];
     let mut enough = [2u32; 10];
-    unsew(2, table, &mut scant, 1, 0);
-    unsew(2, table, &mut enough, 1, 0);
+    in_journal(2, table, &mut scant, &OPEN);
+    in_journal(2, table, &mut enough, &OPEN);
 }

@@ -1,10 +1,10 @@
--- `trials_building::calls::digest` is safe and ends.
+-- `playing::calls::digest` is safe and ends.
 use Prim.Native.Nat.{_≤_, _-_}
 use mathlib.Core.Path.{_≡_}
 use borrow.Author.Needs.{needs}
 use lib.ListN.{length}
-use Rattle.trials_building.proofs.calls.digest.Statement.{statement}
-use Rattle.trials_building.proofs.calls.digest.Tie as tie
+use Rattle.playing.proofs.calls.digest.Statement.{statement}
+use Rattle.playing.proofs.calls.digest.Tie as tie
 
 abbrev Inv-loop : tie.InvT-loop
 Inv-loop words sum₀ k₀ k-end sum k = (k ≤ k-end) × (k-end ≡ length words)
