@@ -1,13 +1,15 @@
 -- The ladder of a call: its refusals are early returns in the order of the numbers, and at each rung one check more has
--- passed. So goes the proof of a call (proofs/orbits/orbit/Proof.antt is an example):
+-- passed. So goes the proof of a call (crates/queries/proofs/orbits/orbit/Proof.antt is an example):
 --   1. `checks`: the model's checks of the call, from the function's entry.
---   2. For each test that is left, at the record `Else..` of its branch: its rung, `Rung checks k`. That is the rung before, a
+--   2. The opening (Settled.antt): its answer settles the first checks, by the law of Opened.antt for this call. A refusal is
+--      `handed-on`; past it the call stands on the rung `opened`.
+--   3. For each test that is left, at the record `Else..` of its branch: its rung, `Rung checks k`. That is the rung before, a
 --      few steps down the chain of `.before`, and `up` with the law of Verdicts.antt for this form of test. Rungs are
 --      `abbrev`, so that their entry computes to the function's entry.
---   3. For each test that is taken, at the record `Then..`: the call's `-refused` law (Ends.antt), of `out` at the rung
---      before, with the twin of that law of Verdicts.antt.
---   4. For what a callee asks: `search` finds a passed check in `passed` of the rung; Given.antt has what goes beyond that.
---   5. At the last return: the call's `-accepted` law, of `all-passed` at the last rung and of what the callees ensure.
+--   4. For each test that is taken, at the record `Then..`: the call's `-refused` law (Ends.antt of its crate), of `out` at the
+--      rung before, with the twin of that law of Verdicts.antt.
+--   5. For what a callee asks: `search` finds a passed check in `passed` of the rung; Given.antt has what goes beyond that.
+--   6. At the last return: the call's `-accepted` law, of `all-passed` at the last rung and of what the callees ensure.
 -- A slice that is lent as `&mut` and read on the way adds needs `same-length` to the returns behind: `search needs`. Checks
 -- that stand behind the first list (those of split) are a second ladder, whose entry is the record where the first one ends.
 use Prim.Native.Nat.{ℕ, zero, suc}
