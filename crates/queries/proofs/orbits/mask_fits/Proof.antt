@@ -1,4 +1,4 @@
--- `kernel::orbits::mask_fits` meets its contract.
+-- `queries::orbits::mask_fits` meets its contract.
 use native.Mathlib.Omega.{arith}
 use Rattle.model.specs.Checks.{maskOk}
 use Rattle.model.proofs.Calls.Pass.{dim-pass}

@@ -1,4 +1,4 @@
--- `kernel::orbits::orbit_place` meets its contract.
+-- `queries::orbits::orbit_place` meets its contract.
 use Prim.Native.Nat.{_-_}
 use mathlib.Core.Path.{_≡_}
 use native.Mathlib.Omega.{arith}
