@@ -1,0 +1,22 @@
+-- `trials::main` is safe. The lemma spares the walk over the arrays.
+use Prim.Native.Nat.{ℕ}
+use mathlib.Core.Path.{sym}
+use borrow.Author.Needs.{needs}
+use lib.ListN.{length-replicate}
+use Rattle.trials.proofs.main.Statement.{statement}
+use Rattle.trials.proofs.main.Tie as tie
+
+slice-aggregate-play : tie.Need-slice-aggregate-play
+slice-aggregate-play c = sym (length-replicate {A = ℕ} 262148 0)
+
+slice-aggregate-play-2 : tie.Need-slice-aggregate-play-2
+slice-aggregate-play-2 c = sym (length-replicate {A = ℕ} 8192 0)
+
+play-requires : tie.Need-play-requires
+play-requires c κs = search needs
+
+returns : tie.Need-returns
+returns c = search needs
+
+pub main-spec : {M : Type 1} → statement M
+main-spec = tie.close (tie.spec slice-aggregate-play slice-aggregate-play-2 play-requires returns)

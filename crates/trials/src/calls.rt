@@ -1,0 +1,87 @@
+// A call, and what is printed behind its line: what it answers, and what it leaves.
+ghost use Prim.Native.Nat.{_≤_};
+ghost use mathlib.Core.Path.{_≡_};
+ghost use lib.ListN.{length, take};
+use crate::lines;
+use crate::lines::Row;
+use crate::shows;
+use crate::stage;
+use crate::stage::Stage;
+
+// With a word of the journal and a value for it: that is its value for this call.
+pub fn call(s: Stage, row: Row, table: &mut [u32], journal: &mut [u32]) {
+    let at = word_of(row);
+    let kept = stage::word(journal, at);
+    stage::put(journal, at, row.c);
+    lend(s, asked(row), table, journal);
+    stage::put(journal, at, kept);
+}
+
+// A place past every journal, where no word is named.
+fn word_of(row: Row) -> usize {
+    if row.kind >= lines::UNDO_WITH {
+        row.b as usize
+    } else {
+        4294967295
+    }
+}
+
+// The place of the call, and its i, d and e.
+fn asked(row: Row) -> Row {
+    if row.kind == lines::SEW {
+        return row;
+    }
+    Row {
+        kind: if row.kind >= lines::UNDO_WITH {
+            row.kind - 2
+        } else {
+            row.kind
+        },
+        a: row.b,
+        b: row.c,
+        c: 0,
+    }
+}
+
+// Each call is lent marks that are 9.
+fn lend(s: Stage, row: Row, table: &mut [u32], journal: &mut [u32]) {
+    let mut marks = [9u8; 65537];
+    let slots = few(&marks, s.marks);
+    ask(s.n, row, table, &mut marks[..slots], journal);
+}
+
+// So many marks; if there are not so many, a question mark and none.
+fn few(marks: &[u8], most: usize) -> usize
+    ensures { λ r. ⌜ (r ≤ length (now (marks .entry))) × (r ≡ length (take r (now (marks .entry)))) ⌝ }
+{
+    if most <= marks.len() {
+        return most;
+    }
+    shows::unknown();
+    0
+}
+
+fn ask(n: u32, row: Row, table: &mut [u32], marks: &mut [u8], journal: &mut [u32]) {
+    let a = requests::request(n, table, marks, journal, row.kind, row.a, row.b, row.c);
+    shows::answer(a.number, a.place, a.count);
+    left(row.kind, table, marks, journal);
+}
+
+// ---- what it leaves
+
+fn left(kind: u32, table: &[u32], marks: &[u8], journal: &[u32]) {
+    if kind > lines::SHEET {
+        shows::journal(journal);
+        shows::number(b", table ", shows::digest(table));
+    }
+    if has_marks(kind) {
+        shows::marks(marks);
+    }
+}
+
+fn has_marks(kind: u32) -> bool {
+    match kind {
+        lines::ORBIT | lines::SHEET | lines::REMOVE | lines::SPLIT => true,
+        _ => false,
+    }
+}

@@ -1,0 +1,66 @@
+// Plays a script, which is read from standard input, and prints it line by line, each with what it gives. A line that is no
+// line of a script, or asks for more than there is, gives a question mark. What the lines are is said at the top of the
+// script, in the file `stdin`.
+ghost use Prim.Native.Nat.{_≤_};
+ghost use mathlib.Core.Path.{_≡_};
+ghost use lib.ListN.{length, take};
+use lines::Row;
+use stage::Stage;
+
+mod calls;
+mod lines;
+mod shows;
+mod stage;
+
+// The largest table of 01 has 262,144 words.
+fn main() {
+    let mut table = [0u32; 262148];
+    let mut journal = [0u32; 8192];
+    play(&mut table, &mut journal);
+}
+
+// As many lines as a script may have; behind its end there is nothing to do.
+fn play(table: &mut [u32], journal: &mut [u32]) {
+    let mut s = stage::EMPTY;
+    let mut left: u32 = 65536;
+    while left > 0 {
+        s = turn(s, table, journal);
+        left -= 1;
+    }
+}
+
+fn turn(s: Stage, table: &mut [u32], journal: &mut [u32]) -> Stage {
+    let row = lines::heard();
+    let now = stage::next(s, row);
+    lend(now, row, table, journal);
+    shows::line_end(row.kind);
+    now
+}
+
+// The beginnings of the buffers are lent.
+fn lend(s: Stage, row: Row, table: &mut [u32], journal: &mut [u32]) {
+    let entries = few(table, s.entries);
+    let words = few(journal, s.words);
+    act(s, row, &mut table[..entries], &mut journal[..words]);
+}
+
+// So many words; if there are not so many, a question mark and none.
+fn few(words: &[u32], most: usize) -> usize
+    ensures { λ r. ⌜ (r ≤ length (now (words .entry))) × (r ≡ length (take r (now (words .entry)))) ⌝ }
+{
+    if most <= words.len() {
+        return most;
+    }
+    shows::unknown();
+    0
+}
+
+fn act(s: Stage, row: Row, table: &mut [u32], journal: &mut [u32]) {
+    if row.kind < lines::LINKS {
+        calls::call(s, row, table, journal);
+    } else {
+        stage::set_table(row, table);
+        stage::set_journal(row, journal);
+        shows::show(row, table, journal);
+    }
+}

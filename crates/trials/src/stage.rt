@@ -1,0 +1,105 @@
+// The stage: the dimension that calls are given, and how much of the buffers is lent to them.
+use crate::lines;
+use crate::lines::Row;
+
+pub struct Stage {
+    pub n: u32,
+    pub entries: usize,
+    pub marks: usize,
+    pub words: usize,
+}
+
+pub const EMPTY: Stage = Stage {
+    n: 0,
+    entries: 0,
+    marks: 0,
+    words: 0,
+};
+
+const UNUSED: u32 = 4294967295;
+
+// The stage for a line and those behind it.
+pub fn next(s: Stage, row: Row) -> Stage {
+    let kind = row.kind;
+    match kind {
+        lines::SCENE => Stage {
+            n: row.a,
+            entries: entry(row.b, 0),
+            marks: row.b as usize,
+            words: row.c as usize,
+        },
+        lines::LEND => Stage {
+            n: s.n,
+            entries: row.a as usize,
+            marks: row.b as usize,
+            words: row.c as usize,
+        },
+        lines::DIM => Stage {
+            n: row.c,
+            entries: s.entries,
+            marks: s.marks,
+            words: s.words,
+        },
+        _ => s,
+    }
+}
+
+// ---- what a line does to the words that are lent
+
+// A scene has unused slots.
+pub fn set_table(row: Row, table: &mut [u32]) {
+    let kind = row.kind;
+    match kind {
+        lines::SCENE => fill(table, 0, table.len(), UNUSED),
+        lines::PUT => put(table, entry(row.a, row.b), row.c),
+        lines::TILE => tile(table, row.b, row.c),
+        _ => {}
+    }
+}
+
+pub fn set_journal(row: Row, journal: &mut [u32]) {
+    let kind = row.kind;
+    match kind {
+        lines::SCENE => fresh(journal),
+        lines::WRITE => put(journal, row.b as usize, row.c),
+        lines::FILL => fill(journal, row.a as usize, row.b as usize, row.c),
+        _ => {}
+    }
+}
+
+// Cursor and end are 2, the other words 9.
+fn fresh(journal: &mut [u32]) {
+    fill(journal, 0, journal.len(), 9);
+    fill(journal, 0, 2, 2);
+}
+
+// Entry i of slot d.
+fn entry(d: u32, i: u32) -> usize {
+    4 * (d as usize) + (i as usize)
+}
+
+// The slots behind the `width` ones from `first` on repeat these, with links that lead as much further each time.
+fn tile(table: &mut [u32], first: u32, width: u32) {
+    let back = 4 * (width as usize);
+    let from = 4 * (first as usize) + back;
+    for k in from..table.len() {
+        let link = word(table, std::num::wrapping_sub_usize(k, back));
+        put(table, k, std::num::wrapping_add_u32(link, width));
+    }
+}
+
+fn fill(words: &mut [u32], a: usize, e: usize, value: u32) {
+    for k in a..e {
+        put(words, k, value);
+    }
+}
+
+pub fn put(words: &mut [u32], at: usize, value: u32) {
+    if at < words.len() {
+        words[at] = value;
+    }
+}
+
+pub fn word(words: &[u32], at: usize) -> u32 {
+    if at < words.len() { words[at] } else { 0 }
+}
