@@ -4,8 +4,9 @@ use Prim.Native.Nat.{ℕ, zero, suc, _+_, _*_, _-_, _/_, _%_, _^_, _≤_, _<_}
 use mathlib.Core.Path.{_≡_, refl, sym, ap, _∙_}
 use mathlib.Core.Logic.{⊎-elim}
 use mathlib.Core.Bool.{Bool, true, false, not, _&&_, _||_}
-use mathlib.Core.List.{List, [], _∷_, List·Memᴰ as In, List·Memᴰ·cases-cons as in-cons}
-use mathlib.Core.List.{List·Memᴰ·head as here, List·Memᴰ·tail as there}
+use mathlib.Core.List.{List, [], _∷_, _++_, List·Memᴰ as In, List·Memᴰ·cases-cons as in-cons}
+use mathlib.Core.List.{List·Memᴰ·head as here, List·Memᴰ·tail as there, List·Memᴰ·append-cases as in-cases}
+use mathlib.Core.List.{Memᴰ·append-left as in-left, Memᴰ·append-right as in-right}
 use native.Mathlib.Omega.{arith}
 use lib.Bits.{bitAnd}
 use lib.Dec.{leb, lit<}
@@ -20,7 +21,7 @@ use Rattle.model.specs.Meaning.Maps.{Dim}
 use Rattle.model.proofs.Lists.Scan.{and-l, and-r, and-i, if-lt, below-at}
 use Rattle.model.proofs.Maps.Dim.{two-cases}
 use Rattle.model.proofs.Sets.Links.{word-in, word-of}
-use Rattle.reach.specs.Search.{floodWords, Permits, SideMask}
+use Rattle.reach.specs.Search.{floodWords, byCells, Permits, SideMask}
 use Rattle.reach.proofs.Words.{Same}
 
 -- ---- the bits of `links_but`
@@ -90,8 +91,8 @@ module _ (mask n out : ℕ) (n23 : Dim n) (h : Permits mask n (λ j. not (bit ou
 abbrev pub top : ℕ → ℕ
 top n = 1 * 2 ^ n % 4294967296
 
-pub top-small : (n : ℕ) → Dim n → top n < 64
-top-small n n23 = two-cases n n23 (λ n. top n < 64) (lit< tt) (lit< tt)
+pub top-small : (n : ℕ) → Dim n → top n < 16
+top-small n n23 = two-cases n n23 (λ n. top n < 16) (lit< tt) (lit< tt)
 
 pub cell-same : (mask n : ℕ) → Dim n → Permits mask n (λ j. not (bit (top n) j)) → Same (floodWords mask false) (cellWords n)
 unfolding floodWords cellWords links linksFrom bit
@@ -137,13 +138,28 @@ same-swap x y a b s = record {
   of = λ z i. ⊎-elim (λ e. there (s .of z (here e))) (λ j. ⊎-elim here (λ k. there (s .of z (there k))) (in-cons j)) (in-cons i);
 }
 
-pub sheet-same : (mask n : ℕ) → Dim n → Permits mask n (λ j. not (bit 2 j)) → Same (floodWords mask true) (sheetWords n)
+same-append : {A : Type 0} (a b c : List A) → Same a b → Same (a ++ c) (b ++ c)
+same-append a b c s = record {
+  to = λ z i. ⊎-elim (λ j. in-left c (s .to z j)) (in-right b) (in-cases a i);
+  of = λ z i. ⊎-elim (λ j. in-left c (s .of z j)) (in-right a) (in-cases b i);
+}
+
+-- the bits 1 and n
+abbrev oneTop : ℕ → ℕ
+oneTop n = top n + 2
+
+pub sheet-same : (mask n : ℕ) → Dim n → Permits mask n (λ j. not (bit (oneTop n) j)) → Same (byCells mask n) (sheetWords n)
 unfolding floodWords sheetWords links linksFrom bit
 sheet-same mask n n23 h =
-    same-swap (1 ∷ 0 ∷ 1 ∷ []) (0 ∷ []) (links 3 (bit mask)) (from-two n) (but-same mask n 2 n23 h ((0 ∷ []) ∷ from-two n) split)
+    let s = but-same mask n (oneTop n) n23 h (kept n) refl in
+    same-swap (1 ∷ 0 ∷ 1 ∷ []) (0 ∷ []) (links 3 (bit mask) ++ ((n ∷ []) ∷ [])) (from-two n)
+    (rw split at (same-append (links 3 (bit mask)) (kept n) ((n ∷ []) ∷ []) s))
   where
+    kept : ℕ → List (List ℕ)
+    kept n = links n (λ j. not (bit (oneTop n) j))
+
     from-two : ℕ → List (List ℕ)
     from-two n = links n (λ j. leb 2 j)
 
-    split : links n (λ j. not (bit 2 j)) ≡ (0 ∷ []) ∷ from-two n
-    split = two-cases n n23 (λ n. links n (λ j. not (bit 2 j)) ≡ (0 ∷ []) ∷ from-two n) refl refl
+    split : kept n ++ ((n ∷ []) ∷ []) ≡ (0 ∷ []) ∷ from-two n
+    split = two-cases n n23 (λ n. kept n ++ ((n ∷ []) ∷ []) ≡ (0 ∷ []) ∷ from-two n) refl refl

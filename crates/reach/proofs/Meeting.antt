@@ -1,6 +1,6 @@
--- The steps of one dart: what `meet`, `follow` and `expand` do, that the queue has room for it (`room-meet`), and the loop
--- over the links (`Going`).
-use Prim.Native.Nat.{ℕ, _+_, _≤_, _<_}
+-- The steps of one dart: what `meet`, `follow` and `expand` do, that they only add to what is found (`Later`), that the queue
+-- has room for it (`room-meet`), and the loop over the links (`Going`).
+use Prim.Native.Nat.{ℕ, zero, suc, _+_, _≤_, _<_}
 use mathlib.Core.Path.{_≡_, refl, sym, ap, ap₂, _∙_}
 use mathlib.Core.Logic.{_⊎_, inl, inr, ⊎-elim}
 use mathlib.Core.Bool.{Bool, true, false}
@@ -18,6 +18,24 @@ use Rattle.reach.specs.Search.{Search, searchOf, meet, follow, followBel
 use Rattle.reach.specs.Given.{Linked, Room, Stepping}
 use Rattle.reach.proofs.Marks.{count-store}
 
+-- s′ is later than s: what is found stays found, and in its place in the queue
+pub record Later (s s′ : Search) : Type 0 where
+  pub wide : length (s′ .queue) ≡ length (s .queue)
+  pub more : s .found ≤ s′ .found
+  pub stays : (j : ℕ) → j < s .found → getD (s′ .queue) j 0 ≡ getD (s .queue) j 0
+  pub keeps : (x : ℕ) → Found (s .marks) x → Found (s′ .marks) x
+
+pub later-same : (s : Search) → Later s s
+later-same s = record { wide = refl; more = omega arith; stays = λ j l. refl; keeps = λ x f. f }
+
+pub later-then : {a b c : Search} → Later a b → Later b c → Later a c
+later-then l k = record {
+  wide = k .wide ∙ l .wide;
+  more = omega arith;
+  stays = λ j b. k .stays j (omega arith) ∙ l .stays j b;
+  keeps = λ x f. k .keeps x (l .keeps x f);
+}
+
 -- ---- one dart met
 
 module _ (k y : ℕ) (s : Search) where
@@ -30,21 +48,25 @@ module _ (k y : ℕ) (s : Search) where
   unfolding meet
   meet-old e = rw (ne-eqb (getD (s .marks) y 0) 0 e, meet)
 
-  -- what has a mark keeps one
-  pub meet-keeps : (z : ℕ) → Found (s .marks) z → Found (meet k y s .marks) z
-  meet-keeps z f = if-eq (getD (s .marks) y 0) 0 (λ e. rw (meet-new e) (new e)) (λ e. rw (meet-old e) f)
+  pub meet-later : Later s (meet k y s)
+  meet-later =
+      if-eq (getD (s .marks) y 0) 0 (λ e. rw (meet-new e) (new e)) (λ e. rw (meet-old e) (later-same s))
     where
-      new : getD (s .marks) y 0 ≡ 0 → Found (set (s .marks) y k) z
-      new e = rw (getD-set-other (s .marks) y z k 0 (λ q. f (ap (λ (x : ℕ). getD (s .marks) x 0) q ∙ e))) f
-
-  meet-wide : length (meet k y s .queue) ≡ length (s .queue)
-  meet-wide = if-eq (getD (s .marks) y 0) 0 (λ e. rw (meet-new e) (length-set (s .queue) (s .found) y)) (λ e. rw (meet-old e))
+      new : getD (s .marks) y 0 ≡ 0
+          → Later s (searchOf (set (s .marks) y k) (set (s .queue) (s .found) y) (s .found + 1))
+      new e = record {
+        wide = length-set (s .queue) (s .found) y;
+        more = omega arith;
+        stays = λ j l. getD-set-other (s .queue) (s .found) j y 0 (λ q. omega arith);
+        keeps = λ z f.
+            rw (getD-set-other (s .marks) y z k 0 (λ q. f (ap (λ (x : ℕ). getD (s .marks) x 0) q ∙ e))) f;
+      }
 
 module _ (m : List ℕ) (y k : ℕ) (l : y < length m) (some : 0 < k) where
-  pub store-own : Found (set m y k) y
+  store-own : Found (set m y k) y
   store-own e = let q = getD-set-same m y k 0 l in omega arith
 
-  pub store-keeps : (x : ℕ) → Found m x → Found (set m y k) x
+  store-keeps : (x : ℕ) → Found m x → Found (set m y k) x
   store-keeps x f = if-eq x y (λ e. rw e store-own) (λ e. rw (getD-set-other m y x k 0 e) f)
 
   pub store-only : (x : ℕ) → Found (set m y k) x → (x ≡ y) ⊎ Found m x
@@ -73,6 +95,10 @@ module _ (m : List ℕ) (y k : ℕ) (l : y < length m) (some : 0 < k) where
 
         new : (i : ℕ) → i < r → getD (set q r y) i 0 ≡ y → ⊥
         new i h c = listed .inside i h (ap (λ (z : ℕ). getD m z 0) (sym (before i h) ∙ c) ∙ e)
+
+pub meet-own : (k y : ℕ) (s : Search) → y < length (s .marks) → 0 < k → Found (meet k y s .marks) y
+meet-own k y s l some =
+    if-eq (getD (s .marks) y 0) 0 (λ e. rw (meet-new k y s e) (store-own (s .marks) y k l some)) (λ e. rw (meet-old k y s e) e)
 
 -- ---- room in the queue
 
@@ -132,6 +158,10 @@ module _ (t : List ℕ) (mask k x : ℕ) (s : Search) where
   unfolding expand
   expand-flat across e = rw (e, expand)
 
+  pub follow-later : (i : ℕ) → Later s (follow t mask k x i s)
+  follow-later i = test (bit mask i) (λ e. rw (follow-takes i e) (meet-later k (link t i x) s))
+      (λ e. rw (follow-skips i e) (later-same s))
+
   -- as the code has them: y is where the step leads, s′ what `meet` leaves
   pub follow-met : (i y : ℕ) (s′ : Search) → bit mask i ≡ true → y ≡ link t i x → s′ ≡ meet k y s → s′ ≡ follow t mask k x i s
   follow-met i y s′ e q h = h ∙ ap (λ (z : ℕ). meet k z s) q ∙ sym (follow-takes i e)
@@ -139,6 +169,17 @@ module _ (t : List ℕ) (mask k x : ℕ) (s : Search) where
   pub expand-met : (across : Bool) (y : ℕ) (s₄ s′ : Search) → across ≡ true → y ≡ walk t (1 ∷ 0 ∷ 1 ∷ []) x
       → s₄ ≡ followBelow t mask k x 4 s → s′ ≡ meet k y s₄ → s′ ≡ expand t mask across k x s
   expand-met across y s₄ s′ e q f h = h ∙ ap₂ (meet k) q f ∙ sym (expand-across across e)
+
+module _ (t : List ℕ) (mask k x : ℕ) (s : Search) where
+  below-later : (i : ℕ) → Later s (followBelow t mask k x i s)
+  unfolding followBelow
+  below-later zero = later-same s
+  below-later (suc i) = later-then (below-later i) (follow-later t mask k x (followBelow t mask k x i s) i)
+
+  pub expand-later : (across : Bool) → Later s (expand t mask across k x s)
+  expand-later across = test across
+      (λ e. rw (expand-across t mask k x s across e) (later-then (below-later 4) (meet-later k (walk t (1 ∷ 0 ∷ 1 ∷ []) x) _)))
+      (λ e. rw (expand-flat t mask k x s across e) (below-later 4))
 
 -- ---- the loop over the links
 
@@ -169,8 +210,7 @@ module _ {t : List ℕ} {mask k x : ℕ} {a s : Search} {i : ℕ}
         let b = link-in t (stepping .linked) x (stepping .lives) i l in
         rw (follow-takes t mask k x s i e) (room-meet t s (link t i x) b (going .space) k (stepping .some)))
         (λ e. rw (follow-skips t mask k x s i e) (going .space));
-    wide = test (bit mask i) (λ e. rw (follow-takes t mask k x s i e) (meet-wide k (link t i x) s ∙ going .wide))
-        (λ e. rw (follow-skips t mask k x s i e) (going .wide));
+    wide = follow-later t mask k x s i .wide ∙ going .wide;
   })
 
   -- all links

@@ -4,7 +4,7 @@ use Prim.Native.Nat.{ℕ, zero, suc, _+_, _<_}
 use mathlib.Core.Path.{_≡_}
 use mathlib.Core.Logic.{_≢_}
 use mathlib.Core.Bool.{Bool, true, false, _&&_, _||_}
-use mathlib.Core.List.{List, [], _∷_}
+use mathlib.Core.List.{List, [], _∷_, _++_}
 use lib.ListN.{length, getD, set, take}
 use lib.Dec.{eqb, leb}
 use Rattle.model.specs.Lists.{tabulate, count}
@@ -15,6 +15,10 @@ use Rattle.model.specs.Orbit.{bit}
 -- the words of a flood: link i where bit i of the mask is set, and, if `across`, the opposite edge 1.0.1
 unfoldable pub floodWords : ℕ → Bool → List (List ℕ)
 floodWords mask across = elim across [ true ↦ (1 ∷ 0 ∷ 1 ∷ []) ∷ links 3 (bit mask) | false ↦ links 3 (bit mask) ]
+
+-- the words of a flood by cells: those of the mask, the opposite edge, and link n
+abbrev pub byCells : ℕ → ℕ → List (List ℕ)
+byCells mask n = floodWords mask true ++ ((n ∷ []) ∷ [])
 
 -- of the links 0..3 the mask permits those of 0..n that pass
 abbrev pub Permits : ℕ → ℕ → (ℕ → Bool) → Type 0

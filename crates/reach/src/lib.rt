@@ -1,4 +1,4 @@
-// What is reached from a dart: orbit, side and sheet, by one flood over a queue that the caller lends.
+// What is reached from a dart: orbit, side and sheet, by floods over a queue that the caller lends.
 ghost use mathlib.Core.Path.{_≡_};
 ghost use mathlib.Core.Bool.{true, false, not};
 ghost use mathlib.Core.List.{[], _∷_};
@@ -11,7 +11,8 @@ ghost use Rattle.model.specs.Orbit.{bit, orbit};
 ghost use Rattle.model.specs.Sew.{side};
 ghost use Rattle.model.specs.Sheet.{sheet, sheetMarks};
 ghost use Rattle.model.specs.Meaning.Maps.{Dim};
-ghost use Rattle.reach.specs.Search.{floodWords, Permits, SideMask, searchOf, meet, follow, expand, Flooded, Gathered};
+ghost use Rattle.reach.specs.Search.{floodWords, byCells, Permits, SideMask};
+ghost use Rattle.reach.specs.Search.{searchOf, meet, follow, expand, Flooded, Gathered};
 ghost use Rattle.reach.specs.Given.{Given, Linked, Ready, Seeds, Stepping};
 
 // Link i of the dart x.
@@ -99,26 +100,52 @@ fn expand(
     }
 }
 
-// The flood from the queue's first words, the seeds: each dart found gets the mark, goes into the queue and is expanded once.
+// The flood from the queue's first words, the seeds, by the links of the mask: each dart found gets the mark, goes into the
+// queue and is expanded once.
 fn flood(
     table: &[u32],
     marks: &mut [u8],
     queue: &mut [u32],
     mask: u32,
-    across: bool,
     mark: u8,
     seeds: usize,
 ) -> usize
     requires { ⌜ (Linked (now table)) × (Seeds (now table) (now marks) (now queue) seeds) × (0 < mark) ⌝ }
-    ensures { λ r. ⌜ Flooded (now (table .entry)) (floodWords mask across) mark
+    ensures { λ r. ⌜ Flooded (now (table .entry)) (floodWords mask false) mark
         (now (marks .entry)) (now (queue .entry)) seeds (now (marks .exit)) (now (queue .exit)) r ⌝ }
 {
     let mut head = 0;
     let mut tail = seeds;
     while head < tail {
         let x = queue[head];
-        tail = expand(table, marks, queue, tail, mark, mask, across, x);
+        tail = expand(table, marks, queue, tail, mark, mask, false, x);
         head += 1;
+    }
+    tail
+}
+
+// The flood from the queue's first word, with the mark 1, by the links of the mask, the opposite edge and link n. Only link n
+// leaves a cell: it is gone when no other step is left, so that the darts of a cell are met together.
+// The darts before `near` have gone the other steps, those before `far` link n too.
+fn flood_by_cells(table: &[u32], marks: &mut [u8], queue: &mut [u32], mask: u32, n: u32) -> usize
+    requires { ⌜ (Linked (now table)) × (Seeds (now table) (now marks) (now queue) 1) × (n < 4) ⌝ }
+    ensures { λ r. ⌜ Flooded (now (table .entry)) (byCells mask n) 1
+        (now (marks .entry)) (now (queue .entry)) 1 (now (marks .exit)) (now (queue .exit)) r ⌝ }
+{
+    let mut near = 0;
+    let mut far = 0;
+    let mut tail = 1;
+    while far < tail {
+        if near < tail {
+            let x = queue[near];
+            tail = expand(table, marks, queue, tail, 1, mask, true, x);
+            near += 1;
+        } else {
+            let x = queue[far];
+            let y = link(table, n, x);
+            tail = meet(marks, queue, tail, 1, y);
+            far += 1;
+        }
     }
     tail
 }
@@ -139,20 +166,13 @@ fn begin(marks: &mut [u8], queue: &mut [u32], d: u32)
 }
 
 // The flood from d alone, with the mark 1.
-fn gather(
-    table: &[u32],
-    marks: &mut [u8],
-    queue: &mut [u32],
-    mask: u32,
-    across: bool,
-    d: u32,
-) -> u32
+fn gather(table: &[u32], marks: &mut [u8], queue: &mut [u32], mask: u32, d: u32) -> u32
     requires { ⌜ Ready (now table) (now marks) (now queue) d ⌝ }
-    ensures { λ r. ⌜ Gathered (closure (now (table .entry)) (floodWords mask across) (d ∷ [])) d
+    ensures { λ r. ⌜ Gathered (closure (now (table .entry)) (floodWords mask false) (d ∷ [])) d
         (now (marks .exit)) (now (queue .exit)) r ⌝ }
 {
     begin(marks, queue, d);
-    flood(table, marks, queue, mask, across, 1, 1) as u32
+    flood(table, marks, queue, mask, 1, 1) as u32
 }
 
 // The mask of the links 0..n but those of the mask `out`.
@@ -177,7 +197,7 @@ pub fn orbit(n: u32, table: &[u32], marks: &mut [u8], queue: &mut [u32], mask: u
     ensures { λ r. ⌜ (now (marks .exit) ≡ orbit n (now (table .entry)) mask d)
         × (r ≡ count 1 (orbit n (now (table .entry)) mask d)) ⌝ }
 {
-    gather(table, marks, queue, mask, false, d)
+    gather(table, marks, queue, mask, d)
 }
 
 // The side of d: marks 1 at its darts, 0 elsewhere; the count of them. The queue lists them.
@@ -186,7 +206,7 @@ pub fn side(n: u32, table: &[u32], marks: &mut [u8], queue: &mut [u32], i: u32, 
     ensures { λ r. ⌜ Gathered (side n (now (table .entry)) i d) d (now (marks .exit)) (now (queue .exit)) r ⌝ }
 {
     let mask = side_mask(n, i);
-    gather(table, marks, queue, mask, false, d)
+    gather(table, marks, queue, mask, d)
 }
 
 // sheet d: S by the links but 1, and 1.0.1; then, from S, its cells by the links but n.
@@ -196,9 +216,10 @@ pub fn sheet(n: u32, table: &[u32], marks: &mut [u8], queue: &mut [u32], d: u32)
     ensures { λ r. ⌜ (now (marks .exit) ≡ sheetMarks n (now (table .entry)) (sheet n (now (table .entry)) d))
         × (r ≡ count 1 (sheet n (now (table .entry)) d)) ⌝ }
 {
-    let along = links_but(n, 2);
-    let size = gather(table, marks, queue, along, true, d);
+    begin(marks, queue, d);
+    let along = links_but(n, (1 << n) + 2);
+    let size = flood_by_cells(table, marks, queue, along, n);
     let within = links_but(n, 1 << n);
-    flood(table, marks, queue, within, false, 2, size as usize);
-    size
+    flood(table, marks, queue, within, 2, size);
+    size as u32
 }

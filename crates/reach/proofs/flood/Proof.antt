@@ -1,19 +1,22 @@
--- `reach::flood` meets its contract. The loop's invariant is `Flooding`: the queue's darts before head have had their turn.
+-- `reach::flood` meets its contract. The loop's invariant: `Flooding`, and the queue's darts before head have gone the words.
 use mathlib.Core.Path.{sym, _∙_}
-use Prim.Native.Nat.{_-_, _≤_, _<_}
+use mathlib.Core.Bool.{false}
+use Prim.Native.Nat.{_-_, _≤_}
 use native.Mathlib.Omega.{arith}
 use lib.ListN.{length}
 use Rattle.reach.specs.Search.{Search, searchOf, floodWords}
-use Rattle.reach.proofs.Flooding.{Flooding, Flood, begins, expand-asks, turned, ended}
+use Rattle.reach.proofs.Flooding.{Flooding, Gone, gone-none, gone-all, Flood, flood-goes}
+use Rattle.reach.proofs.Flooding.{begins, fits, steps-ask, turned, ended}
 use Rattle.reach.proofs.flood.Statement.{statement}
 use Rattle.reach.proofs.flood.Tie as tie
 
 abbrev Inv-loop : tie.InvT-loop
-Inv-loop table marks₀ queue₀ mask across mark seeds head₀ tail₀ marks queue head tail =
-    Flooding table (floodWords mask across) mark (searchOf marks₀ queue₀ seeds) (searchOf marks queue tail) head
+Inv-loop table marks₀ queue₀ mask mark seeds head₀ tail₀ marks queue head tail =
+    Flooding table (floodWords mask false) mark (searchOf marks₀ queue₀ seeds) (searchOf marks queue tail)
+    × Gone table (floodWords mask false) (searchOf marks queue tail) head
 
 abbrev μ-loop : tie.MeasureT-loop
-μ-loop table marks₀ queue₀ mask across mark seeds head₀ tail₀ marks queue head tail = length marks₀ - head
+μ-loop table marks₀ queue₀ mask mark seeds head₀ tail₀ marks queue head tail = length marks₀ - head
 
 abbrev Start : Type 0
 Start = tie.Start Inv-loop μ-loop
@@ -28,11 +31,11 @@ start a = a .before .before .before .before
 abbrev task : Start → Flood
 task p = record {
   table = p .args .table .now;
-  mask = p .args .mask;
-  across = p .args .across;
+  words = floodWords (p .args .mask) false;
   mark = p .args .mark;
   first = searchOf (p .args .marks .now) (p .args .queue .now) (p .args .seeds);
   linked = p .pre .0;
+  goes = flood-goes (p .args .table .now) (p .pre .0) (p .args .mask) false;
   seeds = p .pre .1;
   some = p .pre .2;
 }
@@ -40,63 +43,54 @@ task p = record {
 abbrev now : At → Search
 now a = searchOf (a .loop .marks) (a .loop .queue) (a .loop .tail)
 
--- in a turn head is below the number of slots, and so in the queue
-record Inside (a : At) : Type 0 where
-  low : a .loop .head < length (start a .args .marks .now)
-  few : length (start a .args .marks .now) ≤ 65536
-  queued : a .loop .head < length (a .loop .queue)
-
-inside : (c : tie.In-loop Inv-loop μ-loop) → Inside (c .before)
-inside c =
-    let a = c .before in
-    let h = c .loop-test .taken in
-    let n = a .loop .inv .listed .number in
-    let l = a .loop .inv .long in
-    let w = a .loop .inv .wide in
-    let m = start a .pre .1 .long in
-    let r = start a .pre .1 .room in
-    let f = start a .pre .0 .few in
-    record { low = omega arith; few = omega arith; queued = omega arith }
+-- the queue's words are no more than the slots
+inside : (a : At) → (a .loop .tail ≤ length (start a .args .marks .now)) × (length (start a .args .marks .now) ≤ 65536)
+    × (a .loop .tail ≤ length (a .loop .queue))
+inside a = fits (task (start a)) (now a) (a .loop .inv .0)
 
 loop-holds : tie.Need-loop-holds Inv-loop μ-loop
-loop-holds c = begins (task (c .before .before .before))
+loop-holds c = let f = task (c .before .before .before) in (begins f, gone-none (f .table) (f .words) (f .first))
 
 mul-x : tie.Need-mul-x Inv-loop μ-loop
-mul-x c = let i = inside c in omega arith
+mul-x c = let i = inside (c .before) in omega arith
 
 slice-read-x : tie.Need-slice-read-x Inv-loop μ-loop
-slice-read-x c = inside (c .before) .queued
+slice-read-x c = let i = inside (c .before .before) in omega arith
 
 expand-requires : tie.Need-expand-requires Inv-loop μ-loop
 expand-requires c κs =
     let i = c .before .before .before in
     let a = i .before in
-    expand-asks (task (start a)) (now a) (a .loop .head) (a .loop .inv) (i .loop-test .taken)
+    steps-ask (task (start a)) (now a) (a .loop .inv .0) (a .loop .head) (i .loop-test .taken)
 
 -- a turn's beginning, from its end
 abbrev turn : tie.After-slice-known5 Inv-loop μ-loop → tie.In-loop Inv-loop μ-loop
 turn c = c .before .before .before .before .before .before .before .before
 
 add-head : tie.Need-add-head Inv-loop μ-loop
-add-head c = let i = inside (turn c) in omega arith
+add-head c = let i = inside (turn c .before) in omega arith
 
 loop-less : tie.Need-loop-less Inv-loop μ-loop
-loop-less c = let i = inside (turn c) in omega arith
+loop-less c = let i = inside (turn c .before) in omega arith
 
 loop-again : tie.Need-loop-again Inv-loop μ-loop
 loop-again c =
     let a = turn c .before in
     let e = c .before .before .before .before .expand .ensures in
-    rw e (turned (task (start a)) (now a) (a .loop .head) (turn c .loop-test .taken) (a .loop .inv))
+    rw e (turned (task (start a)) (start a .args .mask) false (λ w i. i) (now a) (a .loop .head) (turn c .loop-test .taken)
+    (a .loop .inv .0) (a .loop .inv .1))
 
 same-length : tie.Need-same-length Inv-loop μ-loop
-same-length c = c .before .loop .inv .long ∙ sym (start (c .before) .pre .1 .long)
+same-length c = c .before .loop .inv .0 .long ∙ sym (start (c .before) .pre .1 .long)
 
 same-length-2 : tie.Need-same-length-2 Inv-loop μ-loop
-same-length-2 c = c .before .loop .inv .wide
+same-length-2 c = c .before .loop .inv .0 .later .wide
 
 returns : tie.Need-returns Inv-loop μ-loop
-returns c = let a = c .before in ended (task (start a)) (now a) (a .loop .head) (c .loop-test .left) (a .loop .inv)
+returns c =
+    let a = c .before in
+    let f = a .loop .inv .0 in
+    ended (task (start a)) (now a) f (gone-all (now a) (a .loop .head) (c .loop-test .left) (f .listed) (a .loop .inv .1))
 
 pub flood-spec : {M : Type 1} → statement M
 flood-spec =
