@@ -1,6 +1,6 @@
 -- What the passed checks say, as the crates below ask it: `map-given` for the block test, `flood-given` for orbit
 -- and sheet, `room-given` and `room-small` for a lent buffer.
-use Prim.Native.Nat.{ℕ, _≤_}
+use Prim.Native.Nat.{ℕ, _*_, _≤_}
 use mathlib.Core.Path.{_≡_, refl}
 use mathlib.Core.Bool.{Bool, true}
 use mathlib.Core.List.{List}
@@ -25,8 +25,8 @@ marks-given t m h = eqb-true _ _ (must-pass _ 3 h)
 pub room-given : (t : List ℕ) → tableOk t ≡ pass → slots t ≤ 65536
 room-given t table = table-pass t table .1
 
-pub room-small : (t : List ℕ) → tableOk t ≡ pass → length t ≤ 32768 → slots t ≤ 8192
-room-small t table small = let sized = table-pass t table in omega arith
+pub room-small : (k : ℕ) (t : List ℕ) → tableOk t ≡ pass → length t ≤ 4 * k → slots t ≤ k
+room-small k t table small = let sized = table-pass t table in omega arith
 
 pub flood-given : (n : ℕ) (t m q : List ℕ) (d : ℕ) → dimOk n ≡ pass → tableOk t ≡ pass → marksOk t m ≡ pass → mapOk n t ≡ pass
     → dartOk t d ≡ pass → slots t ≤ length q → Given n t m q d

@@ -53,9 +53,9 @@ pub fn add(n: u32, table: &mut [u32], journal: &mut [u32]) -> Answer
         return opened;
     }
     if table.len() <= 32768 {
-        let mut rank = [0u32; 8192];
+        let mut rank = [layers::NO_RANK; 8192];
         return add_in(n, table, journal, &mut rank);
     }
-    let mut rank = [0u32; 65536];
+    let mut rank = [layers::NO_RANK; 65536];
     add_in(n, table, journal, &mut rank)
 }

@@ -1,4 +1,3 @@
 pub mod Counts
 pub mod Given
 pub mod Ends
-pub mod Cuts

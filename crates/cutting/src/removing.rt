@@ -77,6 +77,10 @@ pub fn remove(n: u32, table: &mut [u32], marks: &mut [u8], journal: &mut [u32], 
     if opened.number != 0 {
         return opened;
     }
+    if table.len() <= 8192 {
+        let mut queue = [0u32; 2048];
+        return remove_in(n, table, marks, journal, d, &mut queue);
+    }
     if table.len() <= 32768 {
         let mut queue = [0u32; 8192];
         return remove_in(n, table, marks, journal, d, &mut queue);

@@ -1,58 +1,81 @@
 -- The end of an operation over plain lists: what `commit` leaves (`refusal-carried`, `record-carried`), and that this is the
 -- model's `commit` (`carried-accepted`, `carried-refused`).
-use Prim.Native.Nat.{ℕ, _+_, _*_, _-_, _≤_}
+use Prim.Native.Nat.{ℕ, suc, _+_, _*_, _-_, _≤_}
 use mathlib.Core.Path.{_≡_, refl, sym, ap, subst, _∙_}
-use mathlib.Core.Bool.{Bool, true, false}
-use mathlib.Core.List.{List}
+use mathlib.Core.Bool.{Bool, true, false, false≢true}
+use mathlib.Core.List.{List, [], _∷_}
 use native.Mathlib.Omega.{arith}
 use lib.ListN.{length}
-use lib.Dec.{leb}
+use lib.Dec.{eqb, leb}
+use borrow.Author.Tests.{leb-true, le-leb}
 use Rattle.model.specs.Journal.{Change, cursor, changesFrom, changesAt, put, recordOf, written}
 use Rattle.model.specs.Calls.{commit, refused}
 use Rattle.model.specs.Meaning.Numbers.{JournalRule}
-use Rattle.model.proofs.History.Record.{length-record}
+use Rattle.model.proofs.Lists.Scan.{test}
+use Rattle.model.proofs.History.Record.{length-record, changes-same, changes-other}
 use Rattle.journal.specs.Records.{drafted, within}
 use Rattle.journal.proofs.Drafts.{draft-keeps}
 use Rattle.journal.proofs.Commits.{fits-room, written-fits, written-put}
 use Rattle.edits.specs.Passes.{Room}
 use Rattle.edits.specs.Carried.{Carried}
 
-module _ (t u j : List ℕ) (k : ℕ) (count : k ≡ length (changesFrom 0 t u))
-    (r : Bool) (tested : r ≡ leb (3 * k + 2) (length j - cursor j))
+-- a table has no more changes than entries
+pub few-changes : (t u : List ℕ) (e : ℕ) → length (changesFrom e t u) ≤ length t
+unfolding changesFrom
+few-changes [] u e = omega arith
+few-changes (x ∷ t) [] e = omega arith
+few-changes (x ∷ t) (y ∷ u) e =
+    let rest = few-changes t u (suc e) in
+    test (eqb x y)
+    (λ p. let l = ap length (changes-same e x y t u p) in omega arith)
+    (λ p. let l = ap length (changes-other e x y t u p) in omega arith)
+
+-- where a record of all entries has room, that of the changes has it
+pub most-fit : (t u j : List ℕ) → leb (3 * length t + 2) (length j - cursor j) ≡ true
+    → true ≡ leb (3 * length (changesFrom 0 t u) + 2) (length j - cursor j)
+most-fit t u j h =
+    let few = few-changes t u 0 in
+    let room = leb-true (3 * length t + 2) (length j - cursor j) h in
+    sym (le-leb (3 * length (changesFrom 0 t u) + 2) (length j - cursor j) (omega arith))
+
+module _ (t u j : List ℕ)
+    (r : Bool) (tested : r ≡ leb (3 * length (changesFrom 0 t u) + 2) (length j - cursor j))
   where
     record-tested : r ≡ leb (length (recordOf (changesFrom 0 t u))) (length j - cursor j)
-    record-tested = rw (length-record (changesFrom 0 t u), ← count) tested
+    record-tested = rw (length-record (changesFrom 0 t u)) tested
 
-    pub refusal-carried : r ≡ false → Carried t u j t j false k
-    refusal-carried h = record { count = count; tested = sym h ∙ record-tested; table = refl; journal = refl }
+    pub refusal-carried : r ≡ false → Carried t u j t j false 0
+    refusal-carried h = record { count = λ e. absurd (false≢true e); tested = sym h ∙ record-tested; table = refl; journal = refl }
 
-    module _ (long : length t ≡ length u) (rule : JournalRule j) (fits : r ≡ true) where
-      room : Room t u j
-      room = fits-room t u j k count r tested fits
+    module _ (long : length t ≡ length u) (rule : JournalRule j) (fits : r ≡ true)
+        (k : ℕ) (count : k ≡ length (changesFrom 0 t u))
+      where
+        room : Room t u j
+        room = fits-room t u j _ refl r tested fits
 
-      -- what `close_record` requires of the draft
-      pub draft-closes : (w : List ℕ) → w ≡ drafted j (changesFrom 0 t u)
-          → (cursor w + (3 * k + 2) ≤ length w) × (length w ≤ 1048576)
-      draft-closes w draft =
-          let kept = draft-keeps j (changesFrom 0 t u) room in
-          let c = ap cursor draft ∙ kept .0 in
-          let l = ap length draft ∙ kept .1 in
-          let h = room in
-          (omega (arith, count), omega (arith, rule .few))
+        -- what `close_record` requires of the draft
+        pub draft-closes : (w : List ℕ) → w ≡ drafted j (changesFrom 0 t u)
+            → (cursor w + (3 * k + 2) ≤ length w) × (length w ≤ 1048576)
+        draft-closes w draft =
+            let kept = draft-keeps j (changesFrom 0 t u) room in
+            let c = ap cursor draft ∙ kept .0 in
+            let l = ap length draft ∙ kept .1 in
+            let h = room in
+            (omega (arith, count), omega (arith, rule .few))
 
-      -- v is the journal with the record, t′ the table with its new values
-      module _ (v : List ℕ) (closed : v ≡ written j (recordOf (changesFrom 0 t u))) where
-        -- what `put_record` requires
-        pub record-puts : (cursor j + (3 * k + 2) ≤ length v) × (within (length t) (changesAt v (cursor j) k) ≡ true)
-        record-puts = written-fits t u j long (rule .low) room (cursor j) k v refl count closed
+        -- v is the journal with the record, t′ the table with its new values
+        module _ (v : List ℕ) (closed : v ≡ written j (recordOf (changesFrom 0 t u))) where
+          -- what `put_record` requires
+          pub record-puts : (cursor j + (3 * k + 2) ≤ length v) × (within (length t) (changesAt v (cursor j) k) ≡ true)
+          record-puts = written-fits t u j long (rule .low) room (cursor j) k v refl count closed
 
-        pub record-carried : (t′ : List ℕ) → t′ ≡ put true (changesAt v (cursor j) k) t → Carried t u j t′ v true k
-        record-carried t′ h = record {
-          count = count;
-          tested = sym fits ∙ record-tested;
-          table = written-put t u j long (rule .low) room (cursor j) k v refl count closed t′ h;
-          journal = closed;
-        }
+          pub record-carried : (t′ : List ℕ) → t′ ≡ put true (changesAt v (cursor j) k) t → Carried t u j t′ v true k
+          record-carried t′ h = record {
+            count = λ _. count;
+            tested = sym fits ∙ record-tested;
+            table = written-put t u j long (rule .low) room (cursor j) k v refl count closed t′ h;
+            journal = closed;
+          }
 
 -- ---- the model's `commit`
 

@@ -2,7 +2,9 @@
 use Prim.Native.Nat.{ℕ}
 use mathlib.Core.Path.{_≡_, sym, ap, subst, _∙_}
 use mathlib.Core.List.{List}
-use Rattle.edits.specs.Edits.{editLink, four, Untouched, Fit}
+use Rattle.layers.specs.Four.{four}
+use Rattle.edits.specs.Edits.{editLink, editTable, Untouched, Fit}
+use Rattle.edits.specs.Passes.{Relinked}
 use Rattle.edits.specs.declared.Edit.{Edit}
 
 module _ {edit case : Edit} (known : edit ≡ case) (n : ℕ) (t m a b : List ℕ) (size : ℕ) where
@@ -14,3 +16,10 @@ module _ {edit case : Edit} (known : edit ≡ case) (n : ℕ) (t m a b : List �
 
   pub known-leaves : (x : ℕ) → Untouched case n t m a b size x → Untouched edit n t m a b size x
   known-leaves x h = subst (λ (e : Edit). Untouched e n t m a b size x) (sym known) h
+
+  pub known-relinked : (i new x : ℕ) → Relinked t (editTable case n t m a b size) i new x
+      → Relinked t (editTable edit n t m a b size) i new x
+  known-relinked i new x h = subst (λ (e : Edit). Relinked t (editTable e n t m a b size) i new x) (sym known) h
+
+  pub known-table : editTable edit n t m a b size ≡ editTable case n t m a b size
+  known-table = ap (λ (e : Edit). editTable e n t m a b size) known

@@ -1,8 +1,10 @@
-pub mod Four
 pub mod Edited
+pub mod Skipping
+pub mod Merging
 pub mod Cases
 pub mod Untouched
 pub mod Pass
 pub mod Carrying
 pub mod Tables
+pub mod Rising
 pub mod Fitting

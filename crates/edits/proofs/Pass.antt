@@ -1,7 +1,7 @@
--- The two rising passes, the one that counts the changes (`counts-..`) and the one that writes them (`writes-..`): over a slot
--- that both tables have alike at once, and over another link by link.
-use Prim.Native.Nat.{ℕ, _+_, _*_, _≤_, _<_}
-use mathlib.Core.Path.{_≡_, sym, ap, _∙_}
+-- The two rising passes, the one that counts the changes (`counts-..`) and the one that writes them (`writes-..`): over a slot link
+-- by link, and over slots that both tables have alike at once (`below-skipped`).
+use Prim.Native.Nat.{ℕ, zero, suc, _+_, _*_, _-_, _/_, _≤_, _<_}
+use mathlib.Core.Path.{_≡_, refl, sym, ap, _∙_}
 use mathlib.Core.Logic.{_≢_}
 use mathlib.Core.List.{List, [], _∷_, _++_}
 use native.Mathlib.Numerals.{add-one}
@@ -14,6 +14,7 @@ use Rattle.journal.proofs.Changes.{below-same, below-count, below-most, below-a
 use Rattle.journal.proofs.Drafts.{draft-keeps}
 use Rattle.journal.proofs.Scans.{scan-same, scan-room, scan-more, scan-alike}
 use Rattle.edits.specs.Passes.{Counts, Room, Passes, Writing, Writes}
+use Rattle.edits.specs.Skips.{Skips}
 
 -- ---- the entry e, with the values x and y
 
@@ -70,18 +71,6 @@ behind : (x j : ℕ) → 4 * x + j + 1 ≡ 4 * x + (j + 1)
 behind x j = omega arith
 
 module _ (t u : List ℕ) (long : length t ≡ length u) (fits : length t ≡ 4 * slots t) (x : ℕ) (inside : x < slots t) where
-  -- both tables have it alike
-  module _ (same : (j : ℕ) → j < 4 → link u j x ≡ link t j x) where
-    alike : (j : ℕ) → j < 4 → getD t (4 * x + j) unused ≡ getD u (4 * x + j) unused
-    unfolding link
-    alike j low = sym (same j low)
-
-    pub counts-alike : Counts t u (4 * x) (4 * x + 4) 0
-    counts-alike = let b = ap length (below-alike t u long (4 * x) 4 unused (omega arith) alike) in omega arith
-
-    pub writes-alike : (done : ℕ) (w : List ℕ) → Writes t u (4 * x) done w (4 * x + 4) done w
-    writes-alike done w j s = scan-alike t u j long (4 * x) 4 unused (omega arith) alike s
-
   -- link j of it is `old` in t, and `new` in u
   module _ (j : ℕ) (low : j < 4) (old new : ℕ) (before : old ≡ link t j x) (after : new ≡ link u j x) where
     module _ (k : ℕ) (counted : Counts t u (4 * x) (4 * x + j) k) where
@@ -110,3 +99,60 @@ module _ (t u : List ℕ) (long : length t ≡ length u) (fits : length t ≡ 4 
           → Writes t u (4 * x) from w₀ (4 * x + (j + 1)) next w′
       unfolding link
       writes-more next w′ passes i s = rw (← behind x j) (passes t u i long (omega arith) before after (wrote i s))
+
+  -- both tables have it alike but for link i
+  module _ (i : ℕ) (low : i < 4) (others : (j : ℕ) → j < 4 → j ≢ i → link u j x ≡ link t j x) where
+    -- before it ..
+    pub writes-front : (done : ℕ) (w : List ℕ) → Writes t u (4 * x) done w (4 * x + i) done w
+    unfolding link
+    writes-front done w j s =
+        scan-alike t u j long (4 * x) i unused (omega arith) (λ k h. sym (others k (omega arith) (λ e. omega arith))) s
+
+    -- .. and behind it
+    pub writes-back : (done : ℕ) (w : List ℕ) → Writes t u (4 * x + (i + 1)) done w (4 * x + 4) done w
+    unfolding link
+    writes-back done w j s =
+        let end : 4 * x + (i + 1) + (3 - i) ≡ 4 * x + 4 = omega arith in
+        rw end at (scan-alike t u j long (4 * x + (i + 1)) (3 - i) unused (omega arith)
+        (λ k h.
+        let place : 4 * x + (i + 1) + k ≡ 4 * x + (i + 1 + k) = omega arith in
+        rw place (sym (others (i + 1 + k) (omega arith) (λ e. omega arith)))) s)
+
+-- ---- slots that both tables have alike
+
+pub slots-of : (t : List ℕ) → length t / 4 ≡ slots t
+unfolding slots
+slots-of t = refl
+
+module _ (t u : List ℕ) (long : length t ≡ length u) (fits : length t ≡ 4 * slots t) where
+  abbrev Alike : ℕ → Type 0
+  Alike x = (j : ℕ) → j < 4 → link u j x ≡ link t j x
+
+  below-slot : (x : ℕ) → x < slots t → Alike x → changesBelow (4 * x + 4) t u ≡ changesBelow (4 * x) t u
+  unfolding link
+  below-slot x inside same = below-alike t u long (4 * x) 4 unused (omega arith) (λ j low. sym (same j low))
+
+  below-slots : (x m : ℕ) → x + m ≤ slots t → ((y : ℕ) → x ≤ y → y < x + m → Alike y)
+      → changesBelow (4 * (x + m)) t u ≡ changesBelow (4 * x) t u
+  below-slots x zero inside same =
+      let here : 4 * (x + zero) ≡ 4 * x = omega arith in
+      rw here
+  below-slots x (suc m) inside same =
+      let next : 4 * (x + suc m) ≡ 4 * (x + m) + 4 = omega arith in
+      rw next (below-slot (x + m) (omega arith) (same (x + m) (omega arith) (omega arith))
+      ∙ below-slots x m (omega arith) (λ y low high. same y low (omega arith)))
+
+  -- the slots from x on, below r, are passed over
+  pub below-skipped : {P : ℕ → Type 0} → ((y : ℕ) → y < slots t → P y → (j : ℕ) → j < 4 → link u j y ≡ link t j y)
+      → {x r : ℕ} → Skips P x (slots t) r → changesBelow (4 * r) t u ≡ changesBelow (4 * x) t u
+  below-skipped stays {x} {r} s =
+      let on = s .on in
+      let inside = s .inside in
+      let sum : x + (r - x) ≡ r = omega arith in
+      let b = below-slots x (r - x) (omega arith) (λ y low high. stays y (omega arith) (s .over y low (omega arith))) in
+      rw sum at b
+
+-- the pass that writes, over entries without a change
+pub scan-on : {t u j : List ℕ} {e e′ k : ℕ} {w : List ℕ} → changesBelow e′ t u ≡ changesBelow e t u
+    → Scanned t u j e k w → Scanned t u j e′ k w
+scan-on {j = j} b s = record { draft = s .draft ∙ ap (drafted j) (sym b); count = s .count ∙ ap length (sym b) }

@@ -3,7 +3,7 @@
 use Prim.Native.Nat.{ℕ, _*_, _<_}
 use mathlib.Core.Path.{_≡_}
 use mathlib.Core.Bool.{false}
-use mathlib.Core.List.{List, [], _∷_}
+use mathlib.Core.List.{List}
 use lib.ListN.{length, take}
 use Rattle.model.specs.Checks.{pass, dimOk}
 use Rattle.model.specs.Table.{unused, slots, link, live, relinkAt, retable}
@@ -15,6 +15,7 @@ use Rattle.model.specs.Split.{halvedLink}
 use Rattle.model.specs.Meaning.Walks.{Layer}
 use Rattle.layers.specs.Ranks.{Ranked, Halving}
 use Rattle.sides.specs.Given.{Linked}
+use Rattle.edits.specs.Skips.{Rising}
 use Rattle.edits.specs.declared.Edit.{Edit}
 use Rattle.edits.specs.declared.Edit.the-variants.{Add, Sew, Unsew, Remove, Split}
 
@@ -30,10 +31,6 @@ editLink Split n t m a b size x j = halvedLink n t (take size a) (take (n * size
 
 unfoldable pub editTable : Edit → ℕ → List ℕ → List ℕ → List ℕ → List ℕ → ℕ → List ℕ
 editTable edit n t m a b size = retable t (editLink edit n t m a b size)
-
--- the four links of a slot
-unfoldable pub four : (ℕ → ℕ) → List ℕ
-four f = f 0 ∷ f 1 ∷ f 2 ∷ f 3 ∷ []
 
 -- the edit leaves the links of the slot x
 abbrev pub Untouched : Edit → ℕ → List ℕ → List ℕ → List ℕ → List ℕ → ℕ → ℕ → Type 0
@@ -64,9 +61,15 @@ pub record FitUnsew (t : List ℕ) (i : ℕ) (m : List ℕ) : Type 0 where
   pub relinks : Relinks t i (unsewnLink t i m)
   pub long : length m ≡ slots t
 
+-- a and b have the darts of S and the new ones, both rising, with their ranks c
+pub record FitSplit (n : ℕ) (a b c : List ℕ) (size : ℕ) : Type 0 where
+  pub lists : Halving n size a b c
+  pub old : Rising size a
+  pub new : Rising (n * size) b
+
 abbrev pub Fit : Edit → ℕ → List ℕ → List ℕ → List ℕ → List ℕ → List ℕ → ℕ → Type 0
 Fit Add n t m a b c size = FitAdd n a c size
 Fit (Sew i) n t m a b c size = FitSew t i a b
 Fit (Unsew i) n t m a b c size = FitUnsew t i m
 Fit Remove n t m a b c size = Layer n t m
-Fit Split n t m a b c size = Halving n size a b c
+Fit Split n t m a b c size = FitSplit n a b c size

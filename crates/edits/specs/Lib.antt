@@ -1,3 +1,4 @@
+pub mod Skips
 pub mod Edits
 pub mod Passes
 pub mod Carried

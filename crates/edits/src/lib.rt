@@ -1,25 +1,26 @@
 // The change that an operation makes: worked out from the old table slot by slot, refused if its record does not fit, else
 // written as a record in a rising pass and put into the table from that record, as redo does.
 ghost use mathlib.Core.Path.{_≡_};
-ghost use Prim.Native.Nat.{ℕ, _+_, _*_, _<_, _≤_};
+ghost use Prim.Native.Nat.{ℕ, _+_, _*_, _-_, _<_, _≤_};
 ghost use mathlib.Core.Logic.{_≢_};
-ghost use mathlib.Core.Bool.{false};
 ghost use mathlib.Core.List.{List};
-ghost use lib.ListN.{length, take};
+ghost use lib.ListN.{length};
+ghost use lib.Dec.{leb};
 ghost use Rattle.model.specs.Meaning.Numbers.{JournalRule};
 ghost use Rattle.model.specs.Journal.{cursor, changesFrom};
 ghost use Rattle.model.specs.Table.{slots, relinkAt};
-ghost use Rattle.model.specs.Add.{addedLink};
 ghost use Rattle.model.specs.Sew.{sewnLink, unsewnLink};
-ghost use Rattle.model.specs.Remove.{removedLink};
-ghost use Rattle.model.specs.Split.{halvedLink};
-ghost use Rattle.model.specs.Meaning.Walks.{Layer};
-ghost use Rattle.layers.specs.Ranks.{Halving};
+ghost use Rattle.layers.specs.Four.{four};
 ghost use Rattle.reading.specs.Sized.{Sized};
 ghost use Rattle.journal.specs.Records.{drafted};
-ghost use Rattle.edits.specs.Edits.{editLink, editTable, four, Untouched, Fit, FitAdd, FitSew, FitUnsew};
+ghost use Rattle.edits.specs.Edits.{editLink, editTable, Fit, FitSew, FitUnsew};
 ghost use Rattle.edits.specs.Carried.{Carried};
-ghost use Rattle.edits.specs.Passes.{Links, Counts, Found, Room, Passes, Writing, WritingLinks, Writes};
+ghost use Rattle.edits.specs.Passes.{Links, Relinked, Counts, Room, Passes, Writing, WritingLink, WritingLinks, Writes};
+use cut::write_cut;
+use touched::next_touched;
+
+mod cut;
+mod touched;
 
 // What an operation makes of the table, from the lists that are lent with it.
 pub enum Edit {
@@ -55,19 +56,6 @@ fn after_unsew(table: &[u32], side: &[u8], i: u32, x: u32, j: u32) -> u32
     }
 }
 
-// The links of the slot x after add.
-fn links_added(n: u32, table: &[u32], a: &[u32], c: &[u32], size: u32, x: u32) -> [u32; 4]
-    requires { ⌜ FitAdd n (now a) (now c) size ⌝ }
-    ensures { λ r. ⌜ r ≡ four (addedLink n (now (table .entry)) (take size (now (a .entry))) x) ⌝ }
-{
-    [
-        layers::added_link(n, table, a, c, size, x, 0),
-        layers::added_link(n, table, a, c, size, x, 1),
-        layers::added_link(n, table, a, c, size, x, 2),
-        layers::added_link(n, table, a, c, size, x, 3),
-    ]
-}
-
 // The links of the slot x after sew by link i.
 fn links_sewn(table: &[u32], a: &[u32], b: &[u32], i: u32, x: u32) -> [u32; 4]
     requires { ⌜ (FitSew (now table) i (now a) (now b)) × (x < slots (now table)) ⌝ }
@@ -95,41 +83,6 @@ fn links_unsewn(table: &[u32], marks: &[u8], i: u32, x: u32) -> [u32; 4]
     ]
 }
 
-// The links of the slot x after remove.
-fn links_removed(n: u32, table: &[u32], marks: &[u8], x: u32) -> [u32; 4]
-    requires { ⌜ Layer n (now table) (now marks) ⌝ }
-    ensures { λ r. ⌜ r ≡ four (removedLink n (now (table .entry)) (now (marks .entry)) x) ⌝ }
-{
-    [
-        layers::removed_link(n, table, marks, x, 0),
-        layers::removed_link(n, table, marks, x, 1),
-        layers::removed_link(n, table, marks, x, 2),
-        layers::removed_link(n, table, marks, x, 3),
-    ]
-}
-
-// The links of the slot x after split.
-fn links_split(
-    n: u32,
-    table: &[u32],
-    a: &[u32],
-    b: &[u32],
-    c: &[u32],
-    size: u32,
-    x: u32,
-) -> [u32; 4]
-    requires { ⌜ Halving n size (now a) (now b) (now c) ⌝ }
-    ensures { λ r. ⌜ r ≡ four (halvedLink n (now (table .entry))
-        (take size (now (a .entry))) (take (n * size) (now (b .entry))) x) ⌝ }
-{
-    [
-        layers::split_link(n, table, a, b, c, size, x, 0),
-        layers::split_link(n, table, a, b, c, size, x, 1),
-        layers::split_link(n, table, a, b, c, size, x, 2),
-        layers::split_link(n, table, a, b, c, size, x, 3),
-    ]
-}
-
 // The links of the slot x after the edit.
 fn new_links(
     edit: Edit,
@@ -148,37 +101,11 @@ fn new_links(
         (now (table .entry)) (now (marks .entry)) (now (a .entry)) (now (b .entry)) size x) ⌝ }
 {
     match edit {
-        Edit::Add => links_added(n, table, a, c, size, x),
+        Edit::Add => layers::added_links(n, table, a, c, size, x),
         Edit::Sew(i) => links_sewn(table, a, b, i, x),
         Edit::Unsew(i) => links_unsewn(table, marks, i, x),
-        Edit::Remove => links_removed(n, table, marks, x),
-        Edit::Split => links_split(n, table, a, b, c, size, x),
-    }
-}
-
-// Whether the edit may change the slot x: a test of a few loads, by which the passes go over the other slots.
-fn touches(
-    edit: Edit,
-    n: u32,
-    table: &[u32],
-    marks: &[u8],
-    a: &[u32],
-    b: &[u32],
-    c: &[u32],
-    size: u32,
-    x: u32,
-) -> bool
-    requires { ⌜ Fit edit n (now table) (now marks) (now a) (now b) (now c) size ⌝ }
-    requires { ⌜ x < slots (now table) ⌝ }
-    ensures { λ r. ⌜ (r ≡ false
-        → Untouched edit n (now (table .entry)) (now (marks .entry)) (now (a .entry)) (now (b .entry)) size x) ⌝ }
-{
-    match edit {
-        Edit::Add => layers::listed(a, c, size, x),
-        Edit::Sew(_) => sides::has_partner(a, b, x),
-        Edit::Unsew(i) => sides::unsews(table, marks, i, x),
-        Edit::Remove => layers::near_marked(n, table, marks, x),
-        Edit::Split => layers::listed(b, c, n * size, x) | layers::listed(a, c, size, x),
+        Edit::Remove => layers::removed_links(n, table, marks, x),
+        Edit::Split => layers::split_links(n, table, a, b, c, size, x),
     }
 }
 
@@ -198,37 +125,6 @@ fn count_links(table: &[u32], links: [u32; 4], x: u32) -> u32
     changed
 }
 
-// How many links of the slot x the edit changes.
-fn count_slot(
-    edit: Edit,
-    n: u32,
-    table: &[u32],
-    marks: &[u8],
-    a: &[u32],
-    b: &[u32],
-    c: &[u32],
-    size: u32,
-    x: u32,
-) -> u32
-    requires { ⌜ Fit edit n (now table) (now marks) (now a) (now b) (now c) size ⌝ }
-    requires { ⌜ (Sized (now table)) × (x < slots (now table)) ⌝ }
-    ensures few { λ r. ⌜ r ≤ 4 ⌝ }
-    ensures { λ r. ⌜ Counts (now (table .entry))
-        (editTable edit n (now (table .entry)) (now (marks .entry)) (now (a .entry)) (now (b .entry)) size)
-        (4 * x) (4 * x + 4) r ⌝ }
-{
-    if !touches(edit, n, table, marks, a, b, c, size, x) {
-        return 0;
-    }
-    count_links(table, new_links(edit, n, table, marks, a, b, c, size, x), x)
-}
-
-// How many entries the edit changes, and a slot below which it changes none.
-struct Counted {
-    changes: u32,
-    first: u32,
-}
-
 // Counts the entries that the edit changes.
 fn count_changes(
     edit: Edit,
@@ -239,26 +135,20 @@ fn count_changes(
     b: &[u32],
     c: &[u32],
     size: u32,
-) -> Counted
+) -> u32
     requires { ⌜ Fit edit n (now table) (now marks) (now a) (now b) (now c) size ⌝ }
     requires { ⌜ Sized (now table) ⌝ }
-    ensures { λ r. ⌜ Found (now (table .entry))
-        (editTable edit n (now (table .entry)) (now (marks .entry)) (now (a .entry)) (now (b .entry)) size)
-        (r .changes) (r .first) ⌝ }
+    ensures { λ r. ⌜ r ≡ length (changesFrom 0 (now (table .entry))
+        (editTable edit n (now (table .entry)) (now (marks .entry)) (now (a .entry)) (now (b .entry)) size)) ⌝ }
 {
     let end = (table.len() / 4) as u32;
     let mut k = 0;
-    let mut first = 0;
-    for x in 0..end {
-        if k == 0 {
-            first = x;
-        }
-        k += count_slot(edit, n, table, marks, a, b, c, size, x);
+    let mut x = next_touched(edit, n, table, marks, a, b, c, size, 0, end);
+    while x < end {
+        k += count_links(table, new_links(edit, n, table, marks, a, b, c, size, x), x);
+        x = next_touched(edit, n, table, marks, a, b, c, size, x + 1, end);
     }
-    Counted {
-        changes: k,
-        first: first,
-    }
+    k
 }
 
 // Writes the change of the entry e, if it is one, as the triple number `done`; the number of the next triple.
@@ -288,6 +178,17 @@ fn write_links(table: &[u32], journal: &mut [u32], links: [u32; 4], from: usize,
     done
 }
 
+// Writes the change of link i of the slot x to `new`, if it is one, as the triple number `from`; the number of the next triple.
+fn write_link(table: &[u32], journal: &mut [u32], i: u32, new: u32, from: usize, x: u32) -> usize
+    requires { ⌜ (Sized (now table)) × (x < slots (now table)) × (i < 4) ⌝ }
+    requires { ⌜ WritingLink (now table) i new x from (now journal) ⌝ }
+    ensures { λ r. ⌜ ((u : List ℕ) → Relinked (now (table .entry)) u i new x
+        → Writes (now (table .entry)) u (4 * x) from (now (journal .entry)) (4 * x + 4) r (now (journal .exit))) ⌝ }
+{
+    let old = reading::link_in(table, i as usize, x);
+    write_entry(journal, from, 4 * x + i, old, new)
+}
+
 // Writes the changes that the edit makes at the slot x, with the triples numbered as by `write_links`.
 fn write_slot(
     edit: Edit,
@@ -310,19 +211,57 @@ fn write_slot(
         (editTable edit n (now (table .entry)) (now (marks .entry)) (now (a .entry)) (now (b .entry)) size)
         (4 * x) from (now (journal .entry)) (4 * x + 4) r (now (journal .exit)) ⌝ }
 {
-    if !touches(edit, n, table, marks, a, b, c, size, x) {
-        return from;
+    match edit {
+        Edit::Sew(i) => {
+            let new = sides::sewn_link(table, a, b, i, x);
+            write_link(table, journal, i, new, from, x)
+        }
+        Edit::Unsew(i) => {
+            let new = sides::unsewn_link(table, marks, i, x);
+            write_link(table, journal, i, new, from, x)
+        }
+        Edit::Remove => {
+            let links = layers::removed_links(n, table, marks, x);
+            write_links(table, journal, links, from, x)
+        }
+        _ => {
+            let links = new_links(edit, n, table, marks, a, b, c, size, x);
+            write_links(table, journal, links, from, x)
+        }
     }
-    write_links(
-        table,
-        journal,
-        new_links(edit, n, table, marks, a, b, c, size, x),
-        from,
-        x,
-    )
 }
 
-// Writes the triples of the record at the cursor, by rising entry, from the slot `first` on, and stops behind the last.
+// Writes the triples of the record at the cursor, by rising entry, at the slots that `next_touched` finds; how many they are.
+fn write_touched(
+    edit: Edit,
+    n: u32,
+    table: &[u32],
+    journal: &mut [u32],
+    marks: &[u8],
+    a: &[u32],
+    b: &[u32],
+    c: &[u32],
+    size: u32,
+) -> u32
+    requires { ⌜ Fit edit n (now table) (now marks) (now a) (now b) (now c) size ⌝ }
+    requires { ⌜ Sized (now table) ⌝ }
+    requires { ⌜ Room (now table) (editTable edit n (now table) (now marks) (now a) (now b) size) (now journal) ⌝ }
+    ensures count { λ r. ⌜ r ≡ length (changesFrom 0 (now (table .entry))
+        (editTable edit n (now (table .entry)) (now (marks .entry)) (now (a .entry)) (now (b .entry)) size)) ⌝ }
+    ensures draft { λ _. ⌜ now (journal .exit) ≡ drafted (now (journal .entry)) (changesFrom 0 (now (table .entry))
+        (editTable edit n (now (table .entry)) (now (marks .entry)) (now (a .entry)) (now (b .entry)) size)) ⌝ }
+{
+    let end = (table.len() / 4) as u32;
+    let mut done = 0;
+    let mut x = next_touched(edit, n, table, marks, a, b, c, size, 0, end);
+    while x < end {
+        done = write_slot(edit, n, table, journal, marks, a, b, c, size, done, x);
+        x = next_touched(edit, n, table, marks, a, b, c, size, x + 1, end);
+    }
+    done as u32
+}
+
+// Writes the triples of the record at the cursor, by rising entry; how many they are.
 fn write_changes(
     edit: Edit,
     n: u32,
@@ -333,25 +272,48 @@ fn write_changes(
     b: &[u32],
     c: &[u32],
     size: u32,
-    changes: u32,
-    first: u32,
-)
+) -> u32
     requires { ⌜ Fit edit n (now table) (now marks) (now a) (now b) (now c) size ⌝ }
     requires { ⌜ Sized (now table) ⌝ }
     requires { ⌜ Room (now table) (editTable edit n (now table) (now marks) (now a) (now b) size) (now journal) ⌝ }
-    requires { ⌜ Found (now table) (editTable edit n (now table) (now marks) (now a) (now b) size) changes first ⌝ }
-    ensures { λ _. ⌜ now (journal .exit) ≡ drafted (now (journal .entry)) (changesFrom 0 (now (table .entry))
+    ensures count { λ r. ⌜ r ≡ length (changesFrom 0 (now (table .entry))
+        (editTable edit n (now (table .entry)) (now (marks .entry)) (now (a .entry)) (now (b .entry)) size)) ⌝ }
+    ensures draft { λ _. ⌜ now (journal .exit) ≡ drafted (now (journal .entry)) (changesFrom 0 (now (table .entry))
         (editTable edit n (now (table .entry)) (now (marks .entry)) (now (a .entry)) (now (b .entry)) size)) ⌝ }
 {
-    let mut done = 0;
-    let mut x = first;
-    while done < changes as usize {
-        done = write_slot(edit, n, table, journal, marks, a, b, c, size, done, x);
-        x += 1;
+    match edit {
+        Edit::Split => write_cut(n, table, journal, marks, a, b, c, size),
+        _ => write_touched(edit, n, table, journal, marks, a, b, c, size),
     }
 }
 
-// Whether the record fits, and how many entries the edit changes.
+// Whether the record of the edit's changes fits. The changes are counted only where a record of all entries does not.
+fn has_room(
+    edit: Edit,
+    n: u32,
+    table: &[u32],
+    journal: &[u32],
+    marks: &[u8],
+    a: &[u32],
+    b: &[u32],
+    c: &[u32],
+    size: u32,
+) -> bool
+    requires { ⌜ Fit edit n (now table) (now marks) (now a) (now b) (now c) size ⌝ }
+    requires { ⌜ (Sized (now table)) × (JournalRule (now journal)) ⌝ }
+    ensures { λ r. ⌜ r ≡ leb
+        (3 * length (changesFrom 0 (now (table .entry))
+        (editTable edit n (now (table .entry)) (now (marks .entry)) (now (a .entry)) (now (b .entry)) size)) + 2)
+        (length (now (journal .entry)) - cursor (now (journal .entry))) ⌝ }
+{
+    if journal::record_fits(journal, table.len() as u32) {
+        return true;
+    }
+    let changes = count_changes(edit, n, table, marks, a, b, c, size);
+    journal::record_fits(journal, changes)
+}
+
+// Whether the record fits, and if so how many entries the edit changed.
 pub struct Committed {
     pub fits: bool,
     pub changes: u32,
@@ -376,28 +338,14 @@ pub fn commit(
         (editTable edit n (now (table .entry)) (now (marks .entry)) (now (a .entry)) (now (b .entry)) size)
         (now (journal .entry)) (now (table .exit)) (now (journal .exit)) (r .fits) (r .changes) ⌝ }
 {
-    let counted = count_changes(edit, n, table, marks, a, b, c, size);
-    let changes = counted.changes;
-    if !journal::record_fits(journal, changes) {
+    if !has_room(edit, n, table, journal, marks, a, b, c, size) {
         return Committed {
             fits: false,
-            changes: changes,
+            changes: 0,
         };
     }
     let start = journal[0] as usize;
-    write_changes(
-        edit,
-        n,
-        table,
-        journal,
-        marks,
-        a,
-        b,
-        c,
-        size,
-        changes,
-        counted.first,
-    );
+    let changes = write_changes(edit, n, table, journal, marks, a, b, c, size);
     journal::close_record(journal, changes);
     journal::put_record(true, table, journal, start, changes as usize);
     Committed {

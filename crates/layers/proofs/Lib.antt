@@ -1,3 +1,4 @@
+pub mod Four
 pub mod Walk
 pub mod Ranks
 pub mod Orders

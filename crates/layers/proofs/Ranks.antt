@@ -1,5 +1,5 @@
--- Lists of slots with their ranks. The place of a slot by its rank (`ranked-at`, `ranked-out`); the places of the ones of a list,
--- listed one by one (`listing-none`, `listing-more`) and at the end (`listing-all`, `listing-first`).
+-- Lists of slots with their ranks. The place of a slot by its rank (`ranked-at`, `ranked-place`, `ranked-out`); the places of the
+-- ones of a list, listed one by one (`listing-none`, `listing-more`) and at the end (`listing-all`, `listing-first`).
 use Prim.Native.Nat.{ℕ, suc, _+_, _≤_, _<_}
 use mathlib.Core.Path.{_≡_, refl, sym, ap, _∙_, subst}
 use mathlib.Core.Logic.{_⊎_, inl, inr, _≢_, ⊎-elim}
@@ -50,6 +50,10 @@ module _ {size : ℕ} {words rank : List ℕ} (R : Ranked size words rank) where
       let long = front-long in
       let i : In (getD (take size words) r 0) (take size words) = getD-in (take size words) r 0 (omega arith) in
       e ∙ ranked-in x (in-cast (sym (getD-take size words r 0 low ∙ at)) i) .1
+
+  -- the slot listed at k
+  pub ranked-place : (k : ℕ) → k < size → k ≡ indexOf (getD words k 0) (take size words)
+  ranked-place k low = ranked-at (getD words k 0) k (sym (R .place k low)) low refl
 
   -- a slot that is not listed
   pub ranked-out : (x : ℕ) → (x < length rank → getD rank x 0 < size → getD words (getD rank x 0) 0 ≡ x → ⊥)

@@ -5,6 +5,7 @@ use mathlib.Core.Path.{_≡_}
 use mathlib.Core.Bool.{Bool, true, false}
 use mathlib.Core.List.{List, List·Memᴰ as In}
 use lib.ListN.{length, getD, take, set}
+use Rattle.model.specs.Lists.{indexOf}
 use Rattle.model.specs.Checks.{pass, dimOk}
 
 -- at each of the slots in the first `size` words, rank has its place
@@ -28,6 +29,11 @@ pub record Halving (n size : ℕ) (darts fresh rank : List ℕ) : Type 0 where
   pub few : size ≤ 65536
   pub old : Ranked size darts rank
   pub new : Ranked (n * size) fresh rank
+
+-- `at` is the place of the first new dart of g, and its n new darts follow there
+pub record Owns (n size : ℕ) (darts : List ℕ) (g at : ℕ) : Type 0 where
+  pub place : at ≡ n * indexOf g (take size darts)
+  pub room : at + n ≤ n * size
 
 -- where x is listed, it is the word r with the rank r, and s are listed; else all stays
 pub record Entered (listed : Bool) (r x s : ℕ) (words₀ words rank₀ rank : List ℕ) : Type 0 where

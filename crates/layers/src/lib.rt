@@ -1,7 +1,6 @@
-// The links that remove, add and split give, one entry at a time, and the lists that they are found by.
+// The links that remove, add and split give, slot by slot, and the lists that they are found by.
 use reading::link;
 use reading::link_in;
-use reading::live;
 use reading::slots;
 ghost use mathlib.Core.Path.{_≡_};
 ghost use mathlib.Core.Bool.{false, _||_};
@@ -11,18 +10,22 @@ ghost use lib.ListN.{length, getD, take};
 ghost use lib.Dec.{ltb};
 ghost use Rattle.model.specs.Lists.{ones, indexOf};
 ghost use Rattle.model.specs.Checks.{pass, dimOk, tableOk};
-ghost use Rattle.model.specs.Table.{slots, link, walk, unusedSlots};
+ghost use Rattle.model.specs.Table.{unused, slots, link, live, walk, unusedSlots};
 ghost use Rattle.model.specs.Remove.{opposite, marked, outside, removedLink};
 ghost use Rattle.model.specs.Cell.{cellSize};
 ghost use Rattle.model.specs.Add.{addedLink};
 ghost use Rattle.model.specs.Split.{crosses, newDart, newDartLink, halvedLink};
 ghost use Rattle.model.specs.Numbering.{corners, swapFirst, swapLast, cellLink};
 ghost use Rattle.model.specs.Meaning.Walks.{Layer, hop};
-ghost use Rattle.layers.specs.Ranks.{Ranked, Lists, Entered, Halving};
+ghost use Rattle.layers.specs.Four.{four};
+ghost use Rattle.layers.specs.Ranks.{Ranked, Lists, Entered, Halving, Owns};
 ghost use Rattle.layers.specs.Orders.{orders, firstAxis};
 
 // The entry of an unused slot.
 const UNUSED: u32 = 4294967295;
+
+// A rank past every list: what the ranks begin with, so that a slot in no list is known by its rank alone.
+pub const NO_RANK: u32 = 4294967295;
 
 // Of the axis orders xyz, xzy, yxz, yzx, zxy, zyx: the first axis.
 const FIRST_AXIS: [u32; 6] = [0, 0, 1, 1, 2, 2];
@@ -33,7 +36,20 @@ const FIRST_TWO: [u32; 6] = [2, 4, 0, 5, 1, 3];
 // And with the last two exchanged.
 const LAST_TWO: [u32; 6] = [1, 0, 3, 2, 5, 4];
 
-// ---- marks, and the opposite edge
+// ---- the links of a slot, marks, and the opposite edge
+
+// The links of x, where the table has it.
+fn links_in(table: &[u32], x: u32) -> [u32; 4]
+    requires { ⌜ x < slots (now table) ⌝ }
+    ensures { λ r. ⌜ r ≡ four (λ j. link (now (table .entry)) j x) ⌝ }
+{
+    [
+        link_in(table, 0, x),
+        link_in(table, 1, x),
+        link_in(table, 2, x),
+        link_in(table, 3, x),
+    ]
+}
 
 // The mark of x; past the marks 0.
 fn mark(marks: &[u8], x: u32) -> u8
@@ -88,19 +104,17 @@ pub fn first_outside(n: u32, table: &[u32], marks: &[u8], x: u32) -> u32
     }
 }
 
-// Link j of the slot x after remove.
-pub fn removed_link(n: u32, table: &[u32], marks: &[u8], x: u32, j: u32) -> u32
-    requires { ⌜ Layer n (now table) (now marks) ⌝ }
-    requires { ⌜ j < 4 ⌝ }
-    ensures { λ r. ⌜ r ≡ removedLink n (now (table .entry)) (now (marks .entry)) x j ⌝ }
+// The links of the slot x after remove.
+pub fn removed_links(n: u32, table: &[u32], marks: &[u8], x: u32) -> [u32; 4]
+    requires { ⌜ (Layer n (now table) (now marks)) × (x < slots (now table)) ⌝ }
+    ensures { λ r. ⌜ r ≡ four (removedLink n (now (table .entry)) (now (marks .entry)) x) ⌝ }
 {
-    if mark(marks, x) != 0 {
-        UNUSED
-    } else if j == n {
-        first_outside(n, table, marks, x)
-    } else {
-        link(table, j as usize, x)
+    if marks[x as usize] != 0 {
+        return [UNUSED; 4];
     }
+    let mut links = links_in(table, x);
+    links[n as usize] = first_outside(n, table, marks, x);
+    links
 }
 
 // Whether x is marked, or its link n leads to a marked dart: remove changes the links of no other slot.
@@ -141,6 +155,17 @@ pub fn list_marked(marks: &[u8], darts: &mut [u32], rank: &mut [u32]) -> u32
     r
 }
 
+// Whether the slot x is live.
+fn live_in(table: &[u32], x: u32) -> bool
+    requires { ⌜ x < slots (now table) ⌝ }
+    ensures { λ r. ⌜ r ≡ live (now (table .entry)) x ⌝ }
+{
+    !((link_in(table, 0, x) == UNUSED)
+        & (link_in(table, 1, x) == UNUSED)
+        & (link_in(table, 2, x) == UNUSED)
+        & (link_in(table, 3, x) == UNUSED))
+}
+
 // Lists the lowest unused slots, rising, at most `want` of them; how many they are.
 pub fn list_unused(table: &[u32], fresh: &mut [u32], rank: &mut [u32], want: u32) -> u32
     requires { ⌜ tableOk (now table) ≡ pass ⌝ }
@@ -152,7 +177,7 @@ pub fn list_unused(table: &[u32], fresh: &mut [u32], rank: &mut [u32], want: u32
     let mut r: u32 = 0;
     let mut x: u32 = 0;
     while (x < end) & (r < want) {
-        r = enter(fresh, rank, r, x, !live(table, x));
+        r = enter(fresh, rank, r, x, !live_in(table, x));
         x += 1;
     }
     r
@@ -241,26 +266,38 @@ pub fn cell_link(n: u32, i: u32, k: u32) -> u32
     corners * order + vertex
 }
 
-// Link i of the slot d after add, where the first `size` words of fresh are the slots of the new cell.
-pub fn added_link(
+// Link i of the k-th dart of the new cell, whose slots are the first `size` words of fresh.
+fn cell_slot(n: u32, fresh: &[u32], size: u32, i: u32, k: u32) -> u32
+    requires { ⌜ (dimOk n ≡ pass) × (size ≡ cellSize n) × (i < 4) × (k < size) ⌝ }
+    requires { ⌜ size ≤ length (now fresh) ⌝ }
+    ensures { λ r. ⌜ r ≡ getD (take size (now (fresh .entry))) (cellLink n i k) unused ⌝ }
+{
+    fresh[cell_link(n, i, k) as usize]
+}
+
+// The links of the slot d after add, where the first `size` words of fresh are the slots of the new cell.
+pub fn added_links(
     n: u32,
     table: &[u32],
     fresh: &[u32],
     rank: &[u32],
     size: u32,
     d: u32,
-    i: u32,
-) -> u32
-    requires { ⌜ (dimOk n ≡ pass) × (size ≡ cellSize n) × (i < 4) ⌝ }
+) -> [u32; 4]
+    requires { ⌜ (dimOk n ≡ pass) × (size ≡ cellSize n) × (d < slots (now table)) ⌝ }
     requires { ⌜ Ranked size (now fresh) (now rank) ⌝ }
-    ensures { λ r. ⌜ r ≡ addedLink n (now (table .entry)) (take size (now (fresh .entry))) d i ⌝ }
+    ensures { λ r. ⌜ r ≡ four (addedLink n (now (table .entry)) (take size (now (fresh .entry))) d) ⌝ }
 {
     let k = index_of(fresh, rank, size, d);
-    if k < size {
-        fresh[cell_link(n, i, k) as usize]
-    } else {
-        link(table, i as usize, d)
+    if k >= size {
+        return links_in(table, d);
     }
+    [
+        cell_slot(n, fresh, size, 0, k),
+        cell_slot(n, fresh, size, 1, k),
+        cell_slot(n, fresh, size, 2, k),
+        cell_slot(n, fresh, size, 3, k),
+    ]
 }
 
 // ---- split
@@ -291,8 +328,11 @@ fn new_dart(n: u32, darts: &[u32], fresh: &[u32], rank: &[u32], size: u32, role:
     }
 }
 
-// Link j of x, which is a(g): a(g).0 = g, a(g).1 = b(g), a(g).2 = a(g.2), a(g).3 = a(g.3), but for n = 2 the dart itself.
-fn a_link(
+// A dart's own new darts stand together in fresh: in the three functions below those of g are read from `at` on, where a(g) is, and
+// those of other darts are looked up.
+
+// The links of x, which is a(g): a(g).0 = g, a(g).1 = b(g), a(g).2 = a(g.2), a(g).3 = a(g.3), but for n = 2 the dart itself.
+fn a_links(
     n: u32,
     table: &[u32],
     darts: &[u32],
@@ -301,28 +341,25 @@ fn a_link(
     size: u32,
     x: u32,
     g: u32,
-    j: u32,
-) -> u32
-    requires { ⌜ (Halving n size (now darts) (now fresh) (now rank)) × (j < 4) ⌝ }
-    ensures { λ r. ⌜ r ≡ newDartLink n (now (table .entry))
-        (take size (now (darts .entry))) (take (n * size) (now (fresh .entry))) x g 0 j ⌝ }
+    at: usize,
+) -> [u32; 4]
+    requires { ⌜ (Halving n size (now darts) (now fresh) (now rank)) × (Owns n size (now darts) g at) ⌝ }
+    ensures { λ r. ⌜ r ≡ four (newDartLink n (now (table .entry))
+        (take size (now (darts .entry))) (take (n * size) (now (fresh .entry))) x g 0) ⌝ }
 {
-    if j == 0 {
-        g
-    } else if j == 1 {
-        new_dart(n, darts, fresh, rank, size, 1, g)
-    } else if j == 2 {
-        new_dart(n, darts, fresh, rank, size, 0, link(table, 2, g))
-    } else if n == 3 {
-        new_dart(n, darts, fresh, rank, size, 0, link(table, 3, g))
+    let b = fresh[at + 1];
+    let next = new_dart(n, darts, fresh, rank, size, 0, link(table, 2, g));
+    if n == 3 {
+        let over = new_dart(n, darts, fresh, rank, size, 0, link(table, 3, g));
+        [g, b, next, over]
     } else {
-        x
+        [g, b, next, x]
     }
 }
 
-// Link j of x, which is b(g): b(g).0 = b(g.1.0.1), b(g).1 = a(g); for n = 3 b(g).2 = c(g) and b(g).3 = b(g.3); for n = 2
+// The links of x, which is b(g): b(g).0 = b(g.1.0.1), b(g).1 = a(g); for n = 3 b(g).2 = c(g) and b(g).3 = b(g.3); for n = 2
 // b(g).2 = b(g.0) and link 3 is the dart itself.
-fn b_link(
+fn b_links(
     n: u32,
     table: &[u32],
     darts: &[u32],
@@ -331,31 +368,25 @@ fn b_link(
     size: u32,
     x: u32,
     g: u32,
-    j: u32,
-) -> u32
-    requires { ⌜ (Halving n size (now darts) (now fresh) (now rank)) × (j < 4) ⌝ }
-    ensures { λ r. ⌜ r ≡ newDartLink n (now (table .entry))
-        (take size (now (darts .entry))) (take (n * size) (now (fresh .entry))) x g 1 j ⌝ }
+    at: usize,
+) -> [u32; 4]
+    requires { ⌜ (Halving n size (now darts) (now fresh) (now rank)) × (Owns n size (now darts) g at) ⌝ }
+    ensures { λ r. ⌜ r ≡ four (newDartLink n (now (table .entry))
+        (take size (now (darts .entry))) (take (n * size) (now (fresh .entry))) x g 1) ⌝ }
 {
-    if j == 0 {
-        new_dart(n, darts, fresh, rank, size, 1, opposite_edge(table, g))
-    } else if j == 1 {
-        new_dart(n, darts, fresh, rank, size, 0, g)
-    } else if n == 3 {
-        if j == 2 {
-            new_dart(n, darts, fresh, rank, size, 2, g)
-        } else {
-            new_dart(n, darts, fresh, rank, size, 1, link(table, 3, g))
-        }
-    } else if j == 2 {
-        new_dart(n, darts, fresh, rank, size, 1, link(table, 0, g))
+    let a = fresh[at];
+    let along = new_dart(n, darts, fresh, rank, size, 1, opposite_edge(table, g));
+    if n == 3 {
+        let over = new_dart(n, darts, fresh, rank, size, 1, link(table, 3, g));
+        [along, a, fresh[at + 2], over]
     } else {
-        x
+        let next = new_dart(n, darts, fresh, rank, size, 1, link(table, 0, g));
+        [along, a, next, x]
     }
 }
 
-// Link j of c(g): c(g).0 = c(g.1.0.1), c(g).1 = c(g.2), c(g).2 = b(g), c(g).3 = c(g.0).
-fn c_link(
+// The links of c(g): c(g).0 = c(g.1.0.1), c(g).1 = c(g.2), c(g).2 = b(g), c(g).3 = c(g.0).
+fn c_links(
     n: u32,
     table: &[u32],
     darts: &[u32],
@@ -363,25 +394,30 @@ fn c_link(
     rank: &[u32],
     size: u32,
     g: u32,
-    j: u32,
-) -> u32
-    requires { ⌜ (Halving n size (now darts) (now fresh) (now rank)) × (j < 4) ⌝ }
-    ensures { λ r. ⌜ ((x : ℕ) → r ≡ newDartLink n (now (table .entry))
-        (take size (now (darts .entry))) (take (n * size) (now (fresh .entry))) x g 2 j) ⌝ }
+    at: usize,
+) -> [u32; 4]
+    requires { ⌜ (Halving n size (now darts) (now fresh) (now rank)) × (Owns n size (now darts) g at) ⌝ }
+    ensures { λ r. ⌜ ((x : ℕ) → r ≡ four (newDartLink n (now (table .entry))
+        (take size (now (darts .entry))) (take (n * size) (now (fresh .entry))) x g 2)) ⌝ }
 {
-    if j == 0 {
-        new_dart(n, darts, fresh, rank, size, 2, opposite_edge(table, g))
-    } else if j == 1 {
-        new_dart(n, darts, fresh, rank, size, 2, link(table, 2, g))
-    } else if j == 2 {
-        new_dart(n, darts, fresh, rank, size, 1, g)
-    } else {
-        new_dart(n, darts, fresh, rank, size, 2, link(table, 0, g))
-    }
+    [
+        new_dart(n, darts, fresh, rank, size, 2, opposite_edge(table, g)),
+        new_dart(n, darts, fresh, rank, size, 2, link(table, 2, g)),
+        fresh[at + 1],
+        new_dart(n, darts, fresh, rank, size, 2, link(table, 0, g)),
+    ]
 }
 
-// Link j of x, which is the k-th new dart.
-fn new_link(
+// The place of the dart that the k-th new dart belongs to: k / n, by a constant.
+fn owner(n: u32, k: u32) -> u32
+    requires { ⌜ dimOk n ≡ pass ⌝ }
+    ensures { λ r. ⌜ r ≡ k / n ⌝ }
+{
+    if n == 3 { k / 3 } else { k / 2 }
+}
+
+// The links of x, which is the k-th new dart.
+fn new_dart_links(
     n: u32,
     table: &[u32],
     darts: &[u32],
@@ -390,27 +426,28 @@ fn new_link(
     size: u32,
     x: u32,
     k: u32,
-    j: u32,
-) -> u32
-    requires { ⌜ (Halving n size (now darts) (now fresh) (now rank)) × (k < n * size) × (j < 4) ⌝ }
-    ensures { λ r. ⌜ r ≡ newDartLink n (now (table .entry))
+) -> [u32; 4]
+    requires { ⌜ (Halving n size (now darts) (now fresh) (now rank)) × (k < n * size) ⌝ }
+    ensures { λ r. ⌜ r ≡ four (newDartLink n (now (table .entry))
         (take size (now (darts .entry))) (take (n * size) (now (fresh .entry)))
-        x (getD (take size (now (darts .entry))) (k / n) 0) (k % n) j ⌝ }
+        x (getD (take size (now (darts .entry))) (k / n) 0) (k % n)) ⌝ }
 {
-    let g = darts[(k / n) as usize];
-    let role = k % n;
+    let i = owner(n, k);
+    let g = darts[i as usize];
+    let at = n * i;
+    let role = k - at;
     if role == 0 {
-        a_link(n, table, darts, fresh, rank, size, x, g, j)
+        a_links(n, table, darts, fresh, rank, size, x, g, at as usize)
     } else if role == 1 {
-        b_link(n, table, darts, fresh, rank, size, x, g, j)
+        b_links(n, table, darts, fresh, rank, size, x, g, at as usize)
     } else {
-        c_link(n, table, darts, fresh, rank, size, g, j)
+        c_links(n, table, darts, fresh, rank, size, g, at as usize)
     }
 }
 
-// Link j of the slot x after split, where the first `size` words of darts are the darts of S, and the first n * size words of
+// The links of the slot x after split, where the first `size` words of darts are the darts of S, and the first n * size words of
 // fresh the new darts.
-pub fn split_link(
+pub fn split_links(
     n: u32,
     table: &[u32],
     darts: &[u32],
@@ -418,19 +455,20 @@ pub fn split_link(
     rank: &[u32],
     size: u32,
     x: u32,
-    j: u32,
-) -> u32
-    requires { ⌜ (Halving n size (now darts) (now fresh) (now rank)) × (j < 4) ⌝ }
-    ensures { λ r. ⌜ r ≡ halvedLink n (now (table .entry))
-        (take size (now (darts .entry))) (take (n * size) (now (fresh .entry))) x j ⌝ }
+) -> [u32; 4]
+    requires { ⌜ (Halving n size (now darts) (now fresh) (now rank)) × (x < slots (now table)) ⌝ }
+    ensures { λ r. ⌜ r ≡ four (halvedLink n (now (table .entry))
+        (take size (now (darts .entry))) (take (n * size) (now (fresh .entry))) x) ⌝ }
 {
     let new = n * size;
     let k = index_of(fresh, rank, new, x);
     if k < new {
-        new_link(n, table, darts, fresh, rank, size, x, k, j)
-    } else if (j == 0) & (index_of(darts, rank, size, x) < size) {
-        new_dart(n, darts, fresh, rank, size, 0, x)
-    } else {
-        link(table, j as usize, x)
+        return new_dart_links(n, table, darts, fresh, rank, size, x, k);
     }
+    let mut links = links_in(table, x);
+    let i = index_of(darts, rank, size, x);
+    if i < size {
+        links[0] = fresh[(n * i) as usize];
+    }
+    links
 }

@@ -1,4 +1,5 @@
 -- `edits::commit` meets its contract.
+use mathlib.Core.Path.{refl}
 use native.Mathlib.Omega.{arith}
 use borrow.Author.Needs.{needs}
 use borrow.Author.Tests.{not-true, not-false}
@@ -10,14 +11,11 @@ use Rattle.edits.proofs.commit.Statement.{statement}
 use Rattle.edits.proofs.commit.Tie as tie
 
 -- the function's entry, from where the record was tested
-abbrev start : tie.After-record-fits → tie.Start
-start f = f .before .before .before .before .before .before .before .before .before .before
+abbrev start : tie.After-has-room → tie.Start
+start f = f .before .before .before .before .before .before .before .before .before
 
-count-changes-requires : tie.Need-count-changes-requires
-count-changes-requires c κs = search needs
-
-record-fits-requires : tie.Need-record-fits-requires
-record-fits-requires c κs = search needs
+has-room-requires : tie.Need-has-room-requires
+has-room-requires c κs = search needs
 
 same-length : tie.Need-same-length
 same-length c = search needs
@@ -26,10 +24,7 @@ same-length-2 : tie.Need-same-length-2
 same-length-2 c = search needs
 
 returns : tie.Need-returns
-returns c =
-    let f = c .before in
-    let count = f .before .before .count-changes .ensures .count in
-    refusal-carried _ _ _ _ count _ (f .record-fits .ensures) (not-true _ (c .if1 .taken))
+returns c = let f = c .before in refusal-carried _ _ _ _ (f .has-room .ensures) (not-true _ (c .if1 .taken))
 
 slice-read-start : tie.Need-slice-read-start
 slice-read-start c = search needs
@@ -42,9 +37,7 @@ write-changes-requires c κs =
     let e = c .before .before .before in
     let f = e .before in
     let p = start f .pre in
-    let found = f .before .before .count-changes .ensures in
-    let room = fits-room _ _ _ _ (found .count) _ (f .record-fits .ensures) (not-false _ (e .if1 .left)) in
-    (p .0, (p .1 .0, (room, found)))
+    (p .0, (p .1 .0, fits-room _ _ _ _ refl _ (f .has-room .ensures) (not-false _ (e .if1 .left))))
 
 -- where the test has passed, from where the triples stand, and from where the record stands
 abbrev written : tie.After-write-changes → tie.Else1
@@ -58,9 +51,9 @@ close-record-requires c κs =
     let w = c .before .before .before in
     let e = written w in
     let f = e .before in
-    let count = f .before .before .count-changes .ensures .count in
-    draft-closes _ _ _ _ count _ (f .record-fits .ensures) (edit-long _ _ _ _ _ _ _) (start f .pre .1 .1)
-    (not-false _ (e .if1 .left)) _ (w .write-changes .ensures)
+    let (count, draft) = w .write-changes .ensures in
+    draft-closes _ _ _ _ (f .has-room .ensures) (edit-long _ _ _ _ _ _ _) (start f .pre .1 .1) (not-false _ (e .if1 .left))
+    _ count _ draft
 
 cast-put-record : tie.Need-cast-put-record
 cast-put-record c = search needs
@@ -72,9 +65,9 @@ put-record-requires c κs =
     let w = closed k in
     let e = written w in
     let f = e .before in
-    let count = f .before .before .count-changes .ensures .count in
-    record-puts _ _ _ _ count _ (f .record-fits .ensures) (edit-long _ _ _ _ _ _ _) (start f .pre .1 .1)
-    (not-false _ (e .if1 .left)) _ (k .close-record .ensures _ _ (w .write-changes .ensures) count)
+    let (count, draft) = w .write-changes .ensures in
+    record-puts _ _ _ _ (f .has-room .ensures) (edit-long _ _ _ _ _ _ _) (start f .pre .1 .1) (not-false _ (e .if1 .left))
+    _ count _ (k .close-record .ensures _ _ draft count)
 
 same-length-3 : tie.Need-same-length-3
 same-length-3 c = search needs
@@ -90,16 +83,15 @@ returns-2 c =
     let w = closed k in
     let e = written w in
     let f = e .before in
-    let count = f .before .before .count-changes .ensures .count in
-    record-carried _ _ _ _ count _ (f .record-fits .ensures) (edit-long _ _ _ _ _ _ _) (start f .pre .1 .1)
-    (not-false _ (e .if1 .left)) _ (k .close-record .ensures _ _ (w .write-changes .ensures) count) _ (p .put-record .ensures)
+    let (count, draft) = w .write-changes .ensures in
+    record-carried _ _ _ _ (f .has-room .ensures) (edit-long _ _ _ _ _ _ _) (start f .pre .1 .1) (not-false _ (e .if1 .left))
+    _ count _ (k .close-record .ensures _ _ draft count) _ (p .put-record .ensures)
 
 pub commit-spec : {M : Type 1} → statement M
 commit-spec =
     tie.close
     (tie.spec
-    count-changes-requires
-    record-fits-requires
+    has-room-requires
     same-length
     same-length-2
     returns

@@ -1,6 +1,6 @@
 -- `edits::links_sewn` meets its contract, link by link.
 use borrow.Author.Needs.{needs}
-use Rattle.edits.proofs.Four.{four-of}
+use Rattle.layers.proofs.Four.{four-of}
 use Rattle.edits.proofs.links_sewn.Statement.{statement}
 use Rattle.edits.proofs.links_sewn.Tie as tie
 

@@ -1,6 +1,6 @@
 -- `edits::links_unsewn` meets its contract, link by link.
 use borrow.Author.Needs.{needs}
-use Rattle.edits.proofs.Four.{four-of}
+use Rattle.layers.proofs.Four.{four-of}
 use Rattle.edits.proofs.links_unsewn.Statement.{statement}
 use Rattle.edits.proofs.links_unsewn.Tie as tie
 

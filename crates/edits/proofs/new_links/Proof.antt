@@ -3,7 +3,8 @@ use Prim.Native.Nat.{ℕ}
 use mathlib.Core.Path.{_≡_}
 use mathlib.Core.List.{List}
 use borrow.Author.Needs.{needs}
-use Rattle.edits.specs.Edits.{editLink, four, Fit}
+use Rattle.layers.specs.Four.{four}
+use Rattle.edits.specs.Edits.{editLink, Fit}
 use Rattle.edits.specs.declared.Edit.{Edit}
 use Rattle.edits.proofs.Cases.{known-fits, known-links}
 use Rattle.edits.proofs.new_links.Statement.{statement}
@@ -33,10 +34,11 @@ links s known r h =
 enum-told : tie.Need-enum-told
 enum-told c = search needs
 
-links-added-requires : tie.Need-links-added-requires
-links-added-requires c κs =
+added-links-requires : tie.Need-added-links-requires
+added-links-requires c κs =
     let s = start (c .before .before) in
-    fits s (c .enum-told .given .1)
+    let fit = fits s (c .enum-told .given .1) in
+    ((fit .dim, fit .whole, s .pre .1), fit .ranked)
 
 enum-known-edit : tie.Need-enum-known-edit
 enum-known-edit c = search needs
@@ -59,24 +61,24 @@ links-unsewn-requires c κs =
 enum-told-2 : tie.Need-enum-told-2
 enum-told-2 c = search needs
 
-links-removed-requires : tie.Need-links-removed-requires
-links-removed-requires c κs =
+removed-links-requires : tie.Need-removed-links-requires
+removed-links-requires c κs =
     let s = start (c .before .before) in
-    fits s (c .enum-told2 .given .1)
+    (fits s (c .enum-told2 .given .1), s .pre .1)
 
 enum-told-3 : tie.Need-enum-told-3
 enum-told-3 c = search needs
 
-links-split-requires : tie.Need-links-split-requires
-links-split-requires c κs =
+split-links-requires : tie.Need-split-links-requires
+split-links-requires c κs =
     let s = start (c .before .before) in
-    fits s (c .enum-told3 .given .1)
+    (fits s (c .enum-told3 .given .1) .lists, s .pre .1)
 
 returns : tie.Need-returns
 unfolding editLink
 returns c =
     let k = c .before in
-    links (start (k .before .before)) (k .enum-told .given .1) _ (c .links-added .ensures)
+    links (start (k .before .before)) (k .enum-told .given .1) _ (c .added-links .ensures)
 
 returns-2 : tie.Need-returns-2
 unfolding editLink
@@ -94,28 +96,28 @@ returns-4 : tie.Need-returns-4
 unfolding editLink
 returns-4 c =
     let k = c .before in
-    links (start (k .before .before)) (k .enum-told2 .given .1) _ (c .links-removed .ensures)
+    links (start (k .before .before)) (k .enum-told2 .given .1) _ (c .removed-links .ensures)
 
 returns-5 : tie.Need-returns-5
 unfolding editLink
 returns-5 c =
     let k = c .before in
-    links (start (k .before .before)) (k .enum-told3 .given .1) _ (c .links-split .ensures)
+    links (start (k .before .before)) (k .enum-told3 .given .1) _ (c .split-links .ensures)
 
 pub new-links-spec : {M : Type 1} → statement M
 new-links-spec =
     tie.close
     (tie.spec
     enum-told
-    links-added-requires
+    added-links-requires
     enum-known-edit
     links-sewn-requires
     enum-known-edit-2
     links-unsewn-requires
     enum-told-2
-    links-removed-requires
+    removed-links-requires
     enum-told-3
-    links-split-requires
+    split-links-requires
     returns
     returns-2
     returns-3

@@ -26,9 +26,6 @@ loop-holds c =
     let a = c .before .before .before .before .args in
     (listing-none (unusedMarks (a .table .now)) (a .fresh .now) (a .rank .now), omega arith, omega arith)
 
-live-requires : tie.Need-live-requires Inv-loop μ-loop
-live-requires c κs = search needs
-
 -- a slot that is passed: how many slots there are, and that one more is wanted
 turn : (c : tie.In-loop Inv-loop μ-loop) →
     let l = c .before in
@@ -39,6 +36,9 @@ turn c =
     let s = l .before .before .before .before .before in
     let (more, wanted) = goes-on (l .loop .x) (l .before .slots .result) (l .loop .r) (s .args .want) (c .loop-test .taken) in
     (rw (l .before .slots .ensures) at more, wanted, table-passed (s .args .table .now) (s .pre .0) .few)
+
+live-in-requires : tie.Need-live-in-requires Inv-loop μ-loop
+live-in-requires c κs = turn (c .before .before) .0
 
 enter-requires : tie.Need-enter-requires Inv-loop μ-loop
 enter-requires c κs =
@@ -66,8 +66,8 @@ loop-again c =
     let lists = l .loop .inv .0 .lists in
     let u = l .before .before .before .before .before .args .table .now in
     let long = unused-long u in
-    let few = entered-few (not (v .live .result)) (l .loop .r) (e .enter .result) (e .enter .ensures .size) in
-    let is = ap not (v .live .ensures) ∙ unused-mark u (l .loop .x) (t .0) in
+    let few = entered-few (not (v .live-in .result)) (l .loop .r) (e .enter .result) (e .enter .ensures .size) in
+    let is = ap not (v .live-in .ensures) ∙ unused-mark u (l .loop .x) (t .0) in
     let more = listing-more (l .loop .inv .0) _ _ (omega arith) is in (
       more (omega (arith, lists .long)) (omega (arith, lists .rank-long)) (e .enter .ensures),
       omega (arith, l .before .slots .ensures),
@@ -97,7 +97,7 @@ list-unused-spec =
     μ-loop
     slots-requires
     loop-holds
-    live-requires
+    live-in-requires
     enter-requires
     add-x
     loop-less

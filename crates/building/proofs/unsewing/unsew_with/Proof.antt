@@ -100,7 +100,7 @@ returns-3 c =
     let marked = committed .before .before .before .before .before .before .before .before .before in
     let done = carried-same (edit-unsew _ _ _ _ _ _ _ _ (marked .side .ensures .marks)) (committed .commit .ensures) in
     operation-done (unsew-operates _ _ _ _ _) (all-passed _ (sewn (passed marked) .passed)) done
-    (not-false _ (c .if2 .left)) refl (done .count)
+    (not-false _ (c .if2 .left)) refl (done .count (not-false _ (c .if2 .left)))
 
 pub unsew-with-spec : {M : Type 1} → statement M
 unsew-with-spec =

@@ -52,7 +52,7 @@ remove-in-requires : tie.Need-remove-in-requires
 remove-in-requires c κs =
     let branch = c .before .before .before .before in
     let L = layered (passed (branch .before)) in
-    let room = room-small _ (L .table) (branch .if2 .taken) in
+    let room = room-small 2048 _ (L .table) (branch .if2 .taken) in
     (passed (branch .before), search needs)
 
 same-length-3 : tie.Need-same-length-3
@@ -73,8 +73,9 @@ slice-aggregate-remove-in-2 c = search needs
 remove-in-requires-2 : tie.Need-remove-in-requires-2
 remove-in-requires-2 c κs =
     let branch = c .before .before .before .before in
-    let room = room-given _ (layered (passed (branch .before)) .table) in
-    (passed (branch .before), search needs)
+    let L = layered (passed (branch .before .before)) in
+    let room = room-small 8192 _ (L .table) (branch .if3 .taken) in
+    (passed (branch .before .before), search needs)
 
 same-length-6 : tie.Need-same-length-6
 same-length-6 c = search needs
@@ -87,6 +88,27 @@ same-length-8 c = search needs
 
 returns-3 : tie.Need-returns-3
 returns-3 c = search needs
+
+slice-aggregate-remove-in-3 : tie.Need-slice-aggregate-remove-in-3
+slice-aggregate-remove-in-3 c = search needs
+
+remove-in-requires-3 : tie.Need-remove-in-requires-3
+remove-in-requires-3 c κs =
+    let branch = c .before .before .before .before in
+    let room = room-given _ (layered (passed (branch .before .before)) .table) in
+    (passed (branch .before .before), search needs)
+
+same-length-9 : tie.Need-same-length-9
+same-length-9 c = search needs
+
+same-length-10 : tie.Need-same-length-10
+same-length-10 c = search needs
+
+same-length-11 : tie.Need-same-length-11
+same-length-11 c = search needs
+
+returns-4 : tie.Need-returns-4
+returns-4 c = search needs
 
 pub remove-spec : {M : Type 1} → statement M
 remove-spec =
@@ -108,4 +130,10 @@ remove-spec =
     same-length-6
     same-length-7
     same-length-8
-    returns-3)
+    returns-3
+    slice-aggregate-remove-in-3
+    remove-in-requires-3
+    same-length-9
+    same-length-10
+    same-length-11
+    returns-4)

@@ -73,7 +73,7 @@ unfolding orbitChecks
 orbit-in-requires c κs =
     let small = c .before .before in
     let p = dart (small .before) .passed in
-    (all-passed _ p, room-small _ (search) (small .if4 .taken))
+    (all-passed _ p, room-small 8192 _ (search) (small .if4 .taken))
 
 same-length : tie.Need-same-length
 same-length c = search needs

@@ -43,7 +43,7 @@ unfolding sheetChecks
 sheet-in-requires c κs =
     let small = c .before .before in
     let p = block (small .before) .passed in
-    (all-passed _ p, room-small _ (search) (small .if2 .taken))
+    (all-passed _ p, room-small 8192 _ (search) (small .if2 .taken))
 
 same-length : tie.Need-same-length
 same-length c = search needs
