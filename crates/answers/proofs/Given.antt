@@ -1,8 +1,8 @@
 -- What the passed checks say, as the crates below ask it: `map-given` for the block test, `flood-given` for orbit
 -- and sheet, `room-given` and `room-small` for a lent buffer.
 use Prim.Native.Nat.{ℕ, _*_, _≤_}
-use mathlib.Core.Path.{_≡_, refl}
-use mathlib.Core.Bool.{Bool, true}
+use mathlib.Core.Path.{_≡_}
+use mathlib.Core.Bool.{true}
 use mathlib.Core.List.{List}
 use native.Mathlib.Omega.{arith}
 use lib.ListN.{length}

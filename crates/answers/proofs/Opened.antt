@@ -2,10 +2,10 @@
 -- `opened-marks` for orbit, `opened-journal` for add, undo and redo, `opened-side` for sew and unsew, `opened-sheet` for sheet,
 -- `opened-layer` for remove and split.
 use Prim.Native.Nat.{ℕ}
-use mathlib.Core.Path.{_≡_, refl, subst}
+use mathlib.Core.Path.{_≡_, subst}
 use mathlib.Core.Bool.{Bool, true}
 use mathlib.Core.List.{List, [], _∷_}
-use Rattle.model.specs.Checks.{Check, pass, andThen, inOrder, must, dimOk, tableOk, marksOk, journalOk, mapOk, indexOk, dartOk}
+use Rattle.model.specs.Checks.{Check, andThen, inOrder, must, dimOk, tableOk, marksOk, journalOk, mapOk, indexOk, dartOk}
 use Rattle.model.specs.Checks.{sheetChecks, layerChecks}
 use Rattle.answers.specs.declared.Answer.{Answer}
 use Rattle.answers.specs.Openings.{Settles, openingChecks, sideChecks}

@@ -6,7 +6,7 @@ use mathlib.Core.Logic.{_≢_}
 use mathlib.Core.List.{List, [], _∷_, _++_}
 use native.Mathlib.Numerals.{add-one}
 use native.Mathlib.Omega.{arith}
-use lib.ListN.{length, getD}
+use lib.ListN.{length}
 use Rattle.model.specs.Table.{unused, slots, link}
 use Rattle.model.specs.Journal.{Change, cursor}
 use Rattle.journal.specs.Records.{changesBelow, drafted, Scanned}

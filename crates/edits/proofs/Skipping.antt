@@ -1,7 +1,7 @@
 -- The loops that pass over slots: the invariant begins with `skips-none`, takes a slot more by `skips-more`, and reaches the end by
 -- `skips-all`.
 use Prim.Native.Nat.{ℕ, _+_, _≤_, _<_}
-use mathlib.Core.Path.{_≡_, sym, subst}
+use mathlib.Core.Path.{_≡_, subst}
 use native.Mathlib.Omega.{arith}
 use Rattle.model.proofs.Lists.Scan.{if-lt}
 use Rattle.edits.specs.Skips.{Skips}

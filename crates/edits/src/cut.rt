@@ -4,7 +4,6 @@ ghost use mathlib.Core.Path.{_≡_};
 ghost use Prim.Native.Nat.{ℕ, _+_, _*_, _≤_, _<_};
 ghost use lib.ListN.{length};
 ghost use Rattle.model.specs.Journal.{changesFrom};
-ghost use Rattle.model.specs.Table.{slots};
 ghost use Rattle.reading.specs.Sized.{Sized};
 ghost use Rattle.journal.specs.Records.{drafted};
 ghost use Rattle.edits.specs.Edits.{editTable, FitSplit};

@@ -1,7 +1,7 @@
 -- How split ends: refused by the checks up to 8 (`split-refused`), by 13 (`split-crosses`), 14 (`split-few`) or 15
 -- (`split-no-room`), or accepted (`split-done`).
 use Prim.Native.Nat.{ℕ, _*_, _≤_, _<_}
-use mathlib.Core.Path.{_≡_, refl, sym, ap, ap₂, _∙_}
+use mathlib.Core.Path.{_≡_, sym, ap, ap₂, _∙_}
 use mathlib.Core.Logic.{_≢_}
 use mathlib.Core.Bool.{Bool, true, false, not}
 use mathlib.Core.List.{List}
@@ -14,7 +14,7 @@ use Rattle.model.specs.Lists.{ones}
 use Rattle.model.specs.Table.{slots, unusedSlots}
 use Rattle.model.specs.Sheet.{sheet}
 use Rattle.model.specs.Split.{crosses, splitSlots, splitTable}
-use Rattle.model.specs.Checks.{pass, refuse, must, andThen, inOrder, layerChecks, crossingOk, splitRoomOk, splitChecks}
+use Rattle.model.specs.Checks.{refuse, must, andThen, inOrder, layerChecks, crossingOk, splitRoomOk, splitChecks}
 use Rattle.model.specs.Calls.{refused, commit, splitCall}
 use Rattle.model.specs.Meaning.Sheets.{marksOf}
 use Rattle.model.proofs.Lists.Ones.{index-in, ones-in}

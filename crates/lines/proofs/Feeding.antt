@@ -1,12 +1,11 @@
 -- A piece of the input is fed byte by byte: `Feeding` holds on the way, with what is still to be fed.
-use Prim.Native.Nat.{ℕ, suc, _+_, _*_, _≤_, _<_}
+use Prim.Native.Nat.{ℕ, _+_, _*_, _≤_, _<_}
 use mathlib.Core.Path.{_≡_, refl, sym, ap, _∙_}
-use mathlib.Core.List.{List, [], _∷_, _++_, append-assoc, append-nil}
+use mathlib.Core.List.{List, _++_, append-assoc, append-nil}
 use native.Mathlib.Omega.{arith}
 use native.Mathlib.Numerals.{add-one}
 use lib.ListN.{length, getD, take, drop, length-append, drop-of-length-le}
 use lib.Seq.{drop-cons}
-use Rattle.texts.specs.Texts.{Appended}
 use Rattle.lines.specs.declared.Session.{Session}
 use Rattle.lines.specs.declared.Step.{Step}
 use Rattle.lines.specs.Machine.{Machine, fed, says, fedAll, saysAll}

@@ -1,14 +1,13 @@
 -- The machine prints the session: `whole` for all bytes at once; `fed-pieces`, `says-pieces` for an input in pieces.
-use Prim.Native.Nat.{ℕ, zero, suc, _+_, _≤_, _<_}
+use Prim.Native.Nat.{ℕ, suc, _+_}
 use mathlib.Core.Path.{_≡_, refl, sym, ap, _∙_}
-use mathlib.Core.Bool.{true, false}
 use mathlib.Core.List.{List, [], _∷_, _++_, append-assoc, append-nil}
 use mathlib.Core.Option.{Option, none, some}
 use native.Mathlib.Omega.{arith}
-use lib.ListN.{length, take, length-append, length-take}
+use lib.ListN.{length, take, length-append}
 use lib.Seq.{take-all, take-append-le, length-take-le}
-use lib.Dec.{eqb, ltb}
-use borrow.Author.Tests.{lt-ltb, le-ltb}
+use lib.Dec.{eqb}
+use borrow.Author.Tests.{lt-ltb}
 use Rattle.model.specs.Text.{newline}
 use Rattle.model.specs.Session.{Due, dimDue, slotsDue, opDue, iDue, dDue, eDue}
 use Rattle.model.specs.Session.{reads, taken, printed, bad, closing, talk, session}

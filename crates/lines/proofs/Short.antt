@@ -1,22 +1,20 @@
 -- A line of more than 14 bytes does not fit, so 15 bytes of it are enough (`reads-short`).
-use Prim.Native.Nat.{ℕ, zero, suc, _+_, _*_, _-_, _^_, _<_, _≤_}
+use Prim.Native.Nat.{ℕ, suc, _+_, _*_, _-_, _^_, _<_, _≤_}
 use mathlib.Core.Path.{_≡_, refl, sym, ap, _∙_}
 use mathlib.Core.Logic.{_≢_}
-use mathlib.Core.Bool.{Bool, true, false, _&&_}
-use mathlib.Core.List.{List, [], _∷_, _++_}
-use mathlib.Core.Option.{Option, none, some}
+use mathlib.Core.Bool.{Bool, true, _&&_}
+use mathlib.Core.List.{List, [], _∷_}
+use mathlib.Core.Option.{Option, none}
 use native.Mathlib.Omega.{arith}
 use native.Mathlib.Nat.{pow-succ', pow-le-pow-right, mul-le-mul-right, mul-assoc, mul-comm}
-use lib.ListN.{length, take, drop, length-drop, length-take}
+use lib.ListN.{length, take, drop, length-drop}
 use lib.Seq.{take-all, length-take-le}
 use lib.Dec.{leb, eqb}
 use borrow.Author.Tests.{lt-leb, leb-true, eqb-false}
-use Rattle.model.specs.Meaning.Worked.{equal}
 use Rattle.model.specs.Text.{begins, isDigit, digits, number, upTo}
 use Rattle.model.specs.Session.{Due, dimDue, slotsDue, opDue, iDue, dDue, eDue, names, placeFrom, behind, reads}
 use Rattle.model.proofs.Lists.Scan.{test, if-lt, and-l, and-r}
 use Rattle.texts.proofs.Comparing.{equal-lengths}
-use Rattle.texts.proofs.Reading.{number-many}
 
 -- ---- a number with many digits is large
 

@@ -1,9 +1,9 @@
 -- One step of the machine, from what the functions give.
-use Prim.Native.Nat.{ℕ, zero, suc, _+_, _*_, _≤_, _<_}
-use mathlib.Core.Path.{_≡_, refl, sym, ap, _∙_}
+use Prim.Native.Nat.{ℕ, _+_, _*_, _≤_, _<_}
+use mathlib.Core.Path.{_≡_, refl, _∙_}
 use mathlib.Core.Logic.{_≢_}
-use mathlib.Core.Bool.{Bool, true, false}
-use mathlib.Core.List.{List, [], _∷_, _++_}
+use mathlib.Core.Bool.{true, false}
+use mathlib.Core.List.{List, [], _∷_}
 use mathlib.Core.Option.{Option, none, some}
 use native.Mathlib.Omega.{arith}
 use native.Mathlib.Numerals.{add-one}
@@ -24,7 +24,7 @@ use Rattle.texts.proofs.Writing.{appended-none}
 use Rattle.lines.specs.declared.Key.{Key}
 use Rattle.lines.specs.declared.Key.the-variants.{Dim, Slots, Op, I, D, E}
 use Rattle.lines.specs.declared.Session.{Session}
-use Rattle.lines.specs.Machine.{Machine, reading, stopped, hold, next, prints, fed, says, ends}
+use Rattle.lines.specs.Machine.{reading, stopped, hold, next, prints, fed, says, ends}
 use Rattle.lines.specs.Held.{lent, dueAt, dueOf, atOp, unless, machineOf, Kept, notedAt, Fits, Noted, Told}
 
 -- ---- a byte is held

@@ -1,8 +1,7 @@
 -- The session program: "It reads standard input as key=value lines, LF after each, in fixed order", and prints the answers.
 -- `session` gives for the bytes of the input the bytes of the output.
 use Prim.Native.Nat.{ℕ, zero, suc}
-use Prim.Native.String.{String}
-use mathlib.Core.Bool.{Bool, true, false}
+use mathlib.Core.Bool.{true, false}
 use mathlib.Core.List.{List, [], _∷_, _++_}
 use mathlib.Core.Option.{Option, none, some}
 use lib.ListN.{length, getD, drop}

@@ -1,5 +1,4 @@
 -- Worked sessions: the whole case of 01, and lines that do not fit, as one table with one statement.
-use Prim.Native.Nat.{ℕ}
 use Prim.Native.String.{String}
 use mathlib.Core.Path.{_≡_, refl}
 use mathlib.Core.Bool.{true, false}

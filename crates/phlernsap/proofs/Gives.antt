@@ -1,6 +1,6 @@
 -- A C call gives what the call below it gives: `gives`.
 use Prim.Native.Nat.{ℕ}
-use mathlib.Core.Path.{_≡_, _∙_}
+use mathlib.Core.Path.{_≡_}
 use mathlib.Core.List.{List}
 use Rattle.model.specs.Calls.{Outcome}
 use Rattle.answers.specs.declared.Answer.{Answer}

@@ -1,17 +1,14 @@
 -- How a call ends, from its checks: `orbit-refused`, `orbit-accepted` and the like.
-use Prim.Native.Nat.{ℕ, _+_, _*_, _-_}
-use mathlib.Core.Path.{_≡_, refl, sym, ap, _∙_}
+use Prim.Native.Nat.{ℕ, _-_}
+use mathlib.Core.Path.{_≡_}
 use mathlib.Core.Bool.{Bool, true, false}
 use mathlib.Core.List.{List, []}
-use lib.ListN.{getD}
 use Rattle.model.specs.Lists.{count}
 use Rattle.model.specs.Cell.{isBlock}
 use Rattle.model.specs.Orbit.{orbit, orbitPlace}
 use Rattle.model.specs.Sheet.{sheet, sheetMarks}
-use Rattle.model.specs.Journal.{cursor}
-use Rattle.model.specs.Checks.{pass, refuse, inOrder, checkChecks, orbitChecks, sheetChecks, stepChecks, undoOk, redoOk}
-use Rattle.model.specs.Calls.{Outcome, refused, checkCall, orbitCall, sheetCall, stepOutcome, undoCall, redoCall}
-use Rattle.answers.specs.declared.Answer.{Answer}
+use Rattle.model.specs.Checks.{pass, refuse, inOrder, checkChecks, orbitChecks, sheetChecks}
+use Rattle.model.specs.Calls.{refused, checkCall, orbitCall, sheetCall}
 use Rattle.answers.specs.Answers.{outcome, refusal, accepted}
 
 module _ (n : ℕ) (t : List ℕ) where

@@ -1,6 +1,6 @@
 // The session program: standard input is read piece by piece, and what the session prints for a piece is written before the
 // next is read.
-ghost use Prim.Native.Nat.{_+_, _*_, _<_, _≤_};
+ghost use Prim.Native.Nat.{_+_, _<_, _≤_};
 ghost use lib.ListN.{length};
 ghost use Rattle.lines.specs.Held.{Room, Kept};
 use lines::Session;

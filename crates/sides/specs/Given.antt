@@ -1,6 +1,6 @@
 -- What the functions ask of the table and of the lent buffers: `Given` for both walks, `Ready` for one, `Stepping` and `Meeting`
 -- for its steps; `SewnAt` and `UnsewnAt` for the links that sew and unsew give.
-use Prim.Native.Nat.{ℕ, _+_, _*_, _≤_, _<_}
+use Prim.Native.Nat.{ℕ, _*_, _≤_, _<_}
 use mathlib.Core.Path.{_≡_}
 use mathlib.Core.Logic.{_≢_}
 use mathlib.Core.Bool.{true}

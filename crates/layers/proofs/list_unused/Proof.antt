@@ -3,7 +3,6 @@ use Prim.Native.Nat.{_≤_, _<_, _-_}
 use mathlib.Core.Path.{sym, ap, _∙_}
 use mathlib.Core.Bool.{not}
 use native.Mathlib.Omega.{arith}
-use borrow.Author.Needs.{needs}
 use Rattle.model.specs.Table.{slots, unusedSlots}
 use Rattle.reading.proofs.Passed.{table-passed}
 use Rattle.layers.proofs.Ranks.{Listing, listing-none, listing-more, listing-first, entered-few}

@@ -1,9 +1,8 @@
 -- `printing::darts` meets its contract. The loop's invariant: with what is still to be written, the text is whole.
 use Rattle.model.specs.Table.{slots}
-use Prim.Native.Nat.{_+_, _-_, _/_, _≤_}
-use mathlib.Core.Path.{_≡_, refl, sym, _∙_}
+use Prim.Native.Nat.{_-_}
+use mathlib.Core.Path.{refl}
 use native.Mathlib.Omega.{arith}
-use lib.ListN.{length}
 use Rattle.printing.proofs.Rising.{Going, going-start, going-on, gone}
 use Rattle.printing.proofs.darts.Statement.{statement}
 use Rattle.printing.proofs.darts.Tie as tie

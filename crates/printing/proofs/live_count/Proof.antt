@@ -4,8 +4,6 @@ use mathlib.Core.Path.{_≡_, refl, sym, _∙_}
 use mathlib.Core.Logic.{⊎-elim}
 use native.Mathlib.Omega.{arith}
 use lib.ListN.{length}
-use Rattle.model.specs.Lists.{tabulate}
-use Rattle.model.specs.Table.{slots}
 use Rattle.model.specs.Meaning.Sizes.{liveCount}
 use Rattle.printing.proofs.Rising.{liveFrom, live-all, live-next, live-marked, dead-unmarked, live-end}
 use Rattle.printing.proofs.live_count.Statement.{statement}

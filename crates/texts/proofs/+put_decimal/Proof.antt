@@ -1,5 +1,5 @@
 -- `texts::put_decimal` meets its contract. The measure is the number.
-use mathlib.Core.Path.{_≡_, ap, _∙_}
+use mathlib.Core.Path.{ap}
 use native.Mathlib.Omega.{arith}
 use borrow.Author.Needs.{needs}
 use lib.ListN.{length}

@@ -2,7 +2,6 @@
 use Prim.Native.Nat.{_≤_, _-_}
 use mathlib.Core.Path.{_≡_, refl, sym, ap, _∙_}
 use native.Mathlib.Omega.{arith}
-use borrow.Author.Needs.{needs}
 use lib.ListN.{length, drop, length-drop}
 use Rattle.model.specs.Text.{digits, upTo}
 use Rattle.texts.proofs.Reading.{digits-step, digits-low, digits-high, digits-above, digits-end, within, unfit}

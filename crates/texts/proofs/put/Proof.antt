@@ -3,10 +3,9 @@ use lib.Seq.{take-all}
 use native.Mathlib.Nat.{add-zero}
 use mathlib.Core.List.{append-nil}
 use Prim.Native.Nat.{_≤_, _-_, _+_}
-use mathlib.Core.Path.{_≡_, refl, sym, ap, _∙_}
+use mathlib.Core.Path.{_≡_, refl, ap, _∙_}
 use mathlib.Core.List.{_++_}
 use native.Mathlib.Omega.{arith}
-use borrow.Author.Needs.{needs}
 use lib.ListN.{length, take, length-set}
 use Rattle.texts.proofs.Writing.{copied-more}
 use Rattle.texts.proofs.put.Statement.{statement}

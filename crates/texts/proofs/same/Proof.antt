@@ -2,7 +2,6 @@
 use Prim.Native.Nat.{_≤_, _-_}
 use mathlib.Core.Path.{_≡_, refl, sym, _∙_}
 use native.Mathlib.Omega.{arith}
-use borrow.Author.Needs.{needs}
 use lib.ListN.{length, drop, length-drop}
 use Rattle.model.specs.Meaning.Worked.{equal}
 use Rattle.texts.proofs.Comparing.{equal-lengths, equal-step, equal-stop, equal-end}

@@ -1,8 +1,7 @@
 -- `answers::opening_side` meets its contract: `opening`, and above it the checks 6 and 7.
-use mathlib.Core.Path.{refl, sym}
 use mathlib.Core.List.{List}
 use borrow.Author.Needs.{needs}
-use Rattle.model.specs.Checks.{Check, inOrder}
+use Rattle.model.specs.Checks.{Check}
 use Rattle.answers.specs.Openings.{openingChecks, sideChecks}
 use Rattle.answers.proofs.Ladder.{Rung, rise, up, out, all-passed}
 use Rattle.answers.proofs.Verdicts.{passes, refuses, index-passes, index-refuses, dart-test}

@@ -1,6 +1,6 @@
 -- `edits::next_cut` meets its contract.
 use Prim.Native.Nat.{_*_, _-_}
-use mathlib.Core.Path.{_≡_, sym, _∙_}
+use mathlib.Core.Path.{sym, _∙_}
 use native.Mathlib.Omega.{arith}
 use borrow.Author.Needs.{needs}
 use Rattle.model.proofs.Lists.Scan.{or-false}

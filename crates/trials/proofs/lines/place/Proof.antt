@@ -1,8 +1,6 @@
 -- `trials::lines::place` is safe and ends.
 use Prim.Native.Nat.{_≤_, _-_}
-use mathlib.Core.Path.{_≡_}
 use borrow.Author.Needs.{needs}
-use lib.ListN.{length}
 use Rattle.trials.proofs.lines.place.Statement.{statement}
 use Rattle.trials.proofs.lines.place.Tie as tie
 
