@@ -1,14 +1,16 @@
--- What makes the lent lists fit an edit: `fit-add` from the unused slots listed, `fit-sew` from the pairing found, `fit-unsew`
--- from the marks of the side.
-use Prim.Native.Nat.{ℕ, _<_}
-use mathlib.Core.Path.{_≡_}
+-- What makes the lent lists fit an edit: `fit-add` from the unused slots listed, `fit-split` from these and the darts of S, `fit-sew`
+-- from the pairing found, `fit-unsew` from the marks of the side.
+use Prim.Native.Nat.{ℕ, _*_, _<_}
+use mathlib.Core.Path.{_≡_, sym, ap, _∙_}
 use mathlib.Core.Bool.{Bool, true, false}
 use mathlib.Core.List.{List}
 use native.Mathlib.Omega.{arith}
-use lib.ListN.{length, getD}
+use lib.ListN.{length, getD, take}
+use lib.Seq.{getD-take}
 use borrow.Author.Tests.{eq-eqb, ne-eqb}
 use Rattle.model.specs.Checks.{pass, dimOk}
-use Rattle.model.specs.Table.{unused, slots, link, live}
+use Rattle.model.specs.Lists.{ones}
+use Rattle.model.specs.Table.{unused, slots, link, live, unusedSlots}
 use Rattle.model.specs.Cell.{cellSize}
 use Rattle.model.specs.Reach.{inSet}
 use Rattle.model.specs.Sew.{side, sewnLink, unsews, unsewnLink}
@@ -16,15 +18,36 @@ use Rattle.model.specs.Meaning.Pairings.{OnSide}
 use Rattle.model.proofs.Lists.Scan.{clash}
 use Rattle.model.proofs.Maps.Rules.{dead-link}
 use Rattle.model.proofs.Maps.Tables.{rule-at}
+use Rattle.model.proofs.Operations.Slots.{Rising, rising-at, ones-rising, lowest-slots}
 use Rattle.model.proofs.Sewing.Side.{side-least, side-live, live-before}
 use Rattle.model.proofs.Sewing.Walked.{partners-none}
 use Rattle.sides.specs.Given.{Linked}
 use Rattle.sides.specs.Paired.{Paired}
-use Rattle.layers.specs.Ranks.{Lists}
-use Rattle.edits.specs.Edits.{FitAdd, FitSew, FitUnsew}
+use Rattle.layers.specs.Ranks.{Lists, Halving}
+use Rattle.edits.specs.Edits.{FitAdd, FitSplit, FitSew, FitUnsew}
+use Rattle.edits.specs.Skips.{Rises}
 
 pub fit-add : (n : ℕ) {r : ℕ} {l a₀ a c₀ c : List ℕ} → dimOk n ≡ pass → Lists l r a₀ a c₀ c → r ≡ cellSize n → FitAdd n a c r
 fit-add n dim listed all = record { dim = dim; whole = all; ranked = listed .ranked }
+
+-- ---- split: both lists rise
+
+lists-rise : {l words₀ words rank₀ rank : List ℕ} {r : ℕ} → Lists l r words₀ words rank₀ rank → Rising l → Rises r words
+lists-rise {l} {words = words} {r = r} lists rising = record {
+  up = λ k m low high.
+      let size = lists .size in
+      let at = ap (λ (w : List ℕ). getD w k 0) (sym (lists .front)) ∙ getD-take r words k 0 (omega arith) in
+      let next = ap (λ (w : List ℕ). getD w m 0) (sym (lists .front)) ∙ getD-take r words m 0 high in
+      rw (at, next) at (rising-at rising k m 0 low (omega arith));
+}
+
+pub fit-split : (n size : ℕ) (t s : List ℕ) {r : ℕ} {a₀ a b₀ b c₀ c₁ c : List ℕ} → Halving n size a b c
+    → Lists (ones s) size a₀ a c₀ c₁ → Lists (take (n * size) (unusedSlots t)) r b₀ b c₁ c → r ≡ n * size → FitSplit n a b c size
+fit-split n size t s halving darts fresh room = record {
+  lists = halving;
+  old = lists-rise darts (ones-rising s 0);
+  new = rw room at (lists-rise fresh (lowest-slots t (n * size) .rising));
+}
 
 -- ---- sew and unsew: an unused slot is in no side
 

@@ -6,5 +6,4 @@ pub mod Untouched
 pub mod Pass
 pub mod Carrying
 pub mod Tables
-pub mod Rising
 pub mod Fitting

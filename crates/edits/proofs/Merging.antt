@@ -11,19 +11,19 @@ use borrow.Author.Tests.{le-ltb}
 use Rattle.model.specs.Lists.{indexOf}
 use Rattle.model.proofs.Lists.Scan.{if-eq, if-lt}
 use Rattle.model.proofs.Lists.Ones.{index-in, getD-index, index-out, in-or}
-use Rattle.edits.specs.Skips.{Unlisted, Rising, From, Parted}
+use Rattle.edits.specs.Skips.{Unlisted, Rises, From, Parted}
 
-module _ {size : ℕ} {words : List ℕ} (rising : Rising size words) where
+module _ {size : ℕ} {words : List ℕ} (rises : Rises size words) where
   pub from-word : (p : ℕ) → From size words p (getD words p 0)
   from-word p = record {
-    at = λ k low high. if-eq p k (λ e. rw e (omega arith)) (λ e. let next = rising .up p k (omega arith) high in omega arith);
+    at = λ k low high. if-eq p k (λ e. rw e (omega arith)) (λ e. let next = rises .up p k (omega arith) high in omega arith);
   }
 
   -- x is met, and it is the p-th word ..
   pub parted-met : {p x : ℕ} → p < size → getD words p 0 ≡ x → Parted size words p x → Parted size words (p + 1) (x + 1)
   parted-met {p} {x} low is h = record {
     before = λ k b. if-eq k p (λ e. rw e (omega arith)) (λ e. let old = h .before k (omega arith) in omega arith);
-    behind = record { at = λ k b high. let next = rising .up p k (omega arith) high in omega arith };
+    behind = record { at = λ k b high. let next = rises .up p k (omega arith) high in omega arith };
   }
 
   -- .. or it is not

@@ -15,7 +15,7 @@ use Rattle.model.specs.Split.{halvedLink}
 use Rattle.model.specs.Meaning.Walks.{Layer}
 use Rattle.layers.specs.Ranks.{Ranked, Halving}
 use Rattle.sides.specs.Given.{Linked}
-use Rattle.edits.specs.Skips.{Rising}
+use Rattle.edits.specs.Skips.{Rises}
 use Rattle.edits.specs.declared.Edit.{Edit}
 use Rattle.edits.specs.declared.Edit.the-variants.{Add, Sew, Unsew, Remove, Split}
 
@@ -64,8 +64,8 @@ pub record FitUnsew (t : List ℕ) (i : ℕ) (m : List ℕ) : Type 0 where
 -- a and b have the darts of S and the new ones, both rising, with their ranks c
 pub record FitSplit (n : ℕ) (a b c : List ℕ) (size : ℕ) : Type 0 where
   pub lists : Halving n size a b c
-  pub old : Rising size a
-  pub new : Rising (n * size) b
+  pub old : Rises size a
+  pub new : Rises (n * size) b
 
 abbrev pub Fit : Edit → ℕ → List ℕ → List ℕ → List ℕ → List ℕ → List ℕ → ℕ → Type 0
 Fit Add n t m a b c size = FitAdd n a c size

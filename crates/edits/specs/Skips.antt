@@ -20,7 +20,7 @@ Unlisted size words x = ltb (indexOf x (take size words)) size ≡ false
 -- ---- two rising lists passed together
 
 -- the first `size` words rise
-pub record Rising (size : ℕ) (words : List ℕ) : Type 0 where
+pub record Rises (size : ℕ) (words : List ℕ) : Type 0 where
   pub up : (k l : ℕ) → k < l → l < size → getD words k 0 < getD words l 0
 
 -- of the first `size` words those from the p-th on are at least x

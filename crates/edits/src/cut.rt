@@ -9,11 +9,11 @@ ghost use Rattle.journal.specs.Records.{drafted};
 ghost use Rattle.edits.specs.Edits.{editTable, FitSplit};
 ghost use Rattle.edits.specs.declared.Edit.the-variants.{Split};
 ghost use Rattle.edits.specs.Passes.{Room};
-ghost use Rattle.edits.specs.Skips.{Rising, From, Parted};
+ghost use Rattle.edits.specs.Skips.{Rises, From, Parted};
 
 // The p-th word, if it is below end, else end.
 fn word_below(words: &[u32], size: u32, p: u32, end: u32) -> u32
-    requires { ⌜ (size ≤ length (now words)) × (Rising size (now words)) ⌝ }
+    requires { ⌜ (size ≤ length (now words)) × (Rises size (now words)) ⌝ }
     ensures low { λ r. ⌜ (r ≤ end) × (From size (now (words .entry)) p r) ⌝ }
     ensures high { λ r. ⌜ ((x : ℕ) → x ≤ end → From size (now (words .entry)) p x → x ≤ r) ⌝ }
 {
@@ -26,8 +26,8 @@ fn word_below(words: &[u32], size: u32, p: u32, end: u32) -> u32
 
 // The lesser of the p-th dart and the q-th new one, if it is below end, else end.
 fn next_of_two(darts: &[u32], fresh: &[u32], size: u32, new: u32, p: u32, q: u32, end: u32) -> u32
-    requires { ⌜ (size ≤ length (now darts)) × (Rising size (now darts)) ⌝ }
-    requires { ⌜ (new ≤ length (now fresh)) × (Rising new (now fresh)) ⌝ }
+    requires { ⌜ (size ≤ length (now darts)) × (Rises size (now darts)) ⌝ }
+    requires { ⌜ (new ≤ length (now fresh)) × (Rises new (now fresh)) ⌝ }
     ensures low { λ r. ⌜ (r ≤ end) × (From size (now (darts .entry)) p r) × (From new (now (fresh .entry)) q r) ⌝ }
     ensures high { λ r. ⌜ ((x : ℕ) → x ≤ end → From size (now (darts .entry)) p x → From new (now (fresh .entry)) q x → x ≤ r) ⌝ }
 {
@@ -37,7 +37,7 @@ fn next_of_two(darts: &[u32], fresh: &[u32], size: u32, new: u32, p: u32, q: u32
 
 // How many words are behind the pass once it has met x: one more, if x is the p-th.
 fn behind(words: &[u32], size: u32, p: u32, x: u32) -> u32
-    requires { ⌜ (size ≤ length (now words)) × (Rising size (now words)) ⌝ }
+    requires { ⌜ (size ≤ length (now words)) × (Rises size (now words)) ⌝ }
     requires { ⌜ Parted size (now words) p x ⌝ }
     ensures { λ r. ⌜ Parted size (now (words .entry)) r (x + 1) ⌝ }
 {

@@ -26,7 +26,7 @@ use Rattle.edits.specs.declared.Edit.the-variants.{Split}
 use Rattle.edits.specs.Edits.{editTable, FitSplit}
 use Rattle.edits.specs.Carried.{Carried}
 use Rattle.edits.proofs.Tables.{edit-split}
-use Rattle.edits.proofs.Rising.{fit-split}
+use Rattle.edits.proofs.Fitting.{fit-split}
 use Rattle.edits.proofs.Carrying.{carried-same, carried-accepted, carried-refused}
 use Rattle.answers.specs.Answers.{outcome, refusal, accepted}
 use Rattle.cutting.proofs.Given.{Sheeted, given, marks-few}

@@ -52,22 +52,13 @@ module _ (t u : List ℕ) (long : length t ≡ length u) where
       let p = changes-append (take e t) (take e u) (drop e t) (drop e u) 0 (omega arith) in
       (_, rw (take-append-drop e t, take-append-drop e u) at p)
 
-  -- those below an entry are no more than all ..
+  -- those below an entry are no more than all
   pub below-most : (e : ℕ) → e ≤ length t → length (changesBelow e t u) ≤ length (changesFrom 0 t u)
   below-most e h =
       let (r, p) = below-rest e h in
       let l = ap length p in
       let q = length-append (changesBelow e t u) r in
       omega arith
-
-  -- .. and where they are as many, they are all
-  pub below-full : (e : ℕ) → e ≤ length t → length (changesFrom 0 t u) ≤ length (changesBelow e t u)
-      → changesBelow e t u ≡ changesFrom 0 t u
-  below-full e h all =
-      let (r, p) = below-rest e h in
-      let l = ap length p in
-      let q = length-append (changesBelow e t u) r in
-      sym (p ∙ ap (λ (cs : List Change). changesBelow e t u ++ cs) (no-changes r (omega arith)) ∙ append-nil _)
 
   module _ (e : ℕ) (inside : e < length t) (d : ℕ) where
     abbrev x : ℕ

@@ -1,16 +1,14 @@
 -- The pass that writes a record: it begins with `scan-none`, goes over an entry by `scan-same` or, with a call of `write_change`,
--- by `scan-more`, passes over alike entries by `scan-alike`, and has the whole draft by `scan-all` at the end, by `scan-full`
--- before it.
+-- by `scan-more`, passes over alike entries by `scan-alike`, and has the whole draft by `scan-all` at the end.
 use Prim.Native.Nat.{ℕ, suc, _+_, _*_, _≤_, _<_}
-use mathlib.Core.Path.{_≡_, sym, ap, subst, _∙_}
+use mathlib.Core.Path.{_≡_, sym, ap, _∙_}
 use mathlib.Core.List.{List, [], _∷_, _++_}
 use native.Mathlib.Numerals.{add-one}
 use native.Mathlib.Omega.{arith}
 use lib.ListN.{length, getD}
 use Rattle.model.specs.Journal.{Change, cursor, changesFrom}
-use Rattle.model.proofs.Lists.Scan.{if-lt}
 use Rattle.journal.specs.Records.{drafted, changesBelow, Scanned}
-use Rattle.journal.proofs.Changes.{no-changes, below-all, below-most, below-full, below-same, below-other}
+use Rattle.journal.proofs.Changes.{no-changes, below-all, below-most, below-same, below-other}
 use Rattle.journal.proofs.Changes.{below-count, below-alike}
 use Rattle.journal.proofs.Drafts.{draft-none, draft-keeps}
 
@@ -24,17 +22,6 @@ module _ (t u j : List ℕ) (long : length t ≡ length u) where
   scan-all s =
       let a = below-all t u long in
       (s .draft ∙ ap (drafted j) a, s .count ∙ ap length a)
-
-  -- a pass that has met fewer changes than there are is not at the end; one that has met all has the whole draft
-  module _ {e k : ℕ} {w : List ℕ} (h : e ≤ length t) (s : Scanned t u j e k w) where
-    pub scan-open : k < length (changesFrom 0 t u) → e < length t
-    scan-open fewer = if-lt e (length t) (λ l. l) (λ l.
-        let end : e ≡ length t = omega arith in
-        let all = scan-all (subst (λ (a : ℕ). Scanned t u j a k w) end s) .1 in
-        absurd (omega arith))
-
-    pub scan-full : length (changesFrom 0 t u) ≤ k → w ≡ drafted j (changesFrom 0 t u)
-    scan-full all = let c = s .count in s .draft ∙ ap (drafted j) (below-full t u long e h (omega arith))
 
   -- over entries that are alike in both tables
   pub scan-alike : (e n d : ℕ) → e + n ≤ length t → ((i : ℕ) → i < n → getD t (e + i) d ≡ getD u (e + i) d)
