@@ -3,6 +3,8 @@ pub mod Marks
 pub mod Counts
 pub mod Share
 pub mod Walk
+pub mod Near
+pub mod Mirror
 pub mod Remove
 pub mod RemoveCounts
 pub mod Cut
@@ -10,6 +12,7 @@ pub mod Role
 pub mod Split
 pub mod Half
 pub mod Spot
+pub mod HalvedSides
 pub mod Halves
 pub mod CutCells
 pub mod Halved

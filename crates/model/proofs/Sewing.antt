@@ -5,4 +5,5 @@ pub mod Pairing
 pub mod Sew
 pub mod Unsew
 pub mod Inverse
+pub mod Straight
 pub mod Counts

@@ -3,7 +3,8 @@ use Rattle.model.specs.Lists.{tabulateFrom, tabulate, count, onesFrom, i
 use Rattle.model.specs.Table.{slots, link, live, walk, unusedSlots, retable, relinkAt, relink}
 use Rattle.model.specs.Map.{returns, linked, crossed, keepsRules, breaksRule, leastBreaking, isMap}
 use Rattle.model.specs.Reach.{flood, steps, closure, linksFrom, links, inSet}
-use Rattle.model.specs.Cell.{cellWords, cellOf, cellSize, turns, allTurn, goodCell, inWrongCell, leastWrong, isBlock}
+use Rattle.model.specs.Cell.{cellWords, cellOf, cellSize, turns, folded, goodDart, allGood, goodCell, inWrongCell}
+use Rattle.model.specs.Cell.{leastWrong, isBlock}
 use Rattle.model.specs.Journal.{cursor, end, changesFrom, triples, recordOf, written, readChanges, changesAt, putNew}
 use Rattle.model.specs.Journal.{putOld, put, sound, unbroken}
 use Rattle.model.specs.Orbit.{bit, orbitWords, orbit, orbitPlace}
@@ -38,7 +39,7 @@ unfolding flood steps closure linksFrom links inSet
 openReach = tt
 
 unfoldable pub openCell : Unit {0}
-unfolding cellWords cellOf cellSize turns allTurn goodCell inWrongCell leastWrong isBlock
+unfolding cellWords cellOf cellSize turns folded goodDart allGood goodCell inWrongCell leastWrong isBlock
 openCell = tt
 
 unfoldable pub openJournal : Unit {0}

@@ -1,4 +1,4 @@
--- The small maps that document 01 has worked, 1 to 14: each fact of them, as one table with one statement.
+-- The small maps that document 01 has worked, 1 to 14, and those of 02's requests: each fact of them, as one table with one statement.
 -- The lengths of case 14, too long to compute with, follow from the check.
 use Prim.Native.Nat.{ℕ}
 use mathlib.Core.Path.{_≡_, refl}
@@ -9,7 +9,7 @@ use Rattle.model.specs.Runs.{Call, doCall, keeping}
 use Rattle.model.specs.Everything.{everything}
 use Rattle.model.specs.Meaning.Sizes.{liveCount}
 use Rattle.model.specs.Meaning.Worked.{Case, Seen, gives, goes, marksAre, markedAre, cursorIs, endIs, frees, changes, liveAre}
-use Rattle.model.specs.Meaning.Worked.{begin, doAll, equal, sees, seesAll, holdsFrom, holds, failing}
+use Rattle.model.specs.Meaning.Worked.{begin, beginOn, doAll, equal, sees, seesAll, holdsFrom, holds, failing}
 
 -- Q: one add
 quad : List Call
@@ -31,9 +31,24 @@ bent = Call.add ∷ Call.sew 2 5 2 ∷ []
 unlinked : List Call
 unlinked = Call.add ∷ Call.unsew 0 0 ∷ []
 
+-- a quad whose edge of 5 and 7 is sewn onto itself
+folding : List ℕ
+folding =
+    1 ∷ 4 ∷ 0 ∷ 0 ∷ 0 ∷ 5 ∷ 1 ∷ 1 ∷ 3 ∷ 6 ∷ 2 ∷ 2 ∷ 2 ∷ 7 ∷ 3 ∷ 3
+    ∷ 6 ∷ 0 ∷ 4 ∷ 4 ∷ 7 ∷ 1 ∷ 7 ∷ 5 ∷ 4 ∷ 2 ∷ 6 ∷ 6 ∷ 5 ∷ 3 ∷ 5 ∷ 7 ∷ []
+
+-- a hexahedron whose face of 0 is folded along its diagonal: its link 1 is undone at two corners, and sewn again when the
+-- halves of the face are sewn to each other
+foldedFace : List Call
+foldedFace = Call.add ∷ Call.unsew 1 0 ∷ Call.unsew 1 19 ∷ Call.sew 3 0 3 ∷ Call.sew 1 0 16 ∷ []
+
 -- label, dimension, slots, words of the journal, the calls before, the call, what is seen
 row : ℕ → ℕ → ℕ → ℕ → List Call → Call → List Seen → Case
-row l n s w before c ss = record { label = l; dim = n; slots = s; words = w; before = before; call = c; seen = ss }
+row l n s w before c ss = record { label = l; dim = n; start = begin s w; before = before; call = c; seen = ss }
+
+-- the same of a table that is given, with no calls before
+on : ℕ → ℕ → List ℕ → ℕ → Call → List Seen → Case
+on l n t w c ss = record { label = l; dim = n; start = beginOn t w; before = []; call = c; seen = ss }
 
 pub cases : List Case
 cases =
@@ -63,10 +78,15 @@ cases =
     ∷ row 1401 2 8 2 [] Call.undo (gives 16 0 0 ∷ [])
     ∷ row 1402 2 24 600 three (Call.orbit 6 5) (gives 0 1 4 ∷ [])
     ∷ row 1403 2 0 2 [] Call.check (gives 0 0 2 ∷ [])
+    ∷ row 10401 2 8 200 bent Call.check (gives 0 0 2 ∷ [])
+    ∷ on 10402 2 folding 200 Call.check (gives 0 0 1 ∷ [])
+    ∷ on 10403 2 folding 200 (Call.sheet 5) (gives 8 0 0 ∷ marksAre (replicate 8 0) ∷ [])
+    ∷ row 10404 3 48 2000 foldedFace Call.check (gives 0 0 1 ∷ goes 0 3 3 ∷ [])
+    ∷ row 10405 3 48 2000 foldedFace (Call.sheet 47) (gives 8 0 0 ∷ [])
     ∷ []
 
 pub all-hold : failing cases ≡ []
-unfolding everything liveCount cases row quad three halves bent unlinked failing holds holdsFrom seesAll sees begin doAll doCall keeping equal
+unfolding everything liveCount cases row on quad three halves bent unlinked folding foldedFace failing holds holdsFrom seesAll sees begin beginOn doAll doCall keeping equal
 all-hold = refl
 
 -- 14: "262,144 entries pass check 2, 262,148 don't"

@@ -4,24 +4,27 @@ use mathlib.Core.Path.{_≡_, sym, ap, _∙_, subst}
 use mathlib.Core.Bool.{true, false}
 use mathlib.Core.List.{List, []}
 use Rattle.model.specs.Lists.{ones}
-use Rattle.model.specs.Table.{relink}
+use Rattle.model.specs.Table.{live}
 use Rattle.model.specs.Map.{isMap}
 use Rattle.model.specs.Cell.{cellSize, isBlock}
 use Rattle.model.specs.Sheet.{sheet}
 use Rattle.model.specs.Add.{addSlots, addTable}
-use Rattle.model.specs.Sew.{isPaired, sewTable}
+use Rattle.model.specs.Sew.{isPaired, sewTable, unsewTable}
 use Rattle.model.specs.Split.{splitTable}
 use Rattle.model.specs.Checks.{stepChecks, undoOk, redoOk}
 use Rattle.model.specs.Calls.{Outcome, addCall, sewCall, unsewCall, removeCall, splitCall, undoCall, redoCall}
 use Rattle.model.specs.Runs.{Call, doCall, keeping, Op, callOf, effect}
 use Rattle.model.specs.Meaning.Ends.{lent, checksOf, doneOf}
-use Rattle.model.specs.Meaning.Maps.{MapTable, BlockTable, Keeps, KeepsAt, BlockMap}
+use Rattle.model.specs.Meaning.Maps.{MapTable, Straight, BlockTable, Keeps, KeepsAt, BlockMap}
+use Rattle.model.specs.Meaning.Pairings.{OnSide, Sewable}
 use Rattle.model.proofs.Lists.Ones.{vacant-frees}
-use Rattle.model.proofs.Maps.Rules.{Relinking, relink-table, of-map}
-use Rattle.model.proofs.Cells.Chart.{block-of, of-block, relink-block}
+use Rattle.model.proofs.Maps.Rules.{of-map}
+use Rattle.model.proofs.Cells.Chart.{block-of, of-block, block-straight, relink-block}
 use Rattle.model.proofs.Cells.Add.{add-map, add-block}
+use Rattle.model.proofs.Operations.Relink.{Relinked, relinked-table}
 use Rattle.model.proofs.Sewing.Sew.{sew-relinked}
 use Rattle.model.proofs.Sewing.Unsew.{unsew-relinked}
+use Rattle.model.proofs.Sewing.Straight.{sew-straight, unsew-straight}
 use Rattle.model.proofs.Layers.Remove.{remove-block}
 use Rattle.model.proofs.Layers.Cut.{split-cuts}
 use Rattle.model.proofs.Layers.Halves.{split-block}
@@ -47,12 +50,20 @@ module _ (n : ℕ) (t j : List ℕ) where
 
 -- ---- unsew, sew
 
-keeps-at : {n : ℕ} {t : List ℕ} {i : ℕ} {g : ℕ → ℕ} → MapTable n t → i ≤ n → Relinking n t i g → KeepsAt i n t (relink t i g)
-keeps-at {n} {t} {i} {g} T low c = (
-  of-map n _ (relink-table T low c .map),
-  λ e h. subst (λ (k : ℕ). Relinking n t k g → isBlock n (relink t k g) ≡ true) (sym e)
-      (λ (c : Relinking n t n g). of-block n _ (relink-block (block-of n t T h) c)) c,
+-- the links i are made anew; no side is folded by it, where i is n
+keeps-at : {n : ℕ} {t u : List ℕ} {i : ℕ} → MapTable n t → i ≤ n → Relinked n t i u
+    → (i ≡ n → (x : ℕ) → live t x ≡ true → Straight n t x → Straight n u x)
+    → KeepsAt i n t u
+keeps-at {n} {t} {u} {i} T low made straight = (
+  of-map n u (relinked-table T low made .map),
+  λ e h.
+      let B = block-of n t T h in
+      of-block n u (relinked-block B (subst (λ (k : ℕ). Relinked n t k u) e made) (λ x l. straight e x l (block-straight B x l))),
 )
+  where
+    relinked-block : BlockTable n t → Relinked n t n u → ((x : ℕ) → live t x ≡ true → Straight n u x) → BlockTable n u
+    relinked-block B made straight = subst (BlockTable n) (sym (made .is))
+        (relink-block B (made .change) (λ x l. subst (λ (v : List ℕ). Straight n v x) (made .is) (straight x l)))
 
 module _ (n : ℕ) (t j : List ℕ) (i d : ℕ) where
   pub unsew-call : unsewCall n t j i d .number ≡ 0 → KeepsAt i n t (unsewCall n t j i d .table)
@@ -60,14 +71,18 @@ module _ (n : ℕ) (t j : List ℕ) (i d : ℕ) where
   unsew-call h =
       let r = op-effect n (lent t [] j) (Op.unsew i d) h in
       let passed = unsew-passed n t j i d (r .0) in
-      let made = unsew-relinked (unsew-side passed) in
-      rw (r .1, made .is) (keeps-at (passed .table) (passed .index) (made .change))
+      let on = unsew-side passed in
+      rw (r .1) (keeps-at (passed .table) (passed .index) (unsew-relinked on) (λ e.
+      subst (λ (k : ℕ). OnSide n t k d → (x : ℕ) → live t x ≡ true → Straight n t x → Straight n (unsewTable n t k d) x) (sym e)
+      unsew-straight on))
 
 module _ (n : ℕ) (t j : List ℕ) (i d e : ℕ) where
   sew-keeps : SidesPassed n t i d e → isPaired n t i d e ≡ true → KeepsAt i n t (sewTable n t i d e)
   sew-keeps passed h =
-      let made = sew-relinked (sides-sewable passed h) in
-      rw (made .is) (keeps-at (passed .table) (passed .index) (made .change))
+      let able = sides-sewable passed h in
+      keeps-at (passed .table) (passed .index) (sew-relinked able) (λ q.
+      subst (λ (k : ℕ). Sewable n t k d e → (x : ℕ) → live t x ≡ true → Straight n t x → Straight n (sewTable n t k d e) x) (sym q)
+      sew-straight able)
 
   pub sew-call : sewCall n t j i d e .number ≡ 0 → KeepsAt i n t (sewCall n t j i d e .table)
   unfolding doCall callOf keeping effect

@@ -5,6 +5,7 @@ use mathlib.Core.Path.{_≡_, refl, sym, ap, _∙_}
 use mathlib.Core.Logic.{_⊎_, inl, inr, ⊎-elim}
 use mathlib.Core.Bool.{true, false}
 use mathlib.Core.List.{List, List·Memᴰ as In}
+use native.Mathlib.Nat.{le-refl}
 use native.Mathlib.Omega.{arith}
 use lib.ListN.{length, getD}
 use borrow.Author.Tests.{lt-ltb, le-ltb}
@@ -13,16 +14,18 @@ use Rattle.model.specs.Table.{unused, slots, link, live}
 use Rattle.model.specs.Cell.{cellSize}
 use Rattle.model.specs.Add.{addedLink, added}
 use Rattle.model.specs.Numbering.{cellLink}
-use Rattle.model.specs.Meaning.Maps.{Map, MapTable, BlockTable}
+use Rattle.model.specs.Meaning.Maps.{Map, MapTable, Straight, BlockTable}
+use Rattle.model.specs.Meaning.Pairings.{OnSide}
 use Rattle.model.specs.Meaning.Places.{place, Chart}
 use Rattle.model.proofs.Lists.Scan.{test, clash}
 use Rattle.model.proofs.Lists.Ones.{Vacant, getD-in, index-getD, index-out, index-in, getD-index, in-or}
 use Rattle.model.proofs.Maps.Dim.{size-some}
 use Rattle.model.proofs.Maps.Rules.{link-retable, slots-retable, length-retable}
 use Rattle.model.proofs.Maps.Tables.{mapTable, live-below, rule-at}
-use Rattle.model.proofs.Cells.Rows.{row-goes, row-comes, row-cross, row-plane}
+use Rattle.model.proofs.Sewing.Side.{side-live, straight-kept}
+use Rattle.model.proofs.Cells.Rows.{row-goes, row-comes, row-cross, row-plane, free-rows}
 use Rattle.model.proofs.Cells.Chart.{Ruled, ruled-table, of-live, live-of, live-same}
-use Rattle.model.proofs.Cells.Chart.{Charted, block-by, place-chart, place-zero, place-live, chart-kept}
+use Rattle.model.proofs.Cells.Chart.{Charted, block-by, block-straight, place-chart, place-zero, place-live, chart-kept}
 
 module _ {n : ℕ} {t fs : List ℕ} (T : MapTable n t) (fresh : Vacant t fs) (enough : length fs ≡ cellSize n) where
   -- the table after the call, and the k-th dart of the new cell
@@ -151,7 +154,7 @@ module _ {n : ℕ} {t fs : List ℕ} (T : MapTable n t) (fresh : Vacant t fs) (e
 
 -- and a block map
 pub add-block : {n : ℕ} {t fs : List ℕ} → BlockTable n t → Vacant t fs → length fs ≡ cellSize n → BlockTable n (added n t fs)
-add-block {n} {t} {fs} B fresh enough = block-by table (λ x l. charted x (of-live n u New ruled x (live-below table x l) l))
+add-block {n} {t} {fs} B fresh enough = block-by table (λ x l. charted x (new-live x l)) (λ x l. straight x (new-live x l))
   where
     u : List ℕ
     u = added n t fs
@@ -168,8 +171,23 @@ add-block {n} {t} {fs} B fresh enough = block-by table (λ x l. charted x (of-li
     ruled : Ruled n u New
     ruled = add-ruled T fresh enough
 
+    new-live : (x : ℕ) → live u x ≡ true → New x
+    new-live x l = of-live n u New ruled x (live-below table x l) l
+
     some : 0 < cellSize n
     some = size-some n (B .dim)
+
+    -- an old side stays, and a new one is free
+    straight : (x : ℕ) → New x → Straight n u x
+    straight x (was l) =
+        let top = B .dim .1 in
+        let on : OnSide n t n x = record { table = T; index = le-refl n; lives = l } in
+        straight-kept on u (λ y j near m. stays T fresh enough j y (omega arith) (side-live on y m))
+        (stays T fresh enough n x (omega arith) l) (block-straight B x l)
+    straight x (is k h e) = λ _.
+        let top = B .dim .1 in
+        ap (link u n) e ∙ add-new T fresh enough n k (omega arith) h
+        ∙ ap (λ (k : ℕ). getD fs k unused) (free-rows n (B .dim) n k (le-refl n)) ∙ sym e
 
     charted : (x : ℕ) → New x → Charted n u x
     charted x (was l) = record {

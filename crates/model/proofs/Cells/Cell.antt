@@ -3,20 +3,21 @@
 use Prim.Native.Nat.{ℕ, zero, suc, _+_, _<_}
 use mathlib.Core.Path.{_≡_, refl, sym, ap, _∙_, subst}
 use mathlib.Core.Logic.{_↔_, _≢_}
-use mathlib.Core.Bool.{Bool, true, false, _&&_}
+use mathlib.Core.Bool.{Bool, true, false, not, _&&_}
 use mathlib.Core.List.{List, [], _∷_}
 use native.Mathlib.Nat.{add-zero}
 use native.Mathlib.Omega.{arith}
 use lib.Dec.{eqb}
-use borrow.Author.Tests.{eqb-true, eq-eqb, ne-eqb}
+use borrow.Author.Tests.{eqb-true, eq-eqb, ne-eqb, not-true}
 use Rattle.model.specs.Lists.{count, allBelow}
 use Rattle.model.specs.Table.{link, walk, live}
 use Rattle.model.specs.Map.{returns}
-use Rattle.model.specs.Cell.{cellSize, cellOf, turns, allTurn, goodCell}
+use Rattle.model.specs.Reach.{inSet}
+use Rattle.model.specs.Cell.{cellSize, cellOf, turns, folded, goodDart, allGood, goodCell}
 use Rattle.model.specs.Numbering.{cellLink}
 use Rattle.model.specs.Everything.{everything}
 use Rattle.model.specs.Meaning.Sets.{Marked, ByLink}
-use Rattle.model.specs.Meaning.Maps.{Dim, MapTable, GoodCell, squareWord, cornerWord}
+use Rattle.model.specs.Meaning.Maps.{Dim, MapTable, Straight, GoodCell, squareWord, cornerWord}
 use Rattle.model.specs.Meaning.Places.{path, place, AtPlace, Follows, Chart}
 use Rattle.model.proofs.Lists.Scan.{test, if-eq, clash, and-l, and-r, and-i, below-at, below-three}
 use Rattle.model.proofs.Sets.Least.{least-set-unique, cell-is}
@@ -49,63 +50,79 @@ module _ (n : ℕ) (t : List ℕ) where
       from (square, corner) = and-i (eq-eqb _ _ square)
           (test (eqb n 3) (λ e. rw (e, cornerTurns) (eq-eqb _ _ (corner (eqb-true n 3 e)))) (λ e. rw (e, cornerTurns)))
 
-  first-turns : (a y : ℕ) (ys : List ℕ)
-      → (allTurn n t a (y ∷ ys) ≡ true) ↔ ((y ≡ 1 → turns n t a ≡ true) × (allTurn n t (suc a) ys ≡ true))
-  unfolding allTurn
-  first-turns a y ys = (λ h. if-eq y 1 (one h) (other h), from)
+  straight-exactly : (x : ℕ) → (folded n t x ≡ false) ↔ Straight n t x
+  unfolding folded inSet
+  straight-exactly x = (
+    λ h m. if-eq (link t n x) x (λ e. e) (λ e. absurd (clash (rw (ne-eqb (link t n x) x e, folded) (eq-eqb _ _ m)) h)),
+    λ straight. if-eq (link t n x) x (λ e. rw (eq-eqb (link t n x) x e, folded)) (λ e.
+        rw (ne-eqb (link t n x) x e, folded) (ne-eqb _ 1 (λ m. e (straight m)))),
+  )
+
+  good-dart : (x : ℕ) → (goodDart n t x ≡ true) ↔ (Turned x × Straight n t x)
+  unfolding goodDart
+  good-dart x = (
+    λ h. (turns-exactly x .0 (and-l (turns n t x) _ h), straight-exactly x .0 (not-true _ (and-r (turns n t x) _ h))),
+    λ (turned, straight). and-i (turns-exactly x .1 turned) (ap not (straight-exactly x .1 straight)),
+  )
+
+  first-good : (a y : ℕ) (ys : List ℕ)
+      → (allGood n t a (y ∷ ys) ≡ true) ↔ ((y ≡ 1 → goodDart n t a ≡ true) × (allGood n t (suc a) ys ≡ true))
+  unfolding allGood
+  first-good a y ys = (λ h. if-eq y 1 (one h) (other h), from)
     where
-      one : allTurn n t a (y ∷ ys) ≡ true → y ≡ 1 → (y ≡ 1 → turns n t a ≡ true) × (allTurn n t (suc a) ys ≡ true)
+      one : allGood n t a (y ∷ ys) ≡ true → y ≡ 1 → (y ≡ 1 → goodDart n t a ≡ true) × (allGood n t (suc a) ys ≡ true)
       one h e =
           let i = eq-eqb y 1 e in
-          test (turns n t a) (λ q. (λ _. q, rw (i, q, allTurn) at h)) (λ q. absurd (clash h (rw (i, q, allTurn))))
+          test (goodDart n t a) (λ q. (λ _. q, rw (i, q, allGood) at h)) (λ q. absurd (clash h (rw (i, q, allGood))))
 
-      other : allTurn n t a (y ∷ ys) ≡ true → y ≢ 1 → (y ≡ 1 → turns n t a ≡ true) × (allTurn n t (suc a) ys ≡ true)
-      other h e = (λ q. absurd (e q), rw (ne-eqb y 1 e, allTurn) at h)
+      other : allGood n t a (y ∷ ys) ≡ true → y ≢ 1 → (y ≡ 1 → goodDart n t a ≡ true) × (allGood n t (suc a) ys ≡ true)
+      other h e = (λ q. absurd (e q), rw (ne-eqb y 1 e, allGood) at h)
 
-      from : (y ≡ 1 → turns n t a ≡ true) × (allTurn n t (suc a) ys ≡ true) → allTurn n t a (y ∷ ys) ≡ true
-      from (now, later) = if-eq y 1 (λ e. rw (eq-eqb y 1 e, now e, allTurn) later) (λ e. rw (ne-eqb y 1 e, allTurn) later)
+      from : (y ≡ 1 → goodDart n t a ≡ true) × (allGood n t (suc a) ys ≡ true) → allGood n t a (y ∷ ys) ≡ true
+      from (now, later) = if-eq y 1 (λ e. rw (eq-eqb y 1 e, now e, allGood) later) (λ e. rw (ne-eqb y 1 e, allGood) later)
 
-  -- each marked dart turns; the marks are those of the slots from a on
-  abbrev AllTurn : ℕ → List ℕ → Type 0
-  AllTurn a xs = (x : ℕ) → Marked xs x → turns n t (a + x) ≡ true
+  -- each marked dart is good; the marks are those of the slots from a on
+  abbrev AllGood : ℕ → List ℕ → Type 0
+  AllGood a xs = (x : ℕ) → Marked xs x → goodDart n t (a + x) ≡ true
 
-  all-turn-exactly : (a : ℕ) (xs : List ℕ) → (allTurn n t a xs ≡ true) ↔ AllTurn a xs
-  unfolding allTurn
-  all-turn-exactly a [] = (λ h x m. absurd (omega arith), λ h. refl)
-  all-turn-exactly a (y ∷ ys) =
-      let rec = all-turn-exactly (suc a) ys in
-      let split = first-turns a y ys in
+  all-good-exactly : (a : ℕ) (xs : List ℕ) → (allGood n t a xs ≡ true) ↔ AllGood a xs
+  unfolding allGood
+  all-good-exactly a [] = (λ h x m. absurd (omega arith), λ h. refl)
+  all-good-exactly a (y ∷ ys) =
+      let rec = all-good-exactly (suc a) ys in
+      let split = first-good a y ys in
       (λ h. to (split .0 h .0) (rec .0 (split .0 h .1)), λ f. split .1 (now f, rec .1 (later f)))
     where
-      to : (y ≡ 1 → turns n t a ≡ true) → AllTurn (suc a) ys → AllTurn a (y ∷ ys)
-      to first rest zero m = ap (turns n t) (add-zero a) ∙ first m
-      to first rest (suc x) m = ap (turns n t) (omega arith) ∙ rest x m
+      to : (y ≡ 1 → goodDart n t a ≡ true) → AllGood (suc a) ys → AllGood a (y ∷ ys)
+      to first rest zero m = ap (goodDart n t) (add-zero a) ∙ first m
+      to first rest (suc x) m = ap (goodDart n t) (omega arith) ∙ rest x m
 
-      now : AllTurn a (y ∷ ys) → y ≡ 1 → turns n t a ≡ true
-      now f e = ap (turns n t) (sym (add-zero a)) ∙ f 0 e
+      now : AllGood a (y ∷ ys) → y ≡ 1 → goodDart n t a ≡ true
+      now f e = ap (goodDart n t) (sym (add-zero a)) ∙ f 0 e
 
-      later : AllTurn a (y ∷ ys) → AllTurn (suc a) ys
-      later f x m = ap (turns n t) (omega arith) ∙ f (suc x) m
+      later : AllGood a (y ∷ ys) → AllGood (suc a) ys
+      later f x m = ap (goodDart n t) (omega arith) ∙ f (suc x) m
 
   pub good-cell : (c : List ℕ) → (goodCell n t c ≡ true) ↔ GoodCell n t c
   unfolding goodCell
   good-cell c = (to, from)
     where
-      turned : allTurn n t 0 c ≡ true → (x : ℕ) → Marked c x → Turned x
-      turned h x m = turns-exactly x .0 (ap (turns n t) (omega arith) ∙ all-turn-exactly 0 c .0 h x m)
+      each : allGood n t 0 c ≡ true → (x : ℕ) → Marked c x → Turned x × Straight n t x
+      each h x m = good-dart x .0 (ap (goodDart n t) (omega arith) ∙ all-good-exactly 0 c .0 h x m)
 
       to : goodCell n t c ≡ true → GoodCell n t c
       to h =
-          let all = turned (and-r (eqb (count 1 c) (cellSize n)) (allTurn n t 0 c) h) in
+          let all = each (and-r (eqb (count 1 c) (cellSize n)) (allGood n t 0 c) h) in
           record {
-            size = eqb-true _ _ (and-l (eqb (count 1 c) (cellSize n)) (allTurn n t 0 c) h);
-            square = λ x m. all x m .0;
-            corner = λ e x m. all x m .1 e;
+            size = eqb-true _ _ (and-l (eqb (count 1 c) (cellSize n)) (allGood n t 0 c) h);
+            square = λ x m. all x m .0 .0;
+            corner = λ e x m. all x m .0 .1 e;
+            straight = λ x m. all x m .1;
           }
 
       from : GoodCell n t c → goodCell n t c ≡ true
-      from g = and-i (eq-eqb _ _ (g .size)) (all-turn-exactly 0 c .1 (λ x m.
-          ap (turns n t) (omega arith) ∙ turns-exactly x .1 (g .square x m, λ e. g .corner e x m)))
+      from g = and-i (eq-eqb _ _ (g .size)) (all-good-exactly 0 c .1 (λ x m.
+          ap (goodDart n t) (omega arith) ∙ good-dart x .1 ((g .square x m, λ e. g .corner e x m), g .straight x m)))
 
 -- ---- the words of the rule, on the rows
 
@@ -223,9 +240,9 @@ module _ {n : ℕ} {t : List ℕ} (T : MapTable n t) where
     pub good-chart : goodCell n t cell ≡ true → Chart n t (place n t d)
     good-chart h = good-listed (good-cell n t cell .0 h)
 
-    -- ---- a cell with a chart is good
+    -- ---- a cell with a chart, and with no folded side, is good
 
-    module _ (ch : Chart n t (place n t d)) where
+    module _ (ch : Chart n t (place n t d)) (straight : (k : ℕ) → k < cellSize n → Straight n t (place n t d k)) where
       rows-return : (w : List ℕ) → rowsReturn n w ≡ true → (x : ℕ) → Marked cell x → walk t w x ≡ x
       unfolding rowsReturn
       rows-return w h x m =
@@ -239,6 +256,7 @@ module _ {n : ℕ} {t : List ℕ} (T : MapTable n t) where
         size = count-by cell (place n t d) (cellSize n) (all-places (ch .follow)) place-in (ch .apart);
         square = rows-return squareWord (square-returns n (T .dim));
         corner = λ e. rows-return cornerWord (subst (λ (k : ℕ). rowsReturn k cornerWord ≡ true) (sym e) corner-returns);
+        straight = λ x m. let (k, l, e) = all-places (ch .follow) x m in subst (Straight n t) (sym e) (straight k l);
       })
 
   -- ---- the darts of one cell have one cell

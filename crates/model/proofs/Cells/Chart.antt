@@ -1,8 +1,8 @@
 -- Maps by their live slots, and block maps by charts: a chart lists a cell's darts by their places.
--- Main theorems: `ruled-table`; `block-by` (each live dart is in a chart), `place-chart` (the places are one), `relink-block`;
--- `block-of` and `of-block` (the block test).
+-- Main theorems: `ruled-table`; `block-by` (each live dart is in a chart, and no side is folded), `place-chart` (the places are
+-- one), `relink-block`; `block-of` and `of-block` (the block test).
 use Prim.Native.Nat.{ℕ, _+_, _*_, _≤_, _<_}
-use mathlib.Core.Path.{_≡_, sym, ap, _∙_}
+use mathlib.Core.Path.{_≡_, sym, ap, _∙_, subst}
 use mathlib.Core.Logic.{_⊎_, ⊎-elim}
 use mathlib.Core.Bool.{true, false}
 use mathlib.Core.List.{List}
@@ -14,7 +14,7 @@ use Rattle.model.specs.Table.{slots, link, walk, live, relink}
 use Rattle.model.specs.Cell.{cellSize, cellOf, goodCell, isBlock, leastWrong, inWrongCell}
 use Rattle.model.specs.Numbering.{cellLink}
 use Rattle.model.specs.Meaning.Sets.{Marked}
-use Rattle.model.specs.Meaning.Maps.{Dim, Map, MapTable, BlockTable}
+use Rattle.model.specs.Meaning.Maps.{Dim, Map, MapTable, Straight, BlockTable}
 use Rattle.model.specs.Meaning.Places.{path, place, AtPlace, Chart}
 use Rattle.model.proofs.Lists.Scan.{if-eq, if-lt, clash}
 use Rattle.model.proofs.Maps.Dim.{size-some}
@@ -22,7 +22,7 @@ use Rattle.model.proofs.Maps.Failing.{failing, none-failing}
 use Rattle.model.proofs.Maps.Rules.{live-by, Relinking, relink-table, relink-slots, relink-live, relink-link, at-other}
 use Rattle.model.proofs.Maps.Tables.{mapTable, live-below, rule-at}
 use Rattle.model.proofs.Cells.Rows.{small, walk-keeps, walk-rows, rows-in, path-small, path-leads, path-zero}
-use Rattle.model.proofs.Cells.Cell.{cell-own, cell-same, place-in, all-places, good-chart, chart-good}
+use Rattle.model.proofs.Cells.Cell.{good-cell, cell-own, cell-live, cell-same, place-in, all-places, good-chart, chart-good}
 
 -- ---- a map by its live slots
 
@@ -63,7 +63,7 @@ live-same t u x h = rw (h 0 (omega arith), h 1 (omega arith), h 2 (omega arith),
 
 -- ---- block maps by charts
 
--- the cell of a chart is good, seen from each of its darts
+-- the cell of a chart with no folded side is good, seen from each of its darts
 module _ {n : ℕ} {u : List ℕ} (U : MapTable n u) (c : ℕ → ℕ) (ch : Chart n u c) (base : live u (c 0) ≡ true) where
   pub chart-place : (k : ℕ) → k < cellSize n → place n u (c 0) k ≡ c k
   unfolding place
@@ -79,10 +79,16 @@ module _ {n : ℕ} {u : List ℕ} (U : MapTable n u) (c : ℕ → ℕ) (ch : Cha
     apart = λ a b ab hb e. ch .apart a b ab hb (sym (chart-place a (omega arith)) ∙ e ∙ chart-place b hb);
   }
 
-  pub chart-cell : (k : ℕ) → k < cellSize n → goodCell n u (cellOf n u (c k)) ≡ true
-  chart-cell k h =
-      let here : Marked (cellOf n u (c 0)) (c k) = rw chart-place at (place-in U (c 0) base k h) in
-      ap (goodCell n u) (cell-same U (c 0) (c k) base here) ∙ chart-good U (c 0) base chart-places
+  chart-in : (k : ℕ) → k < cellSize n → Marked (cellOf n u (c 0)) (c k)
+  chart-in k h = rw chart-place at (place-in U (c 0) base k h)
+
+  chart-live : (k : ℕ) → k < cellSize n → live u (c k) ≡ true
+  chart-live k h = cell-live U (c 0) base (c k) (chart-in k h)
+
+  pub chart-cell : ((k : ℕ) → k < cellSize n → Straight n u (c k)) → (k : ℕ) → k < cellSize n → goodCell n u (cellOf n u (c k)) ≡ true
+  chart-cell straight k h =
+      ap (goodCell n u) (cell-same U (c 0) (c k) base (chart-in k h))
+      ∙ chart-good U (c 0) base chart-places (λ k h. subst (Straight n u) (sym (chart-place k h)) (straight k h))
 
 -- a dart is in a chart
 pub record Charted (n : ℕ) (u : List ℕ) (x : ℕ) : Type 0 where
@@ -93,15 +99,19 @@ pub record Charted (n : ℕ) (u : List ℕ) (x : ℕ) : Type 0 where
   pub low : k < cellSize n
   pub is : x ≡ c k
 
-pub block-by : {n : ℕ} {u : List ℕ} → MapTable n u → ((x : ℕ) → live u x ≡ true → Charted n u x) → BlockTable n u
-block-by {n} {u} U charted = record {
+pub block-by : {n : ℕ} {u : List ℕ} → MapTable n u → ((x : ℕ) → live u x ≡ true → Charted n u x)
+    → ((x : ℕ) → live u x ≡ true → Straight n u x)
+    → BlockTable n u
+block-by {n} {u} U charted straight = record {
   dim = U .dim;
   whole = U .whole;
   few = U .few;
   map = U .map;
   good = λ x l.
       let a = charted x l in
-      rw (a .is) (chart-cell U (a .c) (a .chart) (a .base) (a .k) (a .low));
+      let all : (k : ℕ) → k < cellSize n → Straight n u (a .c k)
+      = λ k h. straight (a .c k) (chart-live U (a .c) (a .chart) (a .base) k h) in
+      rw (a .is) (chart-cell U (a .c) (a .chart) (a .base) all (a .k) (a .low));
 }
 
 -- ---- the places in a block map
@@ -110,6 +120,10 @@ module _ {n : ℕ} {t : List ℕ} (B : BlockTable n t) where
   -- the places of a dart are a chart
   pub place-chart : (d : ℕ) → live t d ≡ true → Chart n t (place n t d)
   place-chart d l = good-chart (mapTable B) d l (B .good d l)
+
+  -- no side is folded
+  pub block-straight : (d : ℕ) → live t d ≡ true → Straight n t d
+  block-straight d l = good-cell n t _ .0 (B .good d l) .straight d (cell-own (mapTable B) d l)
 
   pub place-zero : (d : ℕ) → live t d ≡ true → d ≡ place n t d 0
   place-zero d l = path-zero n (B .dim) t d
@@ -149,9 +163,11 @@ module _ {n : ℕ} {t : List ℕ} (B : BlockTable n t) where
       → ((i k : ℕ) → i < n → k < cellSize n → link u i (c k) ≡ link t i (c k)) → Chart n u c
   chart-kept u c ch h = record { follow = λ i k hi hk. h i k hi hk ∙ ch .follow i k hi hk; apart = ch .apart }
 
--- a change of link n leaves the cells
-pub relink-block : {n : ℕ} {t : List ℕ} {g : ℕ → ℕ} → BlockTable n t → Relinking n t n g → BlockTable n (relink t n g)
-relink-block {n} {t} {g} B c = block-by table charted
+-- a change of link n leaves the cells, but for folded sides
+pub relink-block : {n : ℕ} {t : List ℕ} {g : ℕ → ℕ} → BlockTable n t → Relinking n t n g
+    → ((x : ℕ) → live t x ≡ true → Straight n (relink t n g) x)
+    → BlockTable n (relink t n g)
+relink-block {n} {t} {g} B c straight = block-by table charted (λ x h. straight x (live-was x h))
   where
     u : List ℕ
     u = relink t n g

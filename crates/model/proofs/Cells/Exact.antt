@@ -1,4 +1,5 @@
--- The block test says what document 01 says of a block map, and a cell is good exactly if its places follow the numbering.
+-- The block test says what 01 and 02's R-4 say of a block map, and a cell is good exactly if its places follow the numbering and
+-- no side is folded.
 -- Main theorems: `good-exactly` and `cell-places` (one cell), `block-exactly` (the test), `least-wrong` and `none-wrong` (the
 -- place of refusal 8).
 use Prim.Native.Nat.{ℕ, _<_}
@@ -60,10 +61,11 @@ module _ {n : ℕ} {t : List ℕ} (T : MapTable n t) where
             record {
               follow = ch .follow;
               other = λ k some low e. ch .apart 0 k some low (sym (path-zero n (T .dim) t d) ∙ sym e);
+              straight = λ k low. good-cell n t _ .0 h .straight _ (place-in T d live-d k low);
             }
 
         from : Listed n t d → goodCell n t (cellOf n t d) ≡ true
-        from l = chart-good T d live-d (record { follow = l .follow; apart = listed-apart l })
+        from l = chart-good T d live-d (record { follow = l .follow; apart = listed-apart l }) (l .straight)
 
     pub cell-places : goodCell n t (cellOf n t d) ≡ true → (x : ℕ) → Marked (cellOf n t d) x ↔ AtPlace n t d x
     cell-places h x = (all-places T d live-d (good-chart T d live-d h .follow) x, λ (k, low, e). rw e (place-in T d live-d k low))
@@ -83,6 +85,7 @@ module _ {n : ℕ} {t : List ℕ} (T : MapTable n t) where
         size = λ d l. good d l .size;
         square = λ d l. good d l .square d (cell-own T d l);
         corner = λ e d l. good d l .corner e d (cell-own T d l);
+        straight = λ d l. good d l .straight d (cell-own T d l);
       }
         where
           good : (d : ℕ) → live t d ≡ true → GoodCell n t (cellOf n t d)
@@ -93,6 +96,7 @@ module _ {n : ℕ} {t : List ℕ} (T : MapTable n t) where
         size = b .size d l;
         square = λ x m. b .square x (cell-live T d l x m);
         corner = λ e x m. b .corner e x (cell-live T d l x m);
+        straight = λ x m. b .straight x (cell-live T d l x m);
       })
 
   pub none-wrong : (leastWrong n t ≡ slots t) ↔ Block n t

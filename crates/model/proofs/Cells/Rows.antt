@@ -16,7 +16,7 @@ use Rattle.model.specs.Numbering.{cellLink}
 use Rattle.model.specs.Everything.{everything}
 use Rattle.model.specs.Meaning.Maps.{Dim}
 use Rattle.model.specs.Meaning.Places.{path, place, Follows}
-use Rattle.model.proofs.Lists.Scan.{test, clash, and-l, and-r, or-cases, below-at, below-both}
+use Rattle.model.proofs.Lists.Scan.{test, if-eq, clash, and-l, and-r, or-cases, below-at, below-both}
 use Rattle.model.proofs.Maps.Dim.{two-cases}
 
 -- ---- words of links below n
@@ -98,6 +98,14 @@ module _ (n k : ℕ) (dim : Dim n) (low : k < cellSize n) where
 
 pub rows-in : (n i k : ℕ) → Dim n → i < n → k < cellSize n → cellLink n i k < cellSize n
 rows-in n i k dim hi hk = let three = dim .1 in row-goes n k dim hk i (omega arith)
+
+-- the links from n on lead to the dart itself
+pub free-rows : (n : ℕ) → Dim n → (j k : ℕ) → n ≤ j → cellLink n j k ≡ k
+unfolding cellLink
+free-rows n dim j k h =
+    let last : (eqb j 2 && eqb n 3) ≡ false
+    = if-eq j 2 (λ e. rw (eq-eqb j 2 e, ne-eqb n 3 (omega arith))) (λ e. rw (ne-eqb j 2 e)) in
+    rw (ne-eqb j 0 (omega arith), ne-eqb j 1 (omega arith), last, cellLink)
 
 pub row-walk-in : (n : ℕ) (w : List ℕ) (k : ℕ) → Dim n → small n w ≡ true → k < cellSize n → rowWalk n w k < cellSize n
 unfolding rowWalk

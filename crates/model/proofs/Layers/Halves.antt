@@ -26,6 +26,7 @@ use Rattle.model.proofs.Cells.Chart.{place-chart, place-zero, place-liv
 use Rattle.model.proofs.Layers.Cut.{Cut, new-in, new-one, not-new, split-cut, split-kept}
 use Rattle.model.proofs.Layers.Role.{roleTo, roleWord, roleDart, sheet-rule, role-link}
 use Rattle.model.proofs.Layers.Split.{Live, old, new, live-role, split-table, split-live, live-split}
+use Rattle.model.proofs.Layers.HalvedSides.{halved-straight}
 use Rattle.model.proofs.Layers.Half.{half-size, in-half, out-crosses}
 use Rattle.model.proofs.Layers.Spot.{Spot, spot, spotLink, spotAt, valid, across, Held}
 use Rattle.model.proofs.Layers.Spot.{spot-valid, spot-link, spot-apart, word-small}
@@ -249,7 +250,7 @@ module _ {n : ℕ} {t gs fs : List ℕ} (C : Cut n t gs fs) where
   }
 
   pub split-block : BlockTable n (halved n t gs fs)
-  split-block = block-by (split-table C) (λ x l. charted x (live-split C x l))
+  split-block = block-by (split-table C) (λ x l. charted x (live-split C x l)) (halved-straight C)
     where
       charted : (x : ℕ) → Live C x → Charted n after x
       charted x (old l) = half-or x l (λ g i w. half-charted g x i w) (untouched-charted x l)

@@ -1,18 +1,23 @@
--- remove: its table is as document 01 says (remove-removes), and a block map (remove-block). The new link n of a remaining
--- dart is mutual (remove-mutual), and leads to the dart itself where the walk turns at a free side (remove-turns).
+-- remove: its table is as document 01 says (remove-removes), and a block map (remove-block), with no side folded
+-- (remove-straight). The new link n of a remaining dart is mutual (remove-mutual), and leads to the dart itself where the walk
+-- turns at a free side (remove-turns).
 use Prim.Native.Nat.{ℕ, _+_, _*_, _≤_, _<_}
 use mathlib.Core.Path.{_≡_, refl, sym, ap, _∙_}
 use mathlib.Core.Logic.{inl, inr, _≢_, _↔_}
 use mathlib.Core.Bool.{true, false}
 use mathlib.Core.List.{List}
+use native.Mathlib.Nat.{le-refl}
 use native.Mathlib.Omega.{arith}
 use lib.ListN.{length}
 use borrow.Author.Tests.{eq-eqb, ne-eqb}
 use Rattle.model.specs.Table.{unused, slots, link, walk, live}
 use Rattle.model.specs.Cell.{cellSize}
 use Rattle.model.specs.Remove.{opposite, marked, outside, removedLink, removed, removeTable}
-use Rattle.model.specs.Meaning.Maps.{MapTable, BlockTable, Rule}
+use Rattle.model.specs.Sew.{side}
+use Rattle.model.specs.Meaning.Maps.{MapTable, Straight, BlockTable, Rule}
+use Rattle.model.specs.Meaning.Pairings.{OnSide}
 use Rattle.model.specs.Meaning.Places.{place}
+use Rattle.model.specs.Meaning.Sets.{Marked}
 use Rattle.model.specs.Meaning.Sheets.{BlockDart, marksOf}
 use Rattle.model.specs.Meaning.Walks.{Layer, Reaches, arrived, FirstOutside, Removes}
 use Rattle.model.proofs.Lists.Scan.{test, if-eq, if-lt, clash}
@@ -21,8 +26,10 @@ use Rattle.model.proofs.Maps.Dim.{size-some}
 use Rattle.model.proofs.Maps.Tables.{mapTable, live-below, rule-at}
 use Rattle.model.proofs.Cells.Chart.{Ruled, ruled-table, live-of, of-live, live-same}
 use Rattle.model.proofs.Cells.Chart.{block-by, Charted, place-chart, place-zero, place-live, place-keep, chart-kept}
+use Rattle.model.proofs.Sewing.Side.{side-within, side-shrinks}
 use Rattle.model.proofs.Operations.Frame.{outside-stops}
 use Rattle.model.proofs.Layers.Walk.{outside-unique, stays-outside, walk-ends, walk-live, walk-back, walk-far, walk-turns}
+use Rattle.model.proofs.Layers.Mirror.{walk-own}
 use Rattle.model.proofs.Layers.Marks.{sheet-layer}
 
 -- ---- the links of the new table
@@ -191,8 +198,19 @@ module _ {n : ℕ} {t m u : List ℕ} (L : Layer n t m) (R : Removes n t m u) wh
   pub layer-live : (x : ℕ) → (live u x ≡ true) ↔ ((live t x ≡ true) × (marked m x ≡ false))
   layer-live x = (λ l. of-live n u Remains ruled x (live-below layer-table x l) l, live-of n u Remains ruled x)
 
+  -- "Prove that remove then never makes one": the side of a remaining dart is what it was, and its walk ends outside of the side
+  layer-straight : (x : ℕ) → live u x ≡ true → Straight n u x
+  layer-straight x l m =
+      let (lx, out) = layer-live x .0 l in
+      let top = B .dim .1 in
+      let on : OnSide n t n x = record { table = mapTable B; index = le-refl n; lives = lx } in
+      let remains : (y : ℕ) → Marked (side n t n x) y → Remains y
+      = side-within n t x Remains (lx, out) (λ y j near r. link-remains y j (omega arith) (omega arith) r) in
+      let within = side-shrinks on u (λ y j near h. stays y j (omega arith) (omega arith) (remains y h)) in
+      walk-own B x (link u n x) lx (within (link u n x) m) (layer-walk x out .reached)
+
   layer-block : BlockTable n u
-  layer-block = block-by layer-table (λ x l. charted x (layer-live x .0 l))
+  layer-block = block-by layer-table (λ x l. charted x (layer-live x .0 l)) layer-straight
     where
       charted : (x : ℕ) → Remains x → Charted n u x
       charted x (l, out) =
@@ -228,6 +246,10 @@ module _ {n : ℕ} {t : List ℕ} {d : ℕ} (D : BlockDart n t d) where
 
   pub remove-block : BlockTable n (removeTable n t d)
   remove-block = layer-block L remove-removes
+
+  -- no side of what is left is folded
+  pub remove-straight : (x : ℕ) → live (removeTable n t d) x ≡ true → Straight n (removeTable n t d) x
+  remove-straight = layer-straight L remove-removes
 
   -- the walk from a remaining dart ends, at a live dart: its new link n
   pub remove-walk : (x : ℕ) → live t x ≡ true → marked (marksOf n t d) x ≡ false

@@ -35,7 +35,7 @@ record Agree (n : ℕ) (v w : List ℕ) : Type 0 where
   small-w : small n w ≡ true
   meet : rowWalk n v 0 ≡ rowWalk n w 0
 
-opposite-small : (n : ℕ) → Dim n → small n (opposite n) ≡ true
+pub opposite-small : (n : ℕ) → Dim n → small n (opposite n) ≡ true
 unfolding everything small
 opposite-small n dim = two-cases n dim (λ n. small n (opposite n) ≡ true) refl refl
 
@@ -56,7 +56,7 @@ opposite-far n (suc (suc j)) dim far = absurd (omega arith)
 -- ---- the opposite side and the hop, in a block map
 
 -- the dart at the opposite side of x
-abbrev facing : ℕ → List ℕ → ℕ → ℕ
+abbrev pub facing : ℕ → List ℕ → ℕ → ℕ
 facing n t x = walk t (opposite n) x
 
 module _ {n : ℕ} {t : List ℕ} (B : BlockTable n t) where
@@ -70,11 +70,11 @@ module _ {n : ℕ} {t : List ℕ} (B : BlockTable n t) where
   low : n < 4
   low = let dim = B .dim in omega arith
 
-  facing-twice : (x : ℕ) → live t x ≡ true → facing n t (facing n t x) ≡ x
+  pub facing-twice : (x : ℕ) → live t x ≡ true → facing n t (facing n t x) ≡ x
   unfolding walk
   facing-twice x l = sym (walk-append t (opposite n) (opposite n) x) ∙ agree (opposite-twice n (B .dim)) x l
 
-  facing-far : (x j : ℕ) → live t x ≡ true → j + 2 ≤ n → facing n t (link t j x) ≡ link t j (facing n t x)
+  pub facing-far : (x j : ℕ) → live t x ≡ true → j + 2 ≤ n → facing n t (link t j x) ≡ link t j (facing n t x)
   unfolding walk
   facing-far x j l far = agree (opposite-far n j (B .dim) far) x l ∙ walk-append t (opposite n) (j ∷ []) x
 
@@ -85,20 +85,20 @@ module _ {n : ℕ} {t : List ℕ} (B : BlockTable n t) where
   facing-live : (x : ℕ) → live t x ≡ true → live t (facing n t x) ≡ true
   facing-live x l = facing-keeps (λ _. Unit {0}) (λ _ _ _ _ _. tt) x l tt .0
 
-  link-live : (x : ℕ) → live t x ≡ true → live t (link t n x) ≡ true
+  pub link-live : (x : ℕ) → live t x ≡ true → live t (link t n x) ≡ true
   link-live x l = rule x l .goes n low
 
-  link-back : (x : ℕ) → live t x ≡ true → link t n (link t n x) ≡ x
+  pub link-back : (x : ℕ) → live t x ≡ true → link t n (link t n x) ≡ x
   link-back x l = rule x l .comes n low
 
-  link-far : (x j : ℕ) → live t x ≡ true → j + 2 ≤ n → link t n (link t j x) ≡ link t j (link t n x)
+  pub link-far : (x j : ℕ) → live t x ≡ true → j + 2 ≤ n → link t n (link t j x) ≡ link t j (link t n x)
   link-far x j l far = past (mapTable B) x l n j (le-refl n) (omega arith) (inr far)
 
-  hop-live : (y : ℕ) → live t y ≡ true → live t (hop n t y) ≡ true
+  pub hop-live : (y : ℕ) → live t y ≡ true → live t (hop n t y) ≡ true
   unfolding hop
   hop-live y l = link-live (facing n t y) (facing-live y l)
 
-  hop-back : (y : ℕ) → live t y ≡ true → link t n (hop n t y) ≡ facing n t y
+  pub hop-back : (y : ℕ) → live t y ≡ true → link t n (hop n t y) ≡ facing n t y
   unfolding hop
   hop-back y l = link-back (facing n t y) (facing-live y l)
 

@@ -4,13 +4,12 @@
 use Prim.Native.Nat.{ℕ, _+_, _*_, _≤_, _<_}
 use mathlib.Core.Path.{_≡_, sym, ap, _∙_}
 use mathlib.Core.Logic.{_⊎_, inl, inr, ⊎-elim}
-use mathlib.Core.Bool.{true, false, _&&_}
+use mathlib.Core.Bool.{true}
 use mathlib.Core.List.{List, List·Memᴰ as In}
+use native.Mathlib.Nat.{le-refl}
 use native.Mathlib.Omega.{arith}
 use lib.ListN.{length, getD}
 use lib.Seq.{getD-take}
-use lib.Dec.{eqb}
-use borrow.Author.Tests.{eq-eqb, ne-eqb}
 use Rattle.model.specs.Lists.{indexOf}
 use Rattle.model.specs.Table.{unused, slots, link, live, unusedSlots}
 use Rattle.model.specs.Cell.{cellSize, cellOf, goodCell}
@@ -18,12 +17,12 @@ use Rattle.model.specs.Journal.{changesFrom}
 use Rattle.model.specs.Numbering.{cellLink}
 use Rattle.model.specs.Add.{addSlots, addedLink, added, addTable}
 use Rattle.model.specs.Meaning.Sizes.{liveCount}
-use Rattle.model.specs.Meaning.Maps.{Dim, MapTable}
+use Rattle.model.specs.Meaning.Maps.{MapTable, Straight}
 use Rattle.model.proofs.Lists.Scan.{if-eq, if-lt, clash}
 use Rattle.model.proofs.Lists.Ones.{getD-in, getD-index, index-in, in-or}
 use Rattle.model.proofs.Maps.Dim.{size-some}
 use Rattle.model.proofs.Maps.Rules.{link-out, live-by, slots-retable, length-retable}
-use Rattle.model.proofs.Cells.Rows.{rows-in}
+use Rattle.model.proofs.Cells.Rows.{rows-in, free-rows}
 use Rattle.model.proofs.Cells.Cell.{cell-live}
 use Rattle.model.proofs.Cells.Chart.{live-same, chart-cell}
 use Rattle.model.proofs.Cells.Add.{add-new, add-table}
@@ -39,13 +38,6 @@ newAt n t k = getD (addSlots n t) k unused
 pub cell-sizes : (n : ℕ) → (n ≡ 2 → cellSize n ≡ 8) × (n ≡ 3 → cellSize n ≡ 48)
 unfolding cellSize
 cell-sizes n = (λ e. rw e, λ e. rw e)
-
-free-rows : (n : ℕ) → Dim n → (j k : ℕ) → n ≤ j → cellLink n j k ≡ k
-unfolding cellLink
-free-rows n dim j k h =
-    let last : (eqb j 2 && eqb n 3) ≡ false
-    = if-eq j 2 (λ e. rw (eq-eqb j 2 e, ne-eqb n 3 (omega arith))) (λ e. rw (ne-eqb j 2 e)) in
-    rw (ne-eqb j 0 (omega arith), ne-eqb j 1 (omega arith), last, cellLink)
 
 module _ {n : ℕ} {t : List ℕ} (T : MapTable n t) (room : length (addSlots n t) ≡ cellSize n) where
   -- "one free cell in the lowest unused slots, its k-th dart in the k-th of them"
@@ -122,13 +114,16 @@ module _ {n : ℕ} {t : List ℕ} (T : MapTable n t) (room : length (addSlots n 
   pub add-cell : (k : ℕ) → k < cellSize n → goodCell n (addTable n t) (cellOf n (addTable n t) (newAt n t k)) ≡ true
   add-cell =
       let base = add-filled .made _ (new-in 0 (size-some n (T .dim))) in
-      chart-cell add-made (newAt n t) (record { follow = follow; apart = apart }) base
+      chart-cell add-made (newAt n t) (record { follow = follow; apart = apart }) base straight
     where
       follow : (j k : ℕ) → j < n → k < cellSize n → link (addTable n t) j (newAt n t k) ≡ newAt n t (cellLink n j k)
       follow j k b h = let top = T .dim .1 in add-links j k (omega arith) h
 
       apart : (a b : ℕ) → a < b → b < cellSize n → newAt n t a ≡ newAt n t b → ⊥
       apart a b ab h e = let rise = rising-at (add-lowest .rising) a b unused ab (omega arith) in omega arith
+
+      straight : (k : ℕ) → k < cellSize n → Straight n (addTable n t) (newAt n t k)
+      straight k h _ = let top = T .dim .1 in add-free n k (le-refl n) (omega arith) h
 
   pub add-cell-stays : (x : ℕ) → live t x ≡ true → cellOf n (addTable n t) x ≡ cellOf n t x
   add-cell-stays x l = cell-kept n t (addTable n t) x (add-filled .same) (λ y j m b.

@@ -2,6 +2,8 @@
 -- `past`: links far apart go past each other.
 -- `side-all`, `side-back`: what goes with the side's links holds of each of its darts, or of none; so it is with being i-free.
 -- `sides-parted`: when two sides have no dart in common. `side-same`: where the far links are the same, the sides are.
+-- Of the sides for link n: `side-within` (what the links 0..n-2 keep), `straight-kept` (a side that stays is not folded),
+-- `straight-side` (where one dart of a side is not folded, none is).
 use Prim.Native.Nat.{ℕ, suc, _+_, _*_, _≤_, _<_}
 use mathlib.Core.Path.{_≡_, refl, sym, ap, ap₂, _∙_, subst, fun-ext}
 use mathlib.Core.Logic.{inl, inr}
@@ -14,7 +16,7 @@ use borrow.Author.Tests.{leb-true, le-leb}
 use Rattle.model.specs.Table.{slots, link, live, walk}
 use Rattle.model.specs.Reach.{flood, steps, links, closure}
 use Rattle.model.specs.Sew.{sideWords, side}
-use Rattle.model.specs.Meaning.Maps.{MapTable}
+use Rattle.model.specs.Meaning.Maps.{MapTable, Straight}
 use Rattle.model.specs.Meaning.Pairings.{Far, OnSide}
 use Rattle.model.specs.Meaning.Sets.{Least, Marked}
 use Rattle.model.proofs.Lists.Scan.{test, if-eq}
@@ -169,3 +171,42 @@ side-same n t u i d size same =
     let one : steps u (sideWords n i) ≡ steps t (sideWords n i)
     = fun-ext (λ x. steps-same u t x (sideWords n i) (side-word-of n i (λ w. walk u w x ≡ walk t w x) (λ j f l. same x j f l))) in
     ap₂ (λ (f : ℕ → List ℕ) (k : ℕ). flood f (length (d ∷ []) + length (sideWords n i) * k) (d ∷ []) (replicate k 0)) one size
+
+-- ---- the sides for link n
+
+-- what holds of x, and is kept by the links 0..n-2, holds of its side
+pub side-within : (n : ℕ) (u : List ℕ) (x : ℕ) (P : ℕ → Type 0) → P x → ((y j : ℕ) → j + 2 ≤ n → P y → P (link u j y))
+    → (y : ℕ) → Marked (side n u n x) y → P y
+side-within n u x P base kept = side-least n u n x .within P (λ y k _. subst P (sym (sole k)) base)
+    (λ y z _ p k _. side-step n n u y P (λ j far low. kept y j (near j far low) p) z k)
+  where
+    near : (j : ℕ) → Far n j → j ≤ n → j + 2 ≤ n
+    near j (inl far) low = absurd (omega arith)
+    near j (inr far) low = far
+
+module _ {n : ℕ} {t : List ℕ} {d : ℕ} (on : OnSide n t n d) where
+  -- where the links 0..n-2 of the side stay, it is no larger
+  pub side-shrinks : (u : List ℕ) → ((y j : ℕ) → j + 2 ≤ n → Marked (side n t n d) y → link u j y ≡ link t j y)
+      → (y : ℕ) → Marked (side n u n d) y → Marked (side n t n d) y
+  side-shrinks u stays = side-within n u d (Marked (side n t n d)) (side-own on)
+      (λ y j near m. subst (Marked (side n t n d)) (sym (stays y j near m)) (side-far on y j m (inr near) (omega arith)))
+
+  -- and where link n of d stays too, d is as straight as it was
+  pub straight-kept : (u : List ℕ) → ((y j : ℕ) → j + 2 ≤ n → Marked (side n t n d) y → link u j y ≡ link t j y)
+      → link u n d ≡ link t n d → Straight n t d → Straight n u d
+  straight-kept u stays same straight m =
+      same ∙ straight (subst (Marked (side n t n d)) same (side-shrinks u stays (link u n d) m))
+
+  -- the side of a dart of the side is within it
+  pub side-part : (x : ℕ) → Marked (side n t n d) x → (y : ℕ) → Marked (side n t n x) y → Marked (side n t n d) y
+  side-part x h = side-within n t x (Marked (side n t n d)) h (λ y j near m. side-far on y j m (inr near) (omega arith))
+
+  -- link n carries a side onto a side: where it leads from d to no other dart of the side, it does so from each of its darts
+  pub straight-side : Straight n t d → (x : ℕ) → Marked (side n t n d) x → Straight n t x
+  straight-side straight x h m =
+      if-eq (link t n d) d (λ free. side-free on free x h)
+      (λ e. absurd (e (straight (side-back on (λ y. Marked (side n t n d) (link t n y)) over x h (side-part x h (link t n x) m)))))
+    where
+      over : (y j : ℕ) → Marked (side n t n d) y → Far n j → j ≤ n → Marked (side n t n d) (link t n y)
+          → Marked (side n t n d) (link t n (link t j y))
+      over y j k far low m = subst (Marked (side n t n d)) (sym (side-past on y k j far low)) (side-far on (link t n y) j m far low)

@@ -1,5 +1,5 @@
 -- Maps and block maps, as properties and not as tests.
--- Main definitions: `Rule` and `Map`; `GoodCell` and `Block`; `MapTable` and `BlockTable`, what the passed checks of a call say.
+-- Main definitions: `Rule` and `Map`; `Straight`, `GoodCell` and `Block`; `MapTable` and `BlockTable`, what the passed checks of a call say.
 use Prim.Native.Nat.{ℕ, _+_, _*_, _≤_, _<_}
 use mathlib.Core.Path.{_≡_}
 use mathlib.Core.Bool.{true}
@@ -9,6 +9,7 @@ use Rattle.model.specs.Lists.{count}
 use Rattle.model.specs.Table.{slots, link, live, walk}
 use Rattle.model.specs.Map.{isMap}
 use Rattle.model.specs.Cell.{cellSize, cellOf, goodCell, isBlock}
+use Rattle.model.specs.Sew.{side}
 use Rattle.model.specs.Meaning.Sets.{Marked}
 
 -- n is 2 or 3
@@ -38,18 +39,24 @@ squareWord = 0 ∷ 1 ∷ 0 ∷ 1 ∷ 0 ∷ 1 ∷ 0 ∷ 1 ∷ []
 abbrev pub cornerWord : List ℕ
 cornerWord = 1 ∷ 2 ∷ 1 ∷ 2 ∷ 1 ∷ 2 ∷ []
 
+-- link n of x does not lead "to a different dart of [its] own side under links 0..n-2"
+abbrev pub Straight : ℕ → List ℕ → ℕ → Type 0
+Straight n t x = Marked (side n t n x) (link t n x) → link t n x ≡ x
+
 -- of a map, that it is a block map: "each cell has exactly 8 darts (n = 2) or 48 (n = 3), and from each dart going
--- 0, 1 four times returns, and for n = 3 going 1, 2 three times returns"
+-- 0, 1 four times returns, and for n = 3 going 1, 2 three times returns"; and no side is folded
 pub record Block (n : ℕ) (t : List ℕ) : Type 0 where
   pub size : (d : ℕ) → live t d ≡ true → count 1 (cellOf n t d) ≡ cellSize n
   pub square : (d : ℕ) → live t d ≡ true → walk t squareWord d ≡ d
   pub corner : n ≡ 3 → (d : ℕ) → live t d ≡ true → walk t cornerWord d ≡ d
+  pub straight : (d : ℕ) → live t d ≡ true → Straight n t d
 
 -- the same of one cell, given as marks: it is no wrong cell
 pub record GoodCell (n : ℕ) (t cell : List ℕ) : Type 0 where
   pub size : count 1 cell ≡ cellSize n
   pub square : (x : ℕ) → Marked cell x → walk t squareWord x ≡ x
   pub corner : n ≡ 3 → (x : ℕ) → Marked cell x → walk t cornerWord x ≡ x
+  pub straight : (x : ℕ) → Marked cell x → Straight n t x
 
 -- d is the least live slot of which P fails
 pub record LeastFailing (t : List ℕ) (P : ℕ → Type 0) (d : ℕ) : Type 0 where

@@ -10,6 +10,7 @@ use lib.Dec.{eqb}
 use Rattle.model.specs.Table.{link, walk}
 use Rattle.model.specs.Cell.{cellSize}
 use Rattle.model.specs.Numbering.{corners, cellLink}
+use Rattle.model.specs.Meaning.Maps.{Straight}
 
 -- ---- the word to a place
 
@@ -67,3 +68,4 @@ pub record Chart (n : ℕ) (t : List ℕ) (c : ℕ → ℕ) : Type 0 where
 pub record Listed (n : ℕ) (t : List ℕ) (d : ℕ) : Type 0 where
   pub follow : Follows n t (place n t d)
   pub other : (k : ℕ) → 0 < k → k < cellSize n → place n t d k ≢ d
+  pub straight : (k : ℕ) → k < cellSize n → Straight n t (place n t d k)

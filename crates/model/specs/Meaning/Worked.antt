@@ -1,14 +1,15 @@
--- Worked cases: some calls on a fresh table and journal, one more call, and what is then seen.
+-- Worked cases: some calls on a table and a fresh journal, one more call, and what is then seen.
 use Prim.Native.Nat.{ℕ, _*_, _-_}
 use mathlib.Core.Bool.{Bool, true, false, not, _&&_}
 use mathlib.Core.List.{List, [], _∷_}
 use lib.ListN.{length, replicate}
 use lib.Dec.{eqb}
 use Rattle.model.specs.Lists.{count}
-use Rattle.model.specs.Table.{unused, link, live}
+use Rattle.model.specs.Table.{unused, slots, link, live}
 use Rattle.model.specs.Journal.{cursor, end, changesFrom}
 use Rattle.model.specs.Calls.{Outcome}
 use Rattle.model.specs.Runs.{Call, doCall}
+use Rattle.model.specs.Meaning.Ends.{lent}
 use Rattle.model.specs.Meaning.Sizes.{liveCount}
 
 -- what is seen after the last call
@@ -22,12 +23,12 @@ pub data Seen : Type 0 where
   changes : ℕ → Seen  -- so many entries
   liveAre : ℕ → Seen  -- so many slots
 
--- the label is a hundred times the case's number in 01, and counts its parts: 301 is the first part of 3
+-- the label is a hundred times the case's number in 01, and counts its parts: 301 is the first part of 3; that of a request
+-- of 02 is ten thousand more: 10401 is the first of R-4
 pub record Case : Type 0 where
   pub label : ℕ
   pub dim : ℕ
-  pub slots : ℕ
-  pub words : ℕ
+  pub start : Outcome
   pub before : List Call
   pub call : Call
   pub seen : List Seen
@@ -42,6 +43,10 @@ begin slots words = record {
   marks = replicate slots 0;
   journal = 2 ∷ 2 ∷ replicate (words - 2) 0;
 }
+
+-- a table that is given, a fresh journal
+unfoldable pub beginOn : List ℕ → ℕ → Outcome
+beginOn t words = let o = begin (slots t) words in lent t (o .marks) (o .journal)
 
 unfoldable pub doAll : ℕ → Outcome → List Call → Outcome
 doAll n o [] = o
@@ -73,7 +78,7 @@ unfoldable pub holdsFrom : ℕ → Outcome → Call → List Seen → Bool
 holdsFrom n old c ss = seesAll old (doCall n old c) ss
 
 unfoldable pub holds : Case → Bool
-holds c = holdsFrom (c .dim) (doAll (c .dim) (begin (c .slots) (c .words)) (c .before)) (c .call) (c .seen)
+holds c = holdsFrom (c .dim) (doAll (c .dim) (c .start) (c .before)) (c .call) (c .seen)
 
 -- the labels of the cases that do not hold
 unfoldable pub failing : List Case → List ℕ
