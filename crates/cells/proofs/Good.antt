@@ -1,6 +1,7 @@
 -- The test of a listed cell. Each link between places is a step of the listing, a row of tests, or one of these turned
 -- round; a step leads where the numbering says, so where the rows fit every link does.
--- Main theorems: `tests-there` (what the tests read is there), `good-by` (they pass exactly if the cell is good).
+-- Main theorems: `test-there` (what the tests read is there); `tests-follow`, `follow-tests`, `tests-other` and `other-tests` (they
+-- pass exactly if the places follow the numbering and none but the first is the cell's dart).
 use Prim.Native.Nat.{ℕ, zero, suc, _-_, _<_}
 use mathlib.Core.Path.{_≡_, refl, sym, ap, _∙_}
 use mathlib.Core.Logic.{_≢_, inr, ⊎-elim}
@@ -145,8 +146,8 @@ module _ {n : ℕ} {t : List ℕ} {d : ℕ} (D : MapDart n t d) where
   comes : (i k : ℕ) → i < n → k < cellSize n → cellLink n i (cellLink n i k) ≡ k
   comes i k hi hk = let three = D .table .dim .1 in row-comes n k (D .table .dim) hk i (omega arith)
 
-  there : (k : ℕ) → k < length (testRows n) → TestRow t (places n t d) (getD (testRows n) k [])
-  there k l =
+  pub test-there : (k : ℕ) → k < length (testRows n) → TestRow t (places n t d) (getD (testRows n) k [])
+  test-there k l =
       let T = D .table in
       let row = row-at n k (T .dim) l in
       let low = row .from in
@@ -208,7 +209,7 @@ module _ {n : ℕ} {t : List ℕ} {d : ℕ} (D : MapDart n t d) where
       let fit = below-at (λ j. fitsRow t (places n t d) (getD (testRows n) j [])) (length (testRows n)) h j l in
       rw (from, by) at (fits-follow row (row-at n j (D .table .dim) l) fit)
 
-  tests-follow : allFit t (places n t d) (testRows n) ≡ true → (i k : ℕ) → i < n → k < cellSize n → Follows i k
+  pub tests-follow : allFit t (places n t d) (testRows n) ≡ true → (i k : ℕ) → i < n → k < cellSize n → Follows i k
   unfolding covered allCovered
   tests-follow h i k hi hk =
       let rows = testRows n in
@@ -220,37 +221,20 @@ module _ {n : ℕ} {t : List ℕ} {d : ℕ} (D : MapDart n t d) where
       goes : (k : ℕ) → k < cellSize n → covered n (testRows n) k i ≡ true → Follows i k
       goes k hk c = ⊎-elim (by-step i k hi hk) (by-row h i k) (or-cases (isStep n k i) _ c)
 
-  tests-other : onlyFirst d (places n t d) ≡ true → (k : ℕ) → 0 < k → k < cellSize n → place n t d k ≢ d
+  pub tests-other : onlyFirst d (places n t d) ≡ true → (k : ℕ) → 0 < k → k < cellSize n → place n t d k ≢ d
   unfolding onlyFirst
   tests-other h k some l e =
       clash (below-at (notAgain d (places n t d)) _ h k (rw places-length l)) (again d _ k some (places-at k l ∙ e))
 
-  follow-tests : Listed n t d → allFit t (places n t d) (testRows n) ≡ true
+  pub follow-tests : Listed n t d → allFit t (places n t d) (testRows n) ≡ true
   unfolding allFit
   follow-tests h = below-of _ _ (λ k l.
       let row = row-at n k (D .table .dim) l in
       follow-fits _ row (h .follow _ _ (row .by) (row .from)))
 
-  other-tests : Listed n t d → onlyFirst d (places n t d) ≡ true
+  pub other-tests : Listed n t d → onlyFirst d (places n t d) ≡ true
   unfolding onlyFirst
   other-tests h = below-of _ _ (λ k l.
       let low : k < cellSize n = rw places-length at l in
       if-eq k 0 (λ e. rw e (not-again-first d _))
       (λ e. not-again d _ k (rw (places-at k low) (h .other k (omega arith) low))))
-
-  listed-good : (allFit t (places n t d) (testRows n) && onlyFirst d (places n t d)) ≡ goodCell n t (cellOf n t d)
-  listed-good = same-test
-      (λ h. good-exactly (D .table) d (D .lives) .1 (record {
-        follow = tests-follow (and-l _ _ h);
-        other = tests-other (and-r (allFit t (places n t d) (testRows n)) _ h);
-      }))
-      (λ g. let listed = good-exactly (D .table) d (D .lives) .0 g in and-i (follow-tests listed) (other-tests listed))
-
-  -- ---- the same of what the code is given
-
-  module _ (cell : List ℕ) (tests : List (List ℕ)) (is-cell : cell ≡ places n t d) (is-tests : tests ≡ testRows n) where
-    pub tests-there : (k : ℕ) → k < length tests → TestRow t cell (getD tests k [])
-    tests-there k l = rw (is-cell, is-tests) (there k (rw is-tests at l))
-
-    pub good-by : (a b : Bool) → a ≡ allFit t cell tests → b ≡ onlyFirst d cell → (a && b) ≡ goodCell n t (cellOf n t d)
-    good-by a b e f = rw (e, f, is-cell, is-tests) listed-good

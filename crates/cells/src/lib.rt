@@ -2,17 +2,20 @@
 ghost use mathlib.Core.Path.{_≡_};
 ghost use mathlib.Core.Bool.{true};
 ghost use mathlib.Core.List.{[]};
-ghost use Prim.Native.Nat.{ℕ, _<_, _≤_};
+ghost use Prim.Native.Nat.{ℕ, _/_, _<_, _≤_};
 ghost use lib.ListN.{length, getD};
 ghost use Rattle.model.specs.Table.{slots};
 ghost use Rattle.model.specs.Map.{isMap};
 ghost use Rattle.model.specs.Cell.{cellOf, goodCell, inWrongCell, leastWrong, isBlock};
 ghost use Rattle.model.specs.Checks.{pass, dimOk, tableOk};
 ghost use Rattle.model.specs.Meaning.Maps.{MapTable};
-ghost use Rattle.cells.specs.Rows.{stepRows, testRows, start, places};
+ghost use Rattle.cells.specs.Rows.{stepRows, testRows, sideSize, sidePlaces, start, places};
 ghost use Rattle.cells.specs.Good.{MapDart, TestRow, fitsRow, allFit, onlyFirst, seenWith, SeenGood};
+ghost use Rattle.cells.specs.Good.{SidePlaces, isStraight, nthSide, allStraight};
 use reading::link_in;
 use reading::slots;
+use rows::SIDES_2D;
+use rows::SIDES_3D;
 use rows::STEPS_2D;
 use rows::STEPS_3D;
 use rows::TESTS_2D;
@@ -89,12 +92,59 @@ fn only_first(d: u32, cell: &[u32]) -> bool
     true
 }
 
+// Whether link n leads from the dart at the first place of a side to no dart at another of its places.
+fn is_straight(n: u32, table: &[u32], cell: &[u32], side: &[u8]) -> bool
+    requires { ⌜ SidePlaces n (now table) (now cell) (now side) ⌝ }
+    ensures { λ r. ⌜ r ≡ isStraight n (now (table .entry)) (now (cell .entry)) (now (side .entry)) ⌝ }
+{
+    let from = cell[side[0] as usize];
+    let to = link_in(table, n as usize, from);
+    for k in 1..side.len() {
+        if cell[side[k] as usize] == to {
+            return false;
+        }
+    }
+    true
+}
+
+// Whether no side is folded. The sides, of one size, have their places one side after the other. Link n carries a side onto a
+// side, so one dart of each is looked at.
+fn all_straight(n: u32, table: &[u32], cell: &[u32], sides: &[u8], size: usize) -> bool
+    requires { ⌜ (0 < size) × ((k : ℕ) → k < length (now sides) / size → SidePlaces n (now table) (now cell) (nthSide (now sides) size k)) ⌝ }
+    ensures { λ r. ⌜ r ≡ allStraight n (now (table .entry)) (now (cell .entry)) (now (sides .entry)) size ⌝ }
+{
+    let count = sides.len() / size;
+    for k in 0..count {
+        let from = k * size;
+        let to = from + size;
+        if !is_straight(n, table, cell, &sides[from..to]) {
+            return false;
+        }
+    }
+    true
+}
+
 // Whether the cell of d, listed by its places, is good: the steps of the listing need no test.
-fn is_good(n: u32, table: &[u32], d: u32, cell: &[u32], tests: &[[u8; 3]]) -> bool
+fn is_good(
+    n: u32,
+    table: &[u32],
+    d: u32,
+    cell: &[u32],
+    tests: &[[u8; 3]],
+    sides: &[u8],
+    size: usize,
+) -> bool
     requires { ⌜ (MapDart n (now table) d) × (now cell ≡ places n (now table) d) × (now tests ≡ testRows n) ⌝ }
+    requires { ⌜ (now sides ≡ sidePlaces n) × (size ≡ sideSize n) ⌝ }
     ensures { λ r. ⌜ r ≡ goodCell n (now (table .entry)) (cellOf n (now (table .entry)) d) ⌝ }
 {
-    all_fit(table, cell, tests) & only_first(d, cell)
+    if !all_fit(table, cell, tests) {
+        return false;
+    }
+    if !only_first(d, cell) {
+        return false;
+    }
+    all_straight(n, table, cell, sides, size)
 }
 
 // Whether the cell of d is good, n = 2.
@@ -102,7 +152,7 @@ pub fn is_good_2d(table: &[u32], d: u32, cell: [u32; 8]) -> bool
     requires { ⌜ (MapDart 2 (now table) d) × (cell ≡ places 2 (now table) d) ⌝ }
     ensures { λ r. ⌜ r ≡ goodCell 2 (now (table .entry)) (cellOf 2 (now (table .entry)) d) ⌝ }
 {
-    is_good(2, table, d, &cell, &TESTS_2D)
+    is_good(2, table, d, &cell, &TESTS_2D, &SIDES_2D, 2)
 }
 
 // The same for n = 3.
@@ -110,7 +160,7 @@ pub fn is_good_3d(table: &[u32], d: u32, cell: [u32; 48]) -> bool
     requires { ⌜ (MapDart 3 (now table) d) × (cell ≡ places 3 (now table) d) ⌝ }
     ensures { λ r. ⌜ r ≡ goodCell 3 (now (table .entry)) (cellOf 3 (now (table .entry)) d) ⌝ }
 {
-    is_good(3, table, d, &cell, &TESTS_3D)
+    is_good(3, table, d, &cell, &TESTS_3D, &SIDES_3D, 8)
 }
 
 // Marks the darts as seen.

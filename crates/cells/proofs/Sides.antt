@@ -1,0 +1,258 @@
+-- The test of the sides of a listed cell: its rows go through each side, by links 0..n-2, and each place is in one of them. Link n
+-- carries a side onto a side, so where it leads from the first dart of each side to no other dart of it, no side is folded.
+-- Main theorems: `side-there` (what the test reads is there); `all-straight` and `straight-all` (it passes exactly if no side is
+-- folded).
+use Prim.Native.Nat.{ℕ, zero, suc, _+_, _*_, _/_, _%_, _-_, _≤_, _<_}
+use mathlib.Core.Path.{_≡_, refl, sym, ap, _∙_, subst}
+use mathlib.Core.Logic.{_≢_, inr}
+use mathlib.Core.Bool.{Bool, true, false, not, _&&_, _||_}
+use mathlib.Core.List.{List}
+use native.Mathlib.Nat.{le-refl, suc-mul, le-div-iff-mul-le}
+use native.Mathlib.Omega.{arith}
+use lib.ListN.{length, getD, take, drop}
+use lib.Dec.{eqb, ltb}
+use borrow.Author.Tests.{ltb-true, eqb-true, eqb-false, eq-eqb, ne-eqb, not-true, not-false}
+use Rattle.model.specs.Lists.{allBelow}
+use Rattle.model.specs.Table.{link, live}
+use Rattle.model.specs.Cell.{cellSize}
+use Rattle.model.specs.Numbering.{cellLink}
+use Rattle.model.specs.Sew.{side}
+use Rattle.model.specs.Meaning.Maps.{Dim, Straight}
+use Rattle.model.specs.Meaning.Sets.{Marked}
+use Rattle.model.specs.Meaning.Pairings.{OnSide}
+use Rattle.model.specs.Meaning.Places.{place, Follows, Chart}
+use Rattle.model.proofs.Lists.Scan.{test, if-eq, if-lt, clash, and-l, and-r, or-i, below-at, below-of, below-both, below-not}
+use Rattle.model.proofs.Maps.Dim.{two-cases}
+use Rattle.model.proofs.Maps.Tables.{live-below}
+use Rattle.model.proofs.Sewing.Side.{side-own, side-far, side-within, straight-side}
+use Rattle.cells.specs.Rows.{sideSize, sidePlaces, places, computed}
+use Rattle.cells.specs.Good.{MapDart, SidePlaces, notLed, isStraight, nthSide, allStraight}
+use Rattle.cells.proofs.Good.{places-length, places-at, place-live}
+
+-- ---- the test that link n does not lead to a place
+
+module _ (n : ℕ) (t cell side : List ℕ) where
+  pub first-not-led : notLed n t cell side 0 ≡ true
+  unfolding notLed
+  first-not-led = refl
+
+  pub not-led : (k to : ℕ) → to ≡ link t n (getD cell (getD side 0 0) 0) → getD cell (getD side k 0) 0 ≢ to → notLed n t cell side k ≡ true
+  unfolding notLed
+  not-led k to e h = or-i (eqb k 0) _ (inr (ap not (ne-eqb _ _ (λ q. h (q ∙ sym e)))))
+
+  pub led : (k to : ℕ) → 0 < k → to ≡ link t n (getD cell (getD side 0 0) 0) → getD cell (getD side k 0) 0 ≡ to → notLed n t cell side k ≡ false
+  unfolding notLed
+  led k to some e h = rw (ne-eqb k 0 (λ q. omega arith), eq-eqb _ _ (h ∙ e))
+
+-- ---- sides of one size, one after the other
+
+pub side-end : (k size total : ℕ) → 0 < size → k < total / size → k * size + size ≤ total
+side-end k size total some h = subst (λ (e : ℕ). e ≤ total) (suc-mul k size) (le-div-iff-mul-le some .0 h)
+
+pub side-at : (sides : List ℕ) (size k : ℕ) → take (k * size + size - k * size) (drop (k * size) sides) ≡ nthSide sides size k
+unfolding nthSide
+side-at sides size k =
+    let same : k * size + size - k * size ≡ size = omega arith in
+    ap (λ (l : ℕ). take l (drop (k * size) sides)) same
+
+-- ---- the rows of the sides
+
+-- the k-th side of a cell
+abbrev sideOf : ℕ → ℕ → List ℕ
+sideOf n k = nthSide (sidePlaces n) (sideSize n) k
+
+inRow : List ℕ → ℕ → Bool
+inRow row p = not (allBelow (length row) (λ j. not (eqb (getD row j 0) p)))
+
+in-row : (row : List ℕ) (p : ℕ) → inRow row p ≡ true → (j : ℕ) × (j < length row) × (getD row j 0 ≡ p)
+unfolding inRow
+in-row row p h =
+    let (j, l, f) = below-not (λ j. not (eqb (getD row j 0) p)) (length row) (not-true _ h) in
+    (j, l, eqb-true _ _ (not-false _ f))
+
+-- link i leads from the j-th place of the row to the next, and that is not the first again
+isNext : ℕ → List ℕ → ℕ → Bool
+isNext n row j =
+    eqb (getD row (suc j) 0) (cellLink n (j % 2 * (n - 2)) (getD row j 0)) && not (eqb (getD row (suc j) 0) (getD row 0 0))
+
+-- a place of the row is one of the cell, and links 0..n-2 lead from it to places of the row
+isKept : ℕ → List ℕ → ℕ → Bool
+isKept n row j = ltb (getD row j 0) (cellSize n) && allBelow (n - 1) (λ i. inRow row (cellLink n i (getD row j 0)))
+
+isSide : ℕ → List ℕ → Bool
+isSide n row =
+    eqb (length row) (sideSize n) && (allBelow (sideSize n - 1) (isNext n row) && allBelow (sideSize n) (isKept n row))
+
+-- the place p is in one of the sides
+inSides : ℕ → ℕ → Bool
+inSides n p = not (allBelow (2 * n) (λ k. not (inRow (sideOf n k) p)))
+
+record Rows (n : ℕ) : Type 0 where
+  number : length (sidePlaces n) / sideSize n ≡ 2 * n
+  some : 0 < sideSize n
+  sides : allBelow (2 * n) (λ k. isSide n (sideOf n k)) ≡ true
+  all : allBelow (cellSize n) (inSides n) ≡ true
+
+rows-true : (n : ℕ) → Dim n → Rows n
+unfolding inRow isNext isKept isSide inSides nthSide computed
+rows-true n dim = two-cases n dim Rows
+    (record { number = refl; some = omega arith; sides = refl; all = refl })
+    (record { number = refl; some = omega arith; sides = refl; all = refl })
+
+-- a row, by what the tests say
+record Side (n : ℕ) (row : List ℕ) : Type 0 where
+  long : length row ≡ sideSize n
+  next : (j : ℕ) → suc j < sideSize n → getD row (suc j) 0 ≡ cellLink n (j % 2 * (n - 2)) (getD row j 0)
+  other : (j : ℕ) → suc j < sideSize n → getD row (suc j) 0 ≢ getD row 0 0
+  low : (j : ℕ) → j < sideSize n → getD row j 0 < cellSize n
+  kept : (j i : ℕ) → j < sideSize n → i + 2 ≤ n → (k : ℕ) × (k < sideSize n) × (getD row k 0 ≡ cellLink n i (getD row j 0))
+
+is-side : (n : ℕ) (row : List ℕ) → isSide n row ≡ true → Side n row
+unfolding isSide isNext isKept
+is-side n row h = record {
+  long = long;
+  next = λ j l. eqb-true _ _ (and-l (eqb (getD row (suc j) 0) (cellLink n (j % 2 * (n - 2)) (getD row j 0))) _ (step j l));
+  other = λ j l. eqb-false _ _ (not-true _ (and-r (eqb (getD row (suc j) 0) (cellLink n (j % 2 * (n - 2)) (getD row j 0))) _ (step j l)));
+  low = λ j l. ltb-true _ _ (and-l (ltb (getD row j 0) (cellSize n)) _ (each j l));
+  kept = λ j i l b.
+      let there = below-at (λ i. inRow row (cellLink n i (getD row j 0))) (n - 1)
+      (and-r (ltb (getD row j 0) (cellSize n)) _ (each j l)) i (omega arith) in
+      let (k, low, e) = in-row row (cellLink n i (getD row j 0)) there in
+      (k, omega (arith, long), e);
+}
+  where
+    long : length row ≡ sideSize n
+    long = eqb-true _ _ (and-l (eqb (length row) (sideSize n)) _ h)
+
+    later : (allBelow (sideSize n - 1) (isNext n row) && allBelow (sideSize n) (isKept n row)) ≡ true
+    later = and-r (eqb (length row) (sideSize n)) _ h
+
+    step : (j : ℕ) → suc j < sideSize n → isNext n row j ≡ true
+    step j l = below-at (isNext n row) (sideSize n - 1) (and-l (allBelow (sideSize n - 1) (isNext n row)) _ later) j (omega arith)
+
+    each : (j : ℕ) → j < sideSize n → isKept n row j ≡ true
+    each j l = below-at (isKept n row) (sideSize n) (and-r (allBelow (sideSize n - 1) (isNext n row)) _ later) j l
+
+side-is : (n k : ℕ) → Dim n → k < 2 * n → Side n (sideOf n k)
+side-is n k dim l = is-side n _ (below-at (λ k. isSide n (sideOf n k)) (2 * n) (rows-true n dim .sides) k l)
+
+-- each place is in a side
+in-a-side : (n p : ℕ) → Dim n → p < cellSize n → (k : ℕ) × (k < 2 * n) × (inRow (sideOf n k) p ≡ true)
+unfolding inSides
+in-a-side n p dim l =
+    let (k, low, f) = below-not (λ k. not (inRow (sideOf n k) p)) (2 * n) (not-true _ (below-at (inSides n) (cellSize n) (rows-true n dim .all) p l)) in
+    (k, low, not-false _ f)
+
+-- ---- the sides of a listed cell
+
+module _ {n : ℕ} {t : List ℕ} {d : ℕ} (D : MapDart n t d) where
+  abbrev cell : List ℕ
+  cell = places n t d
+
+  abbrev dim : Dim n
+  dim = D .table .dim
+
+  on-side : (p : ℕ) → p < cellSize n → OnSide n t n (place n t d p)
+  on-side p l = record { table = D .table; index = le-refl n; lives = place-live D p l }
+
+  pub side-there : (k : ℕ) → k < length (sidePlaces n) / sideSize n → SidePlaces n t (places n t d) (nthSide (sidePlaces n) (sideSize n) k)
+  side-there k l =
+      let s = side-is n k dim (rw (rows-true n dim .number) at l) in
+      let some = rows-true n dim .some in
+      let long = s .long in
+      let size = places-length D in
+      let inside = live-below (D .table) _ (place-live D _ (s .low 0 some)) in
+      let whole = D .table .whole in
+      let top = dim .1 in
+      record {
+        some = omega arith;
+        places = λ j h. let low = s .low j (omega arith) in omega arith;
+        entry = rw (places-at D _ (s .low 0 some)) (omega arith);
+      }
+
+  module _ (follow : Follows n t (place n t d)) (row : List ℕ) (s : Side n row) where
+    abbrev dart : ℕ → ℕ
+    dart j = place n t d (getD row j 0)
+
+    abbrev darts : List ℕ
+    darts = side n t n (dart 0)
+
+    some : 0 < sideSize n
+    some = rows-true n dim .some
+
+    on : OnSide n t n (dart 0)
+    on = on-side _ (s .low 0 some)
+
+    -- the darts at its places are in the side ..
+    row-in : (j : ℕ) → j < sideSize n → Marked darts (dart j)
+    row-in zero l = side-own on
+    row-in (suc j) l =
+        let i = j % 2 * (n - 2) in
+        let top = dim .1 in
+        let near : i + 2 ≤ n = two-cases n dim (λ n. j % 2 * (n - 2) + 2 ≤ n) (omega arith) (omega arith) in
+        let at : link t i (dart j) ≡ dart (suc j)
+        = follow i (getD row j 0) (omega arith) (s .low j (omega arith)) ∙ ap (place n t d) (sym (s .next j l)) in
+        subst (Marked darts) at (side-far on (dart j) i (row-in j (omega arith)) (inr near) (omega arith))
+
+    -- .. and all of it
+    in-side : (y : ℕ) → Marked darts y → (j : ℕ) × (j < sideSize n) × (y ≡ dart j)
+    in-side = side-within n t (dart 0) (λ y. (j : ℕ) × (j < sideSize n) × (y ≡ dart j)) (0, some, refl) (λ y i near (j, l, e).
+        let (k, low, q) = s .kept j i l near in
+        (k, low, ap (link t i) e ∙ follow i (getD row j 0) (omega arith) (s .low j l) ∙ ap (place n t d) (sym q)))
+
+    cell-at : (j : ℕ) → j < sideSize n → getD cell (getD row j 0) 0 ≡ dart j
+    cell-at j l = places-at D _ (s .low j l)
+
+    first-to : link t n (dart 0) ≡ link t n (getD cell (getD row 0 0) 0)
+    first-to = ap (link t n) (sym (cell-at 0 some))
+
+    test-straight : isStraight n t cell row ≡ true → Straight n t (dart 0)
+    unfolding isStraight
+    test-straight h m =
+        let (j, l, e) = in-side (link t n (dart 0)) m in
+        if-eq j 0 (λ q. e ∙ ap dart q) (λ q.
+        let passed = below-at (notLed n t cell row) (length row) h j (rw (s .long) l) in
+        absurd (clash passed (led n t cell row j (link t n (dart 0)) (omega arith) first-to (cell-at j l ∙ sym e))))
+
+    straight-test : ((a b : ℕ) → a < cellSize n → b < cellSize n → place n t d a ≡ place n t d b → a ≡ b)
+        → Straight n t (dart 0) → isStraight n t cell row ≡ true
+    unfolding isStraight
+    straight-test one straight = below-of _ _ each
+      where
+        each : (j : ℕ) → j < length row → notLed n t cell row j ≡ true
+        each zero l = first-not-led n t cell row
+        each (suc j) l =
+            let low : suc j < sideSize n = rw (s .long) at l in
+            not-led n t cell row (suc j) (link t n (dart 0)) first-to (λ e.
+            let here = sym (cell-at (suc j) low) ∙ e in
+            let own = straight (subst (Marked darts) here (row-in (suc j) low)) in
+            s .other j low (one _ _ (s .low (suc j) low) (s .low 0 some) (here ∙ own)))
+
+  -- ---- all sides
+
+  pub all-straight : Follows n t (place n t d) → allStraight n t (places n t d) (sidePlaces n) (sideSize n) ≡ true
+      → (p : ℕ) → p < cellSize n → Straight n t (place n t d p)
+  unfolding allStraight
+  all-straight follow h p l =
+      let (k, low, f) = in-a-side n p dim l in
+      let row = sideOf n k in
+      let s = side-is n k dim low in
+      let (j, lj, e) = in-row row p f in
+      let number = rows-true n dim .number in
+      let tested = below-at (λ k. isStraight n t cell (sideOf n k)) (length (sidePlaces n) / sideSize n) h k (rw number low) in
+      subst (λ (p : ℕ). Straight n t (place n t d p)) e
+      (straight-side (on follow row s) (test-straight follow row s tested) _ (row-in follow row s j (rw (s .long) at lj)))
+
+  pub straight-all : Chart n t (place n t d) → ((p : ℕ) → p < cellSize n → Straight n t (place n t d p))
+      → allStraight n t (places n t d) (sidePlaces n) (sideSize n) ≡ true
+  unfolding allStraight
+  straight-all chart straight = below-of _ _ (λ k l.
+      let s = side-is n k dim (rw (rows-true n dim .number) at l) in
+      straight-test (chart .follow) (sideOf n k) s one (straight _ (s .low 0 (rows-true n dim .some))))
+    where
+      one : (a b : ℕ) → a < cellSize n → b < cellSize n → place n t d a ≡ place n t d b → a ≡ b
+      one a b ha hb e = if-eq a b (λ q. q)
+          (λ q. if-lt a b (λ h. absurd (chart .apart a b h hb e)) (λ h. absurd (chart .apart b a (omega arith) ha (sym e))))
+
+pub some-side : (n : ℕ) → Dim n → 0 < sideSize n
+some-side n dim = rows-true n dim .some
