@@ -13,18 +13,16 @@ use lib.Dec.{eqb, ltb}
 use borrow.Author.Tests.{ltb-true, eqb-true, eq-eqb, ne-eqb, not-true, not-false}
 use Rattle.model.specs.Lists.{tabulate, allBelow}
 use Rattle.model.specs.Table.{link, live}
-use Rattle.model.specs.Cell.{cellSize, cellOf, goodCell}
+use Rattle.model.specs.Cell.{cellSize}
 use Rattle.model.specs.Numbering.{cellLink}
 use Rattle.model.specs.Meaning.Maps.{Dim}
 use Rattle.model.specs.Meaning.Places.{place, Listed}
-use Rattle.model.proofs.Lists.Scan.{test, if-eq, clash, and-l, and-r, and-i, or-cases, or-i, below-at, below-of, below-not}
+use Rattle.model.proofs.Lists.Scan.{test, if-eq, clash, and-l, and-r, or-cases, or-i, below-at, below-of, below-not}
 use Rattle.model.proofs.Lists.Scan.{below-both, length-tab, getD-tab}
 use Rattle.model.proofs.Maps.Dim.{two-cases}
 use Rattle.model.proofs.Maps.Tables.{live-below, rule-at}
 use Rattle.model.proofs.Cells.Rows.{rows-in, row-comes}
 use Rattle.model.proofs.Cells.Cell.{cell-live, place-in}
-use Rattle.model.proofs.Cells.Exact.{good-exactly}
-use Rattle.reading.proofs.Rules.{same-test}
 use Rattle.cells.specs.Rows.{lastLink, testRows, places, computed}
 use Rattle.cells.specs.Good.{MapDart, TestRow, fitsRow, allFit, notAgain, onlyFirst}
 

@@ -5,26 +5,29 @@
 use Prim.Native.Nat.{ℕ, zero, suc, _+_, _*_, _/_, _%_, _-_, _≤_, _<_}
 use mathlib.Core.Path.{_≡_, refl, sym, ap, _∙_, subst}
 use mathlib.Core.Logic.{_≢_, inr}
-use mathlib.Core.Bool.{Bool, true, false, not, _&&_, _||_}
+use mathlib.Core.Bool.{Bool, true, false, not, _&&_}
 use mathlib.Core.List.{List}
 use native.Mathlib.Nat.{le-refl, suc-mul, le-div-iff-mul-le}
 use native.Mathlib.Omega.{arith}
 use lib.ListN.{length, getD, take, drop}
 use lib.Dec.{eqb, ltb}
 use borrow.Author.Tests.{ltb-true, eqb-true, eqb-false, eq-eqb, ne-eqb, not-true, not-false}
-use Rattle.model.specs.Lists.{allBelow}
-use Rattle.model.specs.Table.{link, live}
+use Rattle.model.specs.Lists.{indexOf, allBelow}
+use Rattle.model.specs.Table.{link}
 use Rattle.model.specs.Cell.{cellSize}
 use Rattle.model.specs.Numbering.{cellLink}
 use Rattle.model.specs.Sew.{side}
 use Rattle.model.specs.Meaning.Maps.{Dim, Straight}
 use Rattle.model.specs.Meaning.Sets.{Marked}
+use Rattle.model.specs.Meaning.Sizes.{member}
 use Rattle.model.specs.Meaning.Pairings.{OnSide}
 use Rattle.model.specs.Meaning.Places.{place, Follows, Chart}
-use Rattle.model.proofs.Lists.Scan.{test, if-eq, if-lt, clash, and-l, and-r, or-i, below-at, below-of, below-both, below-not}
+use Rattle.model.proofs.Lists.Scan.{if-eq, clash, and-l, and-r, or-i, below-at, below-of, below-not}
+use Rattle.model.proofs.Lists.Ones.{member-in, index-in, getD-index}
 use Rattle.model.proofs.Maps.Dim.{two-cases}
 use Rattle.model.proofs.Maps.Tables.{live-below}
 use Rattle.model.proofs.Sewing.Side.{side-own, side-far, side-within, straight-side}
+use Rattle.model.proofs.Cells.Chart.{chart-one}
 use Rattle.cells.specs.Rows.{sideSize, sidePlaces, places, computed}
 use Rattle.cells.specs.Good.{MapDart, SidePlaces, notLed, isStraight, nthSide, allStraight}
 use Rattle.cells.proofs.Good.{places-length, places-at, place-live}
@@ -32,15 +35,19 @@ use Rattle.cells.proofs.Good.{places-length, places-at, place-live}
 -- ---- the test that link n does not lead to a place
 
 module _ (n : ℕ) (t cell side : List ℕ) where
+  -- where it leads
+  abbrev Leads : ℕ → Type 0
+  Leads to = to ≡ link t n (getD cell (getD side 0 0) 0)
+
   pub first-not-led : notLed n t cell side 0 ≡ true
   unfolding notLed
   first-not-led = refl
 
-  pub not-led : (k to : ℕ) → to ≡ link t n (getD cell (getD side 0 0) 0) → getD cell (getD side k 0) 0 ≢ to → notLed n t cell side k ≡ true
+  pub not-led : (k to : ℕ) → Leads to → getD cell (getD side k 0) 0 ≢ to → notLed n t cell side k ≡ true
   unfolding notLed
   not-led k to e h = or-i (eqb k 0) _ (inr (ap not (ne-eqb _ _ (λ q. h (q ∙ sym e)))))
 
-  pub led : (k to : ℕ) → 0 < k → to ≡ link t n (getD cell (getD side 0 0) 0) → getD cell (getD side k 0) 0 ≡ to → notLed n t cell side k ≡ false
+  pub led : (k to : ℕ) → 0 < k → Leads to → getD cell (getD side k 0) 0 ≡ to → notLed n t cell side k ≡ false
   unfolding notLed
   led k to some e h = rw (ne-eqb k 0 (λ q. omega arith), eq-eqb _ _ (h ∙ e))
 
@@ -61,23 +68,21 @@ side-at sides size k =
 abbrev sideOf : ℕ → ℕ → List ℕ
 sideOf n k = nthSide (sidePlaces n) (sideSize n) k
 
-inRow : List ℕ → ℕ → Bool
-inRow row p = not (allBelow (length row) (λ j. not (eqb (getD row j 0) p)))
+-- where in a row a place stands that is in it
+member-at : (row : List ℕ) (p : ℕ) → member row p ≡ true → (j : ℕ) × (j < length row) × (getD row j 0 ≡ p)
+member-at row p h = let i = member-in row p h in (indexOf p row, index-in row p i, getD-index row p 0 i)
 
-in-row : (row : List ℕ) (p : ℕ) → inRow row p ≡ true → (j : ℕ) × (j < length row) × (getD row j 0 ≡ p)
-unfolding inRow
-in-row row p h =
-    let (j, l, f) = below-not (λ j. not (eqb (getD row j 0) p)) (length row) (not-true _ h) in
-    (j, l, eqb-true _ _ (not-false _ f))
+-- the link by which the j-th place of a row leads to the next: 0, 1, 0, .., for n = 2 always 0
+abbrev turn : ℕ → ℕ → ℕ
+turn n j = j % 2 * (n - 2)
 
--- link i leads from the j-th place of the row to the next, and that is not the first again
+-- so it does, and the next place is not the first again
 isNext : ℕ → List ℕ → ℕ → Bool
-isNext n row j =
-    eqb (getD row (suc j) 0) (cellLink n (j % 2 * (n - 2)) (getD row j 0)) && not (eqb (getD row (suc j) 0) (getD row 0 0))
+isNext n row j = eqb (getD row (suc j) 0) (cellLink n (turn n j) (getD row j 0)) && not (eqb (getD row (suc j) 0) (getD row 0 0))
 
--- a place of the row is one of the cell, and links 0..n-2 lead from it to places of the row
+-- the j-th place of the row is one of the cell, and links 0..n-2 lead from it to places of the row
 isKept : ℕ → List ℕ → ℕ → Bool
-isKept n row j = ltb (getD row j 0) (cellSize n) && allBelow (n - 1) (λ i. inRow row (cellLink n i (getD row j 0)))
+isKept n row j = ltb (getD row j 0) (cellSize n) && allBelow (n - 1) (λ i. member row (cellLink n i (getD row j 0)))
 
 isSide : ℕ → List ℕ → Bool
 isSide n row =
@@ -85,7 +90,7 @@ isSide n row =
 
 -- the place p is in one of the sides
 inSides : ℕ → ℕ → Bool
-inSides n p = not (allBelow (2 * n) (λ k. not (inRow (sideOf n k) p)))
+inSides n p = not (allBelow (2 * n) (λ k. not (member (sideOf n k) p)))
 
 record Rows (n : ℕ) : Type 0 where
   number : length (sidePlaces n) / sideSize n ≡ 2 * n
@@ -94,7 +99,7 @@ record Rows (n : ℕ) : Type 0 where
   all : allBelow (cellSize n) (inSides n) ≡ true
 
 rows-true : (n : ℕ) → Dim n → Rows n
-unfolding inRow isNext isKept isSide inSides nthSide computed
+unfolding member isNext isKept isSide inSides nthSide computed
 rows-true n dim = two-cases n dim Rows
     (record { number = refl; some = omega arith; sides = refl; all = refl })
     (record { number = refl; some = omega arith; sides = refl; all = refl })
@@ -102,7 +107,7 @@ rows-true n dim = two-cases n dim Rows
 -- a row, by what the tests say
 record Side (n : ℕ) (row : List ℕ) : Type 0 where
   long : length row ≡ sideSize n
-  next : (j : ℕ) → suc j < sideSize n → getD row (suc j) 0 ≡ cellLink n (j % 2 * (n - 2)) (getD row j 0)
+  next : (j : ℕ) → suc j < sideSize n → getD row (suc j) 0 ≡ cellLink n (turn n j) (getD row j 0)
   other : (j : ℕ) → suc j < sideSize n → getD row (suc j) 0 ≢ getD row 0 0
   low : (j : ℕ) → j < sideSize n → getD row j 0 < cellSize n
   kept : (j i : ℕ) → j < sideSize n → i + 2 ≤ n → (k : ℕ) × (k < sideSize n) × (getD row k 0 ≡ cellLink n i (getD row j 0))
@@ -111,16 +116,19 @@ is-side : (n : ℕ) (row : List ℕ) → isSide n row ≡ true → Side n row
 unfolding isSide isNext isKept
 is-side n row h = record {
   long = long;
-  next = λ j l. eqb-true _ _ (and-l (eqb (getD row (suc j) 0) (cellLink n (j % 2 * (n - 2)) (getD row j 0))) _ (step j l));
-  other = λ j l. eqb-false _ _ (not-true _ (and-r (eqb (getD row (suc j) 0) (cellLink n (j % 2 * (n - 2)) (getD row j 0))) _ (step j l)));
+  next = λ j l. eqb-true _ _ (and-l (leads j) _ (step j l));
+  other = λ j l. eqb-false _ _ (not-true _ (and-r (leads j) _ (step j l)));
   low = λ j l. ltb-true _ _ (and-l (ltb (getD row j 0) (cellSize n)) _ (each j l));
   kept = λ j i l b.
-      let there = below-at (λ i. inRow row (cellLink n i (getD row j 0))) (n - 1)
+      let there = below-at (λ i. member row (cellLink n i (getD row j 0))) (n - 1)
       (and-r (ltb (getD row j 0) (cellSize n)) _ (each j l)) i (omega arith) in
-      let (k, low, e) = in-row row (cellLink n i (getD row j 0)) there in
+      let (k, low, e) = member-at row (cellLink n i (getD row j 0)) there in
       (k, omega (arith, long), e);
 }
   where
+    leads : ℕ → Bool
+    leads j = eqb (getD row (suc j) 0) (cellLink n (turn n j) (getD row j 0))
+
     long : length row ≡ sideSize n
     long = eqb-true _ _ (and-l (eqb (length row) (sideSize n)) _ h)
 
@@ -137,10 +145,11 @@ side-is : (n k : ℕ) → Dim n → k < 2 * n → Side n (sideOf n k)
 side-is n k dim l = is-side n _ (below-at (λ k. isSide n (sideOf n k)) (2 * n) (rows-true n dim .sides) k l)
 
 -- each place is in a side
-in-a-side : (n p : ℕ) → Dim n → p < cellSize n → (k : ℕ) × (k < 2 * n) × (inRow (sideOf n k) p ≡ true)
+in-a-side : (n p : ℕ) → Dim n → p < cellSize n → (k : ℕ) × (k < 2 * n) × (member (sideOf n k) p ≡ true)
 unfolding inSides
 in-a-side n p dim l =
-    let (k, low, f) = below-not (λ k. not (inRow (sideOf n k) p)) (2 * n) (not-true _ (below-at (inSides n) (cellSize n) (rows-true n dim .all) p l)) in
+    let one = below-at (inSides n) (cellSize n) (rows-true n dim .all) p l in
+    let (k, low, f) = below-not (λ k. not (member (sideOf n k) p)) (2 * n) (not-true _ one) in
     (k, low, not-false _ f)
 
 -- ---- the sides of a listed cell
@@ -187,9 +196,9 @@ module _ {n : ℕ} {t : List ℕ} {d : ℕ} (D : MapDart n t d) where
     row-in : (j : ℕ) → j < sideSize n → Marked darts (dart j)
     row-in zero l = side-own on
     row-in (suc j) l =
-        let i = j % 2 * (n - 2) in
+        let i = turn n j in
         let top = dim .1 in
-        let near : i + 2 ≤ n = two-cases n dim (λ n. j % 2 * (n - 2) + 2 ≤ n) (omega arith) (omega arith) in
+        let near : i + 2 ≤ n = two-cases n dim (λ n. turn n j + 2 ≤ n) (omega arith) (omega arith) in
         let at : link t i (dart j) ≡ dart (suc j)
         = follow i (getD row j 0) (omega arith) (s .low j (omega arith)) ∙ ap (place n t d) (sym (s .next j l)) in
         subst (Marked darts) at (side-far on (dart j) i (row-in j (omega arith)) (inr near) (omega arith))
@@ -203,7 +212,7 @@ module _ {n : ℕ} {t : List ℕ} {d : ℕ} (D : MapDart n t d) where
     cell-at : (j : ℕ) → j < sideSize n → getD cell (getD row j 0) 0 ≡ dart j
     cell-at j l = places-at D _ (s .low j l)
 
-    first-to : link t n (dart 0) ≡ link t n (getD cell (getD row 0 0) 0)
+    first-to : Leads n t cell row (link t n (dart 0))
     first-to = ap (link t n) (sym (cell-at 0 some))
 
     test-straight : isStraight n t cell row ≡ true → Straight n t (dart 0)
@@ -214,10 +223,9 @@ module _ {n : ℕ} {t : List ℕ} {d : ℕ} (D : MapDart n t d) where
         let passed = below-at (notLed n t cell row) (length row) h j (rw (s .long) l) in
         absurd (clash passed (led n t cell row j (link t n (dart 0)) (omega arith) first-to (cell-at j l ∙ sym e))))
 
-    straight-test : ((a b : ℕ) → a < cellSize n → b < cellSize n → place n t d a ≡ place n t d b → a ≡ b)
-        → Straight n t (dart 0) → isStraight n t cell row ≡ true
+    straight-test : Chart n t (place n t d) → Straight n t (dart 0) → isStraight n t cell row ≡ true
     unfolding isStraight
-    straight-test one straight = below-of _ _ each
+    straight-test chart straight = below-of _ _ each
       where
         each : (j : ℕ) → j < length row → notLed n t cell row j ≡ true
         each zero l = first-not-led n t cell row
@@ -226,7 +234,7 @@ module _ {n : ℕ} {t : List ℕ} {d : ℕ} (D : MapDart n t d) where
             not-led n t cell row (suc j) (link t n (dart 0)) first-to (λ e.
             let here = sym (cell-at (suc j) low) ∙ e in
             let own = straight (subst (Marked darts) here (row-in (suc j) low)) in
-            s .other j low (one _ _ (s .low (suc j) low) (s .low 0 some) (here ∙ own)))
+            s .other j low (chart-one chart _ _ (s .low (suc j) low) (s .low 0 some) (here ∙ own)))
 
   -- ---- all sides
 
@@ -237,7 +245,7 @@ module _ {n : ℕ} {t : List ℕ} {d : ℕ} (D : MapDart n t d) where
       let (k, low, f) = in-a-side n p dim l in
       let row = sideOf n k in
       let s = side-is n k dim low in
-      let (j, lj, e) = in-row row p f in
+      let (j, lj, e) = member-at row p f in
       let number = rows-true n dim .number in
       let tested = below-at (λ k. isStraight n t cell (sideOf n k)) (length (sidePlaces n) / sideSize n) h k (rw number low) in
       subst (λ (p : ℕ). Straight n t (place n t d p)) e
@@ -248,11 +256,7 @@ module _ {n : ℕ} {t : List ℕ} {d : ℕ} (D : MapDart n t d) where
   unfolding allStraight
   straight-all chart straight = below-of _ _ (λ k l.
       let s = side-is n k dim (rw (rows-true n dim .number) at l) in
-      straight-test (chart .follow) (sideOf n k) s one (straight _ (s .low 0 (rows-true n dim .some))))
-    where
-      one : (a b : ℕ) → a < cellSize n → b < cellSize n → place n t d a ≡ place n t d b → a ≡ b
-      one a b ha hb e = if-eq a b (λ q. q)
-          (λ q. if-lt a b (λ h. absurd (chart .apart a b h hb e)) (λ h. absurd (chart .apart b a (omega arith) ha (sym e))))
+      straight-test (chart .follow) (sideOf n k) s chart (straight _ (s .low 0 (rows-true n dim .some))))
 
 pub some-side : (n : ℕ) → Dim n → 0 < sideSize n
 some-side n dim = rows-true n dim .some

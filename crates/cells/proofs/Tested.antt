@@ -5,8 +5,7 @@ use mathlib.Core.Path.{_≡_, refl, sym, _∙_}
 use mathlib.Core.Bool.{Bool, true, false, _&&_}
 use mathlib.Core.List.{List, []}
 use lib.ListN.{length, getD}
-use Rattle.model.specs.Cell.{cellSize, cellOf, goodCell}
-use Rattle.model.specs.Meaning.Places.{place, Listed}
+use Rattle.model.specs.Cell.{cellOf, goodCell}
 use Rattle.model.proofs.Lists.Scan.{and-l, and-r, and-i}
 use Rattle.model.proofs.Cells.Cell.{good-chart}
 use Rattle.model.proofs.Cells.Exact.{good-exactly}

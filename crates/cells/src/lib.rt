@@ -110,7 +110,8 @@ fn is_straight(n: u32, table: &[u32], cell: &[u32], side: &[u8]) -> bool
 // Whether no side is folded. The sides, of one size, have their places one side after the other. Link n carries a side onto a
 // side, so one dart of each is looked at.
 fn all_straight(n: u32, table: &[u32], cell: &[u32], sides: &[u8], size: usize) -> bool
-    requires { ⌜ (0 < size) × ((k : ℕ) → k < length (now sides) / size → SidePlaces n (now table) (now cell) (nthSide (now sides) size k)) ⌝ }
+    requires { ⌜ 0 < size ⌝ }
+    requires { ⌜ ((k : ℕ) → k < length (now sides) / size → SidePlaces n (now table) (now cell) (nthSide (now sides) size k)) ⌝ }
     ensures { λ r. ⌜ r ≡ allStraight n (now (table .entry)) (now (cell .entry)) (now (sides .entry)) size ⌝ }
 {
     let count = sides.len() / size;

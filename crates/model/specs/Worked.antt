@@ -1,4 +1,5 @@
--- The small maps that document 01 has worked, 1 to 14, and those of 02's requests: each fact of them, as one table with one statement.
+-- The small maps that document 01 has worked, 1 to 14, and some of 02's requests: each fact of them, as one table with one
+-- statement.
 -- The lengths of case 14, too long to compute with, follow from the check.
 use Prim.Native.Nat.{ℕ}
 use mathlib.Core.Path.{_≡_, refl}
@@ -31,14 +32,14 @@ bent = Call.add ∷ Call.sew 2 5 2 ∷ []
 unlinked : List Call
 unlinked = Call.add ∷ Call.unsew 0 0 ∷ []
 
--- a quad whose edge of 5 and 7 is sewn onto itself
-folding : List ℕ
-folding =
+-- R-4: a quad whose edge of 5 and 7 is sewn onto itself
+foldedEdge : List ℕ
+foldedEdge =
     1 ∷ 4 ∷ 0 ∷ 0 ∷ 0 ∷ 5 ∷ 1 ∷ 1 ∷ 3 ∷ 6 ∷ 2 ∷ 2 ∷ 2 ∷ 7 ∷ 3 ∷ 3
     ∷ 6 ∷ 0 ∷ 4 ∷ 4 ∷ 7 ∷ 1 ∷ 7 ∷ 5 ∷ 4 ∷ 2 ∷ 6 ∷ 6 ∷ 5 ∷ 3 ∷ 5 ∷ 7 ∷ []
 
--- a hexahedron whose face of 0 is folded along its diagonal: its link 1 is undone at two corners, and sewn again when the
--- halves of the face are sewn to each other
+-- R-4: a hexahedron whose face of 0 is sewn onto itself, turned about its middle: link 1 is undone at two corners, the halves
+-- of the face are sewn to each other, and link 1 is sewn again
 foldedFace : List Call
 foldedFace = Call.add ∷ Call.unsew 1 0 ∷ Call.unsew 1 19 ∷ Call.sew 3 0 3 ∷ Call.sew 1 0 16 ∷ []
 
@@ -47,8 +48,8 @@ row : ℕ → ℕ → ℕ → ℕ → List Call → Call → List Seen → Case
 row l n s w before c ss = record { label = l; dim = n; start = begin s w; before = before; call = c; seen = ss }
 
 -- the same of a table that is given, with no calls before
-on : ℕ → ℕ → List ℕ → ℕ → Call → List Seen → Case
-on l n t w c ss = record { label = l; dim = n; start = beginOn t w; before = []; call = c; seen = ss }
+rowOn : ℕ → ℕ → List ℕ → ℕ → Call → List Seen → Case
+rowOn l n t w c ss = record { label = l; dim = n; start = beginOn t w; before = []; call = c; seen = ss }
 
 pub cases : List Case
 cases =
@@ -79,14 +80,14 @@ cases =
     ∷ row 1402 2 24 600 three (Call.orbit 6 5) (gives 0 1 4 ∷ [])
     ∷ row 1403 2 0 2 [] Call.check (gives 0 0 2 ∷ [])
     ∷ row 10401 2 8 200 bent Call.check (gives 0 0 2 ∷ [])
-    ∷ on 10402 2 folding 200 Call.check (gives 0 0 1 ∷ [])
-    ∷ on 10403 2 folding 200 (Call.sheet 5) (gives 8 0 0 ∷ marksAre (replicate 8 0) ∷ [])
+    ∷ rowOn 10402 2 foldedEdge 200 Call.check (gives 0 0 1 ∷ [])
+    ∷ rowOn 10403 2 foldedEdge 200 (Call.sheet 5) (gives 8 0 0 ∷ marksAre (replicate 8 0) ∷ [])
     ∷ row 10404 3 48 2000 foldedFace Call.check (gives 0 0 1 ∷ goes 0 3 3 ∷ [])
     ∷ row 10405 3 48 2000 foldedFace (Call.sheet 47) (gives 8 0 0 ∷ [])
     ∷ []
 
 pub all-hold : failing cases ≡ []
-unfolding everything liveCount cases row on quad three halves bent unlinked folding foldedFace failing holds holdsFrom seesAll sees begin beginOn doAll doCall keeping equal
+unfolding everything liveCount cases row rowOn quad three halves bent unlinked foldedEdge foldedFace failing holds holdsFrom seesAll sees begin beginOn doAll doCall keeping equal
 all-hold = refl
 
 -- 14: "262,144 entries pass check 2, 262,148 don't"

@@ -6,7 +6,7 @@ use mathlib.Core.List.{List, []}
 use Rattle.model.specs.Lists.{ones}
 use Rattle.model.specs.Table.{live}
 use Rattle.model.specs.Map.{isMap}
-use Rattle.model.specs.Cell.{cellSize, isBlock}
+use Rattle.model.specs.Cell.{cellSize}
 use Rattle.model.specs.Sheet.{sheet}
 use Rattle.model.specs.Add.{addSlots, addTable}
 use Rattle.model.specs.Sew.{isPaired, sewTable, unsewTable}
@@ -19,7 +19,8 @@ use Rattle.model.specs.Meaning.Maps.{MapTable, Straight, BlockTable, Kee
 use Rattle.model.specs.Meaning.Pairings.{OnSide, Sewable}
 use Rattle.model.proofs.Lists.Ones.{vacant-frees}
 use Rattle.model.proofs.Maps.Rules.{of-map}
-use Rattle.model.proofs.Cells.Chart.{block-of, of-block, block-straight, relink-block}
+use Rattle.model.proofs.Cells.Exact.{block-of, of-block}
+use Rattle.model.proofs.Cells.Chart.{block-straight, relink-block}
 use Rattle.model.proofs.Cells.Add.{add-map, add-block}
 use Rattle.model.proofs.Operations.Relink.{Relinked, relinked-table}
 use Rattle.model.proofs.Sewing.Sew.{sew-relinked}
@@ -50,10 +51,12 @@ module _ (n : ℕ) (t j : List ℕ) where
 
 -- ---- unsew, sew
 
--- the links i are made anew; no side is folded by it, where i is n
-keeps-at : {n : ℕ} {t u : List ℕ} {i : ℕ} → MapTable n t → i ≤ n → Relinked n t i u
-    → (i ≡ n → (x : ℕ) → live t x ≡ true → Straight n t x → Straight n u x)
-    → KeepsAt i n t u
+-- a live dart of t whose side is not folded has none folded in u
+abbrev StayStraight : ℕ → List ℕ → List ℕ → Type 0
+StayStraight n t u = (x : ℕ) → live t x ≡ true → Straight n t x → Straight n u x
+
+-- the links i are made anew
+keeps-at : {n : ℕ} {t u : List ℕ} {i : ℕ} → MapTable n t → i ≤ n → Relinked n t i u → (i ≡ n → StayStraight n t u) → KeepsAt i n t u
 keeps-at {n} {t} {u} {i} T low made straight = (
   of-map n u (relinked-table T low made .map),
   λ e h.
@@ -73,16 +76,14 @@ module _ (n : ℕ) (t j : List ℕ) (i d : ℕ) where
       let passed = unsew-passed n t j i d (r .0) in
       let on = unsew-side passed in
       rw (r .1) (keeps-at (passed .table) (passed .index) (unsew-relinked on) (λ e.
-      subst (λ (k : ℕ). OnSide n t k d → (x : ℕ) → live t x ≡ true → Straight n t x → Straight n (unsewTable n t k d) x) (sym e)
-      unsew-straight on))
+      subst (λ (k : ℕ). OnSide n t k d → StayStraight n t (unsewTable n t k d)) (sym e) unsew-straight on))
 
 module _ (n : ℕ) (t j : List ℕ) (i d e : ℕ) where
   sew-keeps : SidesPassed n t i d e → isPaired n t i d e ≡ true → KeepsAt i n t (sewTable n t i d e)
   sew-keeps passed h =
       let able = sides-sewable passed h in
       keeps-at (passed .table) (passed .index) (sew-relinked able) (λ q.
-      subst (λ (k : ℕ). Sewable n t k d e → (x : ℕ) → live t x ≡ true → Straight n t x → Straight n (sewTable n t k d e) x) (sym q)
-      sew-straight able)
+      subst (λ (k : ℕ). Sewable n t k d e → StayStraight n t (sewTable n t k d e)) (sym q) sew-straight able)
 
   pub sew-call : sewCall n t j i d e .number ≡ 0 → KeepsAt i n t (sewCall n t j i d e .table)
   unfolding doCall callOf keeping effect

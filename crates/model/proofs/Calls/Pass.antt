@@ -30,7 +30,7 @@ use Rattle.model.specs.Meaning.Sets.{Marked}
 use Rattle.model.specs.Meaning.Sheets.{BlockDart}
 use Rattle.model.proofs.Lists.Scan.{clash, and-l, and-r}
 use Rattle.model.proofs.Maps.Rules.{map-of}
-use Rattle.model.proofs.Cells.Chart.{block-of}
+use Rattle.model.proofs.Cells.Exact.{block-of}
 use Rattle.model.proofs.Calls.Tests.{or-holds}
 use Rattle.model.proofs.Calls.Checks.{must-at-0, not-pass, passed-at, passed-number, passed-append}
 

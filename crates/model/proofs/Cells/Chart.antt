@@ -1,6 +1,6 @@
 -- Maps by their live slots, and block maps by charts: a chart lists a cell's darts by their places.
 -- Main theorems: `ruled-table`; `block-by` (each live dart is in a chart, and no side is folded), `place-chart` (the places are
--- one), `relink-block`; `block-of` and `of-block` (the block test).
+-- one), `relink-block`.
 use Prim.Native.Nat.{ℕ, _+_, _*_, _≤_, _<_}
 use mathlib.Core.Path.{_≡_, sym, ap, _∙_, subst}
 use mathlib.Core.Logic.{_⊎_, ⊎-elim}
@@ -9,16 +9,14 @@ use mathlib.Core.List.{List}
 use native.Mathlib.Nat.{le-refl}
 use native.Mathlib.Omega.{arith}
 use lib.ListN.{length}
-use borrow.Author.Tests.{eqb-true, eq-eqb}
 use Rattle.model.specs.Table.{slots, link, walk, live, relink}
-use Rattle.model.specs.Cell.{cellSize, cellOf, goodCell, isBlock, leastWrong, inWrongCell}
+use Rattle.model.specs.Cell.{cellSize, cellOf, goodCell}
 use Rattle.model.specs.Numbering.{cellLink}
 use Rattle.model.specs.Meaning.Sets.{Marked}
 use Rattle.model.specs.Meaning.Maps.{Dim, Map, MapTable, Straight, BlockTable}
 use Rattle.model.specs.Meaning.Places.{path, place, AtPlace, Chart}
 use Rattle.model.proofs.Lists.Scan.{if-eq, if-lt, clash}
 use Rattle.model.proofs.Maps.Dim.{size-some}
-use Rattle.model.proofs.Maps.Failing.{failing, none-failing}
 use Rattle.model.proofs.Maps.Rules.{live-by, Relinking, relink-table, relink-slots, relink-live, relink-link, at-other}
 use Rattle.model.proofs.Maps.Tables.{mapTable, live-below, rule-at}
 use Rattle.model.proofs.Cells.Rows.{small, walk-keeps, walk-rows, rows-in, path-small, path-leads, path-zero}
@@ -90,6 +88,12 @@ module _ {n : ℕ} {u : List ℕ} (U : MapTable n u) (c : ℕ → ℕ) (ch : Cha
       ap (goodCell n u) (cell-same U (c 0) (c k) base (chart-in k h))
       ∙ chart-good U (c 0) base chart-places (λ k h. subst (Straight n u) (sym (chart-place k h)) (straight k h))
 
+-- a dart is at one place
+pub chart-one : {n : ℕ} {u : List ℕ} {c : ℕ → ℕ} → Chart n u c
+    → (a b : ℕ) → a < cellSize n → b < cellSize n → c a ≡ c b → a ≡ b
+chart-one ch a b ha hb e = if-eq a b (λ q. q)
+    (λ q. if-lt a b (λ h. absurd (ch .apart a b h hb e)) (λ h. absurd (ch .apart b a (omega arith) ha (sym e))))
+
 -- a dart is in a chart
 pub record Charted (n : ℕ) (u : List ℕ) (x : ℕ) : Type 0 where
   pub c : ℕ → ℕ
@@ -154,9 +158,7 @@ module _ {n : ℕ} {t : List ℕ} (B : BlockTable n t) where
       all-places T y ly (place-chart y ly .follow) x (rw (sym (cell-same T x y l (place-in T x l k h))) at own)
 
   pub place-one : (d a b : ℕ) → live t d ≡ true → a < cellSize n → b < cellSize n → place n t d a ≡ place n t d b → a ≡ b
-  place-one d a b l ha hb e =
-      let apart = place-chart d l .apart in
-      if-eq a b (λ q. q) (λ q. if-lt a b (λ h. absurd (apart a b h hb e)) (λ h. absurd (apart b a (omega arith) ha (sym e))))
+  place-one d a b l = chart-one (place-chart d l) a b
 
   -- a chart of t whose darts keep their links below n is a chart of u
   pub chart-kept : (u : List ℕ) (c : ℕ → ℕ) → Chart n t c
@@ -202,20 +204,3 @@ relink-block {n} {t} {g} B c straight = block-by table charted (λ x h. straight
           low = some;
           is = place-zero B x l;
         }
-
--- ---- the block test
-
-module _ (n : ℕ) (t : List ℕ) where
-  pub block-of : MapTable n t → isBlock n t ≡ true → BlockTable n t
-  unfolding isBlock leastWrong inWrongCell failing
-  block-of T h = record {
-    dim = T .dim;
-    whole = T .whole;
-    few = T .few;
-    map = T .map;
-    good = λ d l. none-failing t (λ d. goodCell n t (cellOf n t d)) .0 (eqb-true _ _ h) d (live-below T d l) l;
-  }
-
-  pub of-block : BlockTable n t → isBlock n t ≡ true
-  unfolding isBlock leastWrong inWrongCell failing
-  of-block B = eq-eqb _ _ (none-failing t (λ d. goodCell n t (cellOf n t d)) .1 (λ d _ l. B .good d l))

@@ -1,7 +1,7 @@
 -- The block test says what 01 and 02's R-4 say of a block map, and a cell is good exactly if its places follow the numbering and
 -- no side is folded.
 -- Main theorems: `good-exactly` and `cell-places` (one cell), `block-exactly` (the test), `least-wrong` and `none-wrong` (the
--- place of refusal 8).
+-- place of refusal 8), `block-of` and `of-block` (what the test says of a table).
 use Prim.Native.Nat.{ℕ, _<_}
 use mathlib.Core.Path.{_≡_, sym, ap, _∙_}
 use mathlib.Core.Logic.{_↔_, _≢_, Iff·trans}
@@ -12,10 +12,10 @@ use borrow.Author.Tests.{eqb-true, eq-eqb}
 use Rattle.model.specs.Table.{slots, walk, live}
 use Rattle.model.specs.Cell.{cellSize, cellOf, goodCell, inWrongCell, leastWrong, isBlock}
 use Rattle.model.specs.Meaning.Sets.{Marked}
-use Rattle.model.specs.Meaning.Maps.{MapTable, GoodCell, Block, LeastFailing}
+use Rattle.model.specs.Meaning.Maps.{MapTable, BlockTable, GoodCell, Block, LeastFailing}
 use Rattle.model.specs.Meaning.Places.{place, AtPlace, Listed}
 use Rattle.model.proofs.Maps.Failing.{failing, least-failing, none-failing}
-use Rattle.model.proofs.Maps.Tables.{live-below}
+use Rattle.model.proofs.Maps.Tables.{mapTable, live-below}
 use Rattle.model.proofs.Cells.Rows.{small, rowWalk, row-walk-in, walk-rows, path-zero}
 use Rattle.model.proofs.Cells.Rows.{pathBack, back-small, back-leads, back-other}
 use Rattle.model.proofs.Cells.Cell.{good-cell, cell-own, cell-live, place-in, all-places, good-chart, chart-good}
@@ -99,10 +99,31 @@ module _ {n : ℕ} {t : List ℕ} (T : MapTable n t) where
         straight = λ x m. b .straight x (cell-live T d l x m);
       })
 
-  pub none-wrong : (leastWrong n t ≡ slots t) ↔ Block n t
+  -- no cell is wrong exactly if each is good
+  all-good : (leastWrong n t ≡ slots t) ↔ ((d : ℕ) → d < slots t → live t d ≡ true → goodCell n t (cellOf n t d) ≡ true)
   unfolding leastWrong inWrongCell failing
-  none-wrong = Iff·trans (none-failing t (λ x. goodCell n t (cellOf n t x))) block-cells
+  all-good = none-failing t (λ x. goodCell n t (cellOf n t x))
+
+  pub none-wrong : (leastWrong n t ≡ slots t) ↔ Block n t
+  none-wrong = Iff·trans all-good block-cells
 
   pub block-exactly : (isBlock n t ≡ true) ↔ Block n t
   unfolding isBlock
   block-exactly = (λ h. none-wrong .0 (eqb-true _ _ h), λ b. eq-eqb _ _ (none-wrong .1 b))
+
+-- ---- the block test, of a table as a whole
+
+module _ (n : ℕ) (t : List ℕ) where
+  pub block-of : MapTable n t → isBlock n t ≡ true → BlockTable n t
+  unfolding isBlock
+  block-of T h = record {
+    dim = T .dim;
+    whole = T .whole;
+    few = T .few;
+    map = T .map;
+    good = λ d l. all-good T .0 (eqb-true _ _ h) d (live-below T d l) l;
+  }
+
+  pub of-block : BlockTable n t → isBlock n t ≡ true
+  unfolding isBlock
+  of-block B = eq-eqb _ _ (all-good (mapTable B) .1 (λ d _ l. B .good d l))

@@ -18,7 +18,7 @@ use Rattle.model.specs.Numbering.{cellLink}
 use Rattle.model.specs.Add.{addSlots, addedLink, added, addTable}
 use Rattle.model.specs.Meaning.Sizes.{liveCount}
 use Rattle.model.specs.Meaning.Maps.{MapTable, Straight}
-use Rattle.model.proofs.Lists.Scan.{if-eq, if-lt, clash}
+use Rattle.model.proofs.Lists.Scan.{if-lt, clash}
 use Rattle.model.proofs.Lists.Ones.{getD-in, getD-index, index-in, in-or}
 use Rattle.model.proofs.Maps.Dim.{size-some}
 use Rattle.model.proofs.Maps.Rules.{link-out, live-by, slots-retable, length-retable}
