@@ -1,4 +1,5 @@
-/* yardstick.c - the calls of 01-scope.md, with 02's R-4, in C99, tuned: what a careful engineer gets without proofs.
+/* yardstick.c - the calls of 01-scope.md and the requests of 02 that have landed (R-4), in C99, tuned:
+ * what a careful engineer gets without proofs.
  *
  * Every call validates its whole input in one pass over the table and takes
  * time linear in slots plus entries written. Nothing is kept between calls but the lent buffers;
@@ -308,9 +309,11 @@ INLINE int order_sewn(const uint32_t *restrict table, uint32_t slots, const uint
     return 1;
 }
 
-/* Whether link 3 leads from the first dart of one of two opposite sides to another dart of that side. The last axis of both
- * has the bit z; p and x are its axis orders. Link 3 commutes with links 0 and 1, so one dart of a side tells for all. */
-INLINE int face_folded(const uint32_t *restrict l, const uint32_t *restrict out, uint32_t p, uint32_t x, uint32_t z)
+/* Whether link 3 leads from the first dart of one of two opposite faces to another dart of that
+ * face. Their last axis has the bit z, its axis orders are p and x. Link 3 commutes with links 0
+ * and 1, so one dart of a face tells for all. */
+INLINE int faces_folded(const uint32_t *restrict l, const uint32_t *restrict out,
+                        uint32_t p, uint32_t x, uint32_t z)
 {
     int folded = 0;
     for (uint32_t s = 0; s < 8; s++) {
@@ -322,8 +325,8 @@ INLINE int face_folded(const uint32_t *restrict l, const uint32_t *restrict out,
 }
 
 /* Links 0..n-1 of the listed darts are those of the numbering, all darts differ, link n turns
- * back and commutes, and no side is folded; for n = 2 also link 3 is the dart itself. The listing respects links, so
- * two places share a dart only if another place shares that of place 0. */
+ * back and commutes, and no side is folded; for n = 2 also link 3 is the dart itself. The listing
+ * respects links, so two places share a dart only if another place shares that of place 0. */
 INLINE int cell_fits(int n, const uint32_t *restrict table, uint32_t slots,
                      const uint32_t *restrict l)
 {
@@ -347,9 +350,9 @@ INLINE int cell_fits(int n, const uint32_t *restrict table, uint32_t slots,
             && order_sewn(table, slots, l, out, 3, 2, 5, even)
             && order_sewn(table, slots, l, out, 4, 4, 1, even)
             && order_sewn(table, slots, l, out, 5, 4, 3, odd)
-            && !face_folded(l, out, 0, 2, 4)
-            && !face_folded(l, out, 1, 4, 2)
-            && !face_folded(l, out, 3, 5, 1);
+            && !faces_folded(l, out, 0, 2, 4)
+            && !faces_folded(l, out, 1, 4, 2)
+            && !faces_folded(l, out, 3, 5, 1);
     for (uint32_t k = 0; k < 8; k++) {
         if (l[k] >= slots)
             return 0;
@@ -363,7 +366,8 @@ INLINE int cell_fits(int n, const uint32_t *restrict table, uint32_t slots,
         if (out[k] >= slots)
             return 0;
         const uint32_t *r = ROW(table, out[k]);
-        if ((r[2] ^ l[k]) | (r[0] ^ out[cell_link(2, k, 0)]) | (out[k] == l[cell_link(2, k, 0)]))
+        uint32_t m = cell_link(2, k, 0);
+        if ((r[2] ^ l[k]) | (r[0] ^ out[m]) | (out[k] == l[m]))
             return 0;
     }
     return 1;
