@@ -1,5 +1,6 @@
--- The cell of a live dart, and what makes it good: its darts are its places, each once, and their links follow the rows.
--- Main theorems: `good-cell` (the test says what 01 says), `cell-same`, `good-chart` and `chart-good`, `cell-words`.
+-- The cell of a live dart, and what makes it good: its darts are its places, each once, their links follow the rows, and no side
+-- is folded.
+-- Main theorems: `good-cell` (the test says what 01 and R-4 say), `cell-same`, `good-chart` and `chart-good`, `cell-words`.
 use Prim.Native.Nat.{ℕ, zero, suc, _+_, _<_}
 use mathlib.Core.Path.{_≡_, refl, sym, ap, _∙_, subst}
 use mathlib.Core.Logic.{_↔_, _≢_}
@@ -242,7 +243,7 @@ module _ {n : ℕ} {t : List ℕ} (T : MapTable n t) where
 
     -- ---- a cell with a chart, and with no folded side, is good
 
-    module _ (ch : Chart n t (place n t d)) (straight : (k : ℕ) → k < cellSize n → Straight n t (place n t d k)) where
+    module _ (ch : Chart n t (place n t d)) where
       rows-return : (w : List ℕ) → rowsReturn n w ≡ true → (x : ℕ) → Marked cell x → walk t w x ≡ x
       unfolding rowsReturn
       rows-return w h x m =
@@ -251,8 +252,8 @@ module _ {n : ℕ} {t : List ℕ} (T : MapTable n t) where
           let back = eqb-true _ _ (below-at (λ k. eqb (rowWalk n w k) k) (cellSize n) (and-r (small n w) _ h) k l) in
           ap (walk t w) e ∙ walk-rows n t (place n t d) (T .dim) (ch .follow) w k low l ∙ ap (place n t d) back ∙ sym e
 
-      pub chart-good : goodCell n t cell ≡ true
-      chart-good = good-cell n t cell .1 (record {
+      pub chart-good : ((k : ℕ) → k < cellSize n → Straight n t (place n t d k)) → goodCell n t cell ≡ true
+      chart-good straight = good-cell n t cell .1 (record {
         size = count-by cell (place n t d) (cellSize n) (all-places (ch .follow)) place-in (ch .apart);
         square = rows-return squareWord (square-returns n (T .dim));
         corner = λ e. rows-return cornerWord (subst (λ (k : ℕ). rowsReturn k cornerWord ≡ true) (sym e) corner-returns);

@@ -198,7 +198,8 @@ module _ {n : ℕ} {t m u : List ℕ} (L : Layer n t m) (R : Removes n t m u) wh
   pub layer-live : (x : ℕ) → (live u x ≡ true) ↔ ((live t x ≡ true) × (marked m x ≡ false))
   layer-live x = (λ l. of-live n u Remains ruled x (live-below layer-table x l) l, live-of n u Remains ruled x)
 
-  -- "Prove that remove then never makes one": the side of a remaining dart is what it was, and its walk ends outside of the side
+  -- "Prove that remove then never makes one": the side of a remaining dart is what it was, and where the walk from the dart
+  -- ends in that side, it ends at the dart
   layer-straight : (x : ℕ) → live u x ≡ true → Straight n u x
   layer-straight x l m =
       let (lx, out) = layer-live x .0 l in

@@ -2,8 +2,8 @@
 -- `past`: links far apart go past each other.
 -- `side-all`, `side-back`: what goes with the side's links holds of each of its darts, or of none; so it is with being i-free.
 -- `sides-parted`: when two sides have no dart in common. `side-same`: where the far links are the same, the sides are.
--- Of the sides for link n: `side-within` (what the links 0..n-2 keep), `straight-kept` (a side that stays is not folded),
--- `straight-side` (where one dart of a side is not folded, none is).
+-- Of the sides for link n: `side-within` (what the links 0..n-2 keep holds of a side), `straight-kept` (a side that stays is folded
+-- only if it was), `straight-side` (where one dart of a side is not folded, none is).
 use Prim.Native.Nat.{ℕ, suc, _+_, _*_, _≤_, _<_}
 use mathlib.Core.Path.{_≡_, refl, sym, ap, ap₂, _∙_, subst, fun-ext}
 use mathlib.Core.Logic.{inl, inr}
