@@ -58,8 +58,8 @@ enum phl_number {
     PHL_BROKEN_RECORD = 17       /* the record is broken, or its result is no map */
 };
 
-/* Whether the table is a map. Count: 1 for a map, 2 for a block map: each cell is a quad (n = 2) or a
- * hexahedron (n = 3), and no side of it is sewn onto itself. Numbers: 1 2 5. */
+/* Whether the table is a map. Count: 1 for a map, 2 for a block map: each cell is a quad (n = 2) or
+ * a hexahedron (n = 3), and no side of it is sewn onto itself. Numbers: 1 2 5. */
 uint32_t phl_check(uint32_t n, const uint32_t *table, size_t table_len,
                    uint32_t *place, uint32_t *count);
 

@@ -7,7 +7,7 @@ use mathlib.Core.Path.{_≡_, refl, sym, ap, _∙_, subst}
 use mathlib.Core.Logic.{_≢_, inr}
 use mathlib.Core.Bool.{Bool, true, false, not, _&&_}
 use mathlib.Core.List.{List}
-use native.Mathlib.Nat.{le-refl, suc-mul, le-div-iff-mul-le}
+use native.Mathlib.Nat.{suc-mul, le-div-iff-mul-le}
 use native.Mathlib.Omega.{arith}
 use lib.ListN.{length, getD, take, drop}
 use lib.Dec.{eqb, ltb}
@@ -26,7 +26,7 @@ use Rattle.model.proofs.Lists.Scan.{if-eq, clash, and-l, and-r, or-i, below-at,
 use Rattle.model.proofs.Lists.Ones.{member-in, index-in, getD-index}
 use Rattle.model.proofs.Maps.Dim.{two-cases}
 use Rattle.model.proofs.Maps.Tables.{live-below}
-use Rattle.model.proofs.Sewing.Side.{side-own, side-far, side-within, straight-side}
+use Rattle.model.proofs.Sewing.Side.{on-side, side-own, side-far, side-within, straight-side}
 use Rattle.model.proofs.Cells.Chart.{chart-one}
 use Rattle.cells.specs.Rows.{sideSize, sidePlaces, places, computed}
 use Rattle.cells.specs.Good.{MapDart, SidePlaces, notLed, isStraight, nthSide, allStraight}
@@ -161,9 +161,6 @@ module _ {n : ℕ} {t : List ℕ} {d : ℕ} (D : MapDart n t d) where
   abbrev dim : Dim n
   dim = D .table .dim
 
-  on-side : (p : ℕ) → p < cellSize n → OnSide n t n (place n t d p)
-  on-side p l = record { table = D .table; index = le-refl n; lives = place-live D p l }
-
   pub side-there : (k : ℕ) → k < length (sidePlaces n) / sideSize n → SidePlaces n t (places n t d) (nthSide (sidePlaces n) (sideSize n) k)
   side-there k l =
       let s = side-is n k dim (rw (rows-true n dim .number) at l) in
@@ -190,7 +187,7 @@ module _ {n : ℕ} {t : List ℕ} {d : ℕ} (D : MapDart n t d) where
     some = rows-true n dim .some
 
     on : OnSide n t n (dart 0)
-    on = on-side _ (s .low 0 some)
+    on = on-side (D .table) _ (place-live D _ (s .low 0 some))
 
     -- the darts at its places are in the side ..
     row-in : (j : ℕ) → j < sideSize n → Marked darts (dart j)

@@ -15,14 +15,13 @@ use Rattle.model.specs.Cell.{cellSize}
 use Rattle.model.specs.Add.{addedLink, added}
 use Rattle.model.specs.Numbering.{cellLink}
 use Rattle.model.specs.Meaning.Maps.{Map, MapTable, Straight, BlockTable}
-use Rattle.model.specs.Meaning.Pairings.{OnSide}
 use Rattle.model.specs.Meaning.Places.{place, Chart}
 use Rattle.model.proofs.Lists.Scan.{test, clash}
 use Rattle.model.proofs.Lists.Ones.{Vacant, getD-in, index-getD, index-out, index-in, getD-index, in-or}
 use Rattle.model.proofs.Maps.Dim.{size-some}
 use Rattle.model.proofs.Maps.Rules.{link-retable, slots-retable, length-retable}
 use Rattle.model.proofs.Maps.Tables.{mapTable, live-below, rule-at}
-use Rattle.model.proofs.Sewing.Side.{side-live, straight-kept}
+use Rattle.model.proofs.Sewing.Side.{on-side, side-live, straight-kept}
 use Rattle.model.proofs.Cells.Rows.{row-goes, row-comes, row-cross, row-plane, free-rows}
 use Rattle.model.proofs.Cells.Chart.{Ruled, ruled-table, of-live, live-of, live-same}
 use Rattle.model.proofs.Cells.Chart.{Charted, block-by, block-straight, place-chart, place-zero, place-live, chart-kept}
@@ -181,7 +180,7 @@ add-block {n} {t} {fs} B fresh enough = block-by table (λ x l. charted x (new-l
     straight : (x : ℕ) → New x → Straight n u x
     straight x (was l) =
         let top = B .dim .1 in
-        let on : OnSide n t n x = record { table = T; index = le-refl n; lives = l } in
+        let on = on-side T x l in
         straight-kept on u (λ y j near m. stays T fresh enough j y (omega arith) (side-live on y m))
         (stays T fresh enough n x (omega arith) l) (block-straight B x l)
     straight x (is k h e) = λ _.

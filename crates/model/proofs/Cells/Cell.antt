@@ -294,12 +294,15 @@ module _ {n : ℕ} {t : List ℕ} (T : MapTable n t) where
 
   -- ---- words in a good cell
 
+  -- a word leads to a place
+  pub word-place : (d : ℕ) → live t d ≡ true → goodCell n t (cellOf n t d) ≡ true
+      → (w : List ℕ) → small n w ≡ true → walk t w d ≡ place n t d (rowWalk n w 0)
+  word-place d ld good w h =
+      ap (walk t w) (path-zero n (T .dim) t d)
+      ∙ walk-rows n t (place n t d) (T .dim) (good-chart d ld good .follow) w 0 h (size-some n (T .dim))
+
   -- two words that agree in the rows agree at its darts
   pub cell-words : (d : ℕ) → live t d ≡ true → goodCell n t (cellOf n t d) ≡ true
       → (v w : List ℕ) → small n v ≡ true → small n w ≡ true → rowWalk n v 0 ≡ rowWalk n w 0 → walk t v d ≡ walk t w d
-  cell-words d ld good v w hv hw e = by-rows v hv ∙ ap (place n t d) e ∙ sym (by-rows w hw)
-    where
-      by-rows : (w : List ℕ) → small n w ≡ true → walk t w d ≡ place n t d (rowWalk n w 0)
-      by-rows w h =
-          ap (walk t w) (path-zero n (T .dim) t d)
-          ∙ walk-rows n t (place n t d) (T .dim) (good-chart d ld good .follow) w 0 h (size-some n (T .dim))
+  cell-words d ld good v w hv hw e =
+      word-place d ld good v hv ∙ ap (place n t d) e ∙ sym (word-place d ld good w hw)

@@ -26,7 +26,7 @@ use Rattle.model.proofs.Lists.Scan.{if-eq, clash, and-l, and-r, or-case
 use Rattle.model.proofs.Lists.Ones.{in-or}
 use Rattle.model.proofs.Maps.Dim.{two-cases, size-some}
 use Rattle.model.proofs.Maps.Tables.{mapTable, rule-at}
-use Rattle.model.proofs.Sewing.Side.{side-own, side-far, side-within}
+use Rattle.model.proofs.Sewing.Side.{on-side, side-own, side-far, side-within}
 use Rattle.model.proofs.Cells.Places.{same, same-eq}
 use Rattle.model.proofs.Cells.Rows.{rowWalk, small, walk-keeps, walk-rows, rows-in}
 use Rattle.model.proofs.Cells.Chart.{block-straight, place-chart, place-zero, place-one}
@@ -92,7 +92,7 @@ module _ {n : ℕ} {t gs fs : List ℕ} (C : Cut n t gs fs) where
 
   module _ (h : ℕ) (l : live t h ≡ true) where
     on : OnSide n t n h
-    on = record { table = mapTable B; index = le-refl n; lives = l }
+    on = on-side (mapTable B) h l
 
     abbrev D : List ℕ
     D = side n t n h
@@ -155,7 +155,6 @@ module _ {n : ℕ} {t gs fs : List ℕ} (C : Cut n t gs fs) where
 
   old-straight : (x : ℕ) → live t x ≡ true → Straight n after x
   old-straight x l m =
-      let top = dim .1 in
       same ∙ block-straight B x l (found (low-side x l x (own l (side-own (on x l))) (link after n x) m))
     where
       same : link after n x ≡ link t n x

@@ -5,14 +5,13 @@ use Prim.Native.Nat.{ℕ, zero, suc}
 use mathlib.Core.Path.{_≡_, refl, sym, ap, _∙_, subst}
 use mathlib.Core.Bool.{true}
 use mathlib.Core.List.{List}
-use native.Mathlib.Nat.{le-refl}
 use Rattle.model.specs.Table.{link, walk, live}
 use Rattle.model.specs.Sew.{side}
 use Rattle.model.specs.Meaning.Maps.{BlockTable}
 use Rattle.model.specs.Meaning.Sets.{Marked}
-use Rattle.model.specs.Meaning.Pairings.{OnSide}
 use Rattle.model.specs.Meaning.Walks.{hop, Reaches, arrived, onward}
 use Rattle.model.proofs.Maps.Tables.{mapTable}
+use Rattle.model.proofs.Sewing.Side.{on-side}
 use Rattle.model.proofs.Cells.Chart.{block-straight}
 use Rattle.model.proofs.Layers.Walk.{facing, facing-twice, link-live, link-back, hop-live, hop-back}
 use Rattle.model.proofs.Layers.Near.{Near, near-side, side-near, near-live, near-link, near-facing, facing-other}
@@ -55,9 +54,8 @@ module _ {n : ℕ} {t : List ℕ} (B : BlockTable n t) where
     mirror zero y l e =
         let z = link t n y in
         let lz = link-live B y l in
-        let on : OnSide n t n z = record { table = mapTable B; index = le-refl n; lives = lz } in
         let there : Marked (side n t n z) (link t n z)
-        = subst (Marked (side n t n z)) (sym e ∙ sym (link-back B y l)) (near-side on near) in
+        = subst (Marked (side n t n z)) (sym e ∙ sym (link-back B y l)) (near-side (on-side (mapTable B) z lz) near) in
         let free : z ≡ y = sym (block-straight B z lz there) ∙ link-back B y l in
         ap moved (sym free) ∙ sym e
     -- the middle is an opposite side

@@ -18,13 +18,14 @@ use Rattle.model.specs.Everything.{everything}
 use Rattle.model.specs.Meaning.Maps.{Dim, BlockTable}
 use Rattle.model.specs.Meaning.Sets.{Marked}
 use Rattle.model.specs.Meaning.Pairings.{OnSide}
-use Rattle.model.specs.Meaning.Places.{path, place}
+use Rattle.model.specs.Meaning.Places.{path}
 use Rattle.model.proofs.Lists.Scan.{clash, and-l, or-cases, below-at}
 use Rattle.model.proofs.Maps.Dim.{two-cases, size-some}
 use Rattle.model.proofs.Maps.Tables.{mapTable, rule-at}
 use Rattle.model.proofs.Sewing.Side.{side-own, side-far, side-within}
-use Rattle.model.proofs.Cells.Rows.{small, rowWalk, walk-rows, row-walk-in}
-use Rattle.model.proofs.Cells.Chart.{place-chart, place-zero, place-one}
+use Rattle.model.proofs.Cells.Rows.{small, rowWalk, row-walk-in}
+use Rattle.model.proofs.Cells.Cell.{word-place}
+use Rattle.model.proofs.Cells.Chart.{place-one}
 use Rattle.model.proofs.Layers.Walk.{facing, facing-far, link-far, opposite-small, walk-append}
 
 -- a word of links 0..n-2
@@ -113,8 +114,7 @@ facing-other {n} {t} B {w} near x l e =
     let (_, first, off) = face-rows n (B .dim) in
     let low = opposite-small n (B .dim) in
     let some = size-some n (B .dim) in
-    let at : (v : List ℕ) → small n v ≡ true → walk t v x ≡ place n t x (rowWalk n v 0)
-    = λ v s. ap (walk t v) (place-zero B x l) ∙ walk-rows n t (place n t x) (B .dim) (place-chart B x l .follow) v 0 s some in
+    let at = word-place (mapTable B) x l (B .good x l) in
     let same = place-one B x (rowWalk n (opposite n) 0) (rowWalk n w 0) l (row-walk-in n (opposite n) 0 (B .dim) low some)
     (row-walk-in n w 0 (B .dim) (near-small near) some) (sym (at (opposite n) low) ∙ e ∙ at w (near-small near)) in
     clash (near-face (B .dim) near 0 first) (ap (inFace n) (sym same) ∙ off)

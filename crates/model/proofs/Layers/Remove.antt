@@ -6,7 +6,6 @@ use mathlib.Core.Path.{_≡_, refl, sym, ap, _∙_}
 use mathlib.Core.Logic.{inl, inr, _≢_, _↔_}
 use mathlib.Core.Bool.{true, false}
 use mathlib.Core.List.{List}
-use native.Mathlib.Nat.{le-refl}
 use native.Mathlib.Omega.{arith}
 use lib.ListN.{length}
 use borrow.Author.Tests.{eq-eqb, ne-eqb}
@@ -15,7 +14,6 @@ use Rattle.model.specs.Cell.{cellSize}
 use Rattle.model.specs.Remove.{opposite, marked, outside, removedLink, removed, removeTable}
 use Rattle.model.specs.Sew.{side}
 use Rattle.model.specs.Meaning.Maps.{MapTable, Straight, BlockTable, Rule}
-use Rattle.model.specs.Meaning.Pairings.{OnSide}
 use Rattle.model.specs.Meaning.Places.{place}
 use Rattle.model.specs.Meaning.Sets.{Marked}
 use Rattle.model.specs.Meaning.Sheets.{BlockDart, marksOf}
@@ -26,7 +24,7 @@ use Rattle.model.proofs.Maps.Dim.{size-some}
 use Rattle.model.proofs.Maps.Tables.{mapTable, live-below, rule-at}
 use Rattle.model.proofs.Cells.Chart.{Ruled, ruled-table, live-of, of-live, live-same}
 use Rattle.model.proofs.Cells.Chart.{block-by, Charted, place-chart, place-zero, place-live, place-keep, chart-kept}
-use Rattle.model.proofs.Sewing.Side.{side-within, side-shrinks}
+use Rattle.model.proofs.Sewing.Side.{on-side, side-within, side-shrinks}
 use Rattle.model.proofs.Operations.Frame.{outside-stops}
 use Rattle.model.proofs.Layers.Walk.{outside-unique, stays-outside, walk-ends, walk-live, walk-back, walk-far, walk-turns}
 use Rattle.model.proofs.Layers.Mirror.{walk-own}
@@ -204,7 +202,7 @@ module _ {n : ℕ} {t m u : List ℕ} (L : Layer n t m) (R : Removes n t m u) wh
   layer-straight x l m =
       let (lx, out) = layer-live x .0 l in
       let top = B .dim .1 in
-      let on : OnSide n t n x = record { table = mapTable B; index = le-refl n; lives = lx } in
+      let on = on-side (mapTable B) x lx in
       let remains : (y : ℕ) → Marked (side n t n x) y → Remains y
       = side-within n t x Remains (lx, out) (λ y j near r. link-remains y j (omega arith) (omega arith) r) in
       let within = side-shrinks on u (λ y j near h. stays y j (omega arith) (omega arith) (remains y h)) in

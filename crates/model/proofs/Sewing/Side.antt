@@ -9,6 +9,7 @@ use mathlib.Core.Path.{_≡_, refl, sym, ap, ap₂, _∙_, subst, fun-ext}
 use mathlib.Core.Logic.{inl, inr}
 use mathlib.Core.Bool.{Bool, true, _||_, or-true}
 use mathlib.Core.List.{List, [], _∷_, List·Memᴰ as In, List·Memᴰ·eq-of-singleton as sole, List·Memᴰ·head as here}
+use native.Mathlib.Nat.{le-refl}
 use native.Mathlib.Omega.{arith}
 use lib.ListN.{length, getD, replicate}
 use lib.Dec.{leb}
@@ -183,6 +184,9 @@ side-within n u x P base kept = side-least n u n x .within P (λ y k _. subst P 
     near : (j : ℕ) → Far n j → j ≤ n → j + 2 ≤ n
     near j (inl far) low = absurd (omega arith)
     near j (inr far) low = far
+
+pub on-side : {n : ℕ} {t : List ℕ} → MapTable n t → (x : ℕ) → live t x ≡ true → OnSide n t n x
+on-side {n} T x l = record { table = T; index = le-refl n; lives = l }
 
 module _ {n : ℕ} {t : List ℕ} {d : ℕ} (on : OnSide n t n d) where
   -- where the links 0..n-2 of the side stay, it is no larger

@@ -14,24 +14,21 @@ use Rattle.model.specs.Meaning.Pairings.{OnSide, Pairing, Sewable}
 use Rattle.model.proofs.Lists.Scan.{if-eq}
 use Rattle.model.proofs.Maps.Tables.{rule-at}
 use Rattle.model.proofs.Operations.Relink.{Relinked, relinked-other}
-use Rattle.model.proofs.Sewing.Side.{side-shrinks, side-part, straight-kept, sides-parted, Place, own, other, outside, place}
+use Rattle.model.proofs.Sewing.Side.{on-side, side-shrinks, side-part, straight-kept, sides-parted, Place, own, other, outside, place}
 use Rattle.model.proofs.Sewing.Pairing.{paired-exactly}
 use Rattle.model.proofs.Sewing.Sew.{sew-relinked, sew-there, sew-back, sew-rest}
 use Rattle.model.proofs.Sewing.Unsew.{unsew-relinked, unsew-free, unsew-partner, unsew-rest}
 
 -- where only the links n are made anew
 module _ {n : ℕ} {t u : List ℕ} (T : MapTable n t) (made : Relinked n t n u) (x : ℕ) (l : live t x ≡ true) where
-  on-side : OnSide n t n x
-  on-side = record { table = T; index = le-refl n; lives = l }
-
   stays : (y j : ℕ) → j + 2 ≤ n → Marked (side n t n x) y → link u j y ≡ link t j y
   stays y j near _ = let top = T .dim .1 in relinked-other T (le-refl n) made y j (omega arith) (omega arith)
 
   side-was : (y : ℕ) → Marked (side n u n x) y → Marked (side n t n x) y
-  side-was = side-shrinks on-side u stays
+  side-was = side-shrinks (on-side T x l) u stays
 
   as-straight : link u n x ≡ link t n x → Straight n t x → Straight n u x
-  as-straight = straight-kept on-side u stays
+  as-straight = straight-kept (on-side T x l) u stays
 
 -- ---- sew
 
