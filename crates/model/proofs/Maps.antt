@@ -3,3 +3,4 @@ pub mod Tables
 pub mod Failing
 pub mod Rules
 pub mod Exact
+pub mod Broken

@@ -27,9 +27,9 @@ pub record Outcome : Type 0 where
   pub marks : List ℕ
   pub journal : List ℕ
 
--- "On a refusal count is 0", and table and journal stay
-unfoldable pub refused : ℕ → ℕ → List ℕ → List ℕ → List ℕ → Outcome
-refused k p t m j = record { number = k; place = p; count = 0; table = t; marks = m; journal = j }
+-- a refusal with its number, place and count; table and journal stay
+unfoldable pub refused : ℕ → ℕ → ℕ → List ℕ → List ℕ → List ℕ → Outcome
+refused k p q t m j = record { number = k; place = p; count = q; table = t; marks = m; journal = j }
 
 -- "An accepted add, sew, unsew, remove or split writes its record (every entry whose value changed) at the cursor";
 -- 15: "record longer than the words from cursor to length". u is the new table, p the place, size gives the count
@@ -39,7 +39,7 @@ commit t u m j p size =
     let r = recordOf cs in
     elim (leb (length r) (length j - cursor j)) [
       | true ↦ record { number = 0; place = p; count = size cs; table = u; marks = m; journal = written j r }
-      | false ↦ refused 15 0 t m j
+      | false ↦ refused 15 0 0 t m j
     ]
 
 -- ---- the calls that change nothing but marks
@@ -56,7 +56,7 @@ checkCall n t =
         marks = [];
         journal = [];
       }
-      | refuse k p ↦ refused k p t [] []
+      | refuse k p q ↦ refused k p q t [] []
     ]
 
 -- "Marks: 1 reached, 0 otherwise. Count: darts reached."
@@ -66,7 +66,7 @@ orbitCall n t m mask d =
       | pass ↦ (
           let s = orbit n t mask d in
           record { number = 0; place = orbitPlace n mask; count = count 1 s; table = t; marks = s; journal = [] })
-      | refuse k p ↦ refused k p t m []
+      | refuse k p q ↦ refused k p q t m []
     ]
 
 -- "Count: size of S."
@@ -76,7 +76,7 @@ sheetCall n t m d =
       | pass ↦ (
           let s = sheet n t d in
           record { number = 0; place = 0; count = count 1 s; table = t; marks = sheetMarks n t s; journal = [] })
-      | refuse k p ↦ refused k p t m []
+      | refuse k p q ↦ refused k p q t m []
     ]
 
 -- ---- the operations
@@ -86,7 +86,7 @@ unfoldable pub addCall : ℕ → List ℕ → List ℕ → Outcome
 addCall n t j =
     elim (inOrder (addChecks n t j)) [
       | pass ↦ commit t (addTable n t) [] j (getD (addSlots n t) 0 0) (λ cs. cellSize n)
-      | refuse k p ↦ refused k p t [] j
+      | refuse k p q ↦ refused k p q t [] j
     ]
 
 -- "Count: entries changed."
@@ -94,7 +94,7 @@ unfoldable pub sewCall : ℕ → List ℕ → List ℕ → ℕ → ℕ → ℕ �
 sewCall n t j i d e =
     elim (inOrder (sewChecks n t j i d e)) [
       | pass ↦ commit t (sewTable n t i d e) [] j 0 (λ cs. length cs)
-      | refuse k p ↦ refused k p t [] j
+      | refuse k p q ↦ refused k p q t [] j
     ]
 
 -- "Count: entries changed."
@@ -102,7 +102,7 @@ unfoldable pub unsewCall : ℕ → List ℕ → List ℕ → ℕ → ℕ → Out
 unsewCall n t j i d =
     elim (inOrder (unsewChecks n t j i d)) [
       | pass ↦ commit t (unsewTable n t i d) [] j 0 (λ cs. length cs)
-      | refuse k p ↦ refused k p t [] j
+      | refuse k p q ↦ refused k p q t [] j
     ]
 
 -- "Remove and split take marks too and leave them as sheet gives them before the change." "Count: darts removed."
@@ -112,7 +112,7 @@ removeCall n t m j d =
       | pass ↦ (
           let marks = sheetMarks n t (sheet n t d) in
           commit t (removeTable n t d) marks j 0 (λ cs. slots t - count 0 marks))
-      | refuse k p ↦ refused k p t m j
+      | refuse k p q ↦ refused k p q t m j
     ]
 
 -- "Place: first new slot. Count: darts added."
@@ -125,9 +125,9 @@ splitCall n t m j d =
           let marks = sheetMarks n t s in
           elim (inOrder (splitChecks n t s gs)) [
             | pass ↦ commit t (splitTable n t d) marks j (getD (splitSlots n t gs) 0 0) (λ cs. n * length gs)
-            | refuse k p ↦ refused k p t marks j
+            | refuse k p q ↦ refused k p q t marks j
           ])
-      | refuse k p ↦ refused k p t m j
+      | refuse k p q ↦ refused k p q t m j
     ]
 
 -- ---- undo and redo
@@ -139,7 +139,7 @@ stepOutcome redo n t j a k c =
     let u = put redo (changesAt j a k) t in
     elim (unbroken redo t j a k && isMap n u) [
       | true ↦ record { number = 0; place = 0; count = k; table = u; marks = []; journal = set j 0 c }
-      | false ↦ refused 17 0 t [] j
+      | false ↦ refused 17 0 0 t [] j
     ]
 
 -- the record before the cursor
@@ -150,7 +150,7 @@ undoCall n t j =
           let k = getD j (cursor j - 1) 0 in
           let a = cursor j - (3 * k + 2) in
           stepOutcome false n t j a k a)
-      | refuse k p ↦ refused k p t [] j
+      | refuse k p q ↦ refused k p q t [] j
     ]
 
 -- the record at the cursor
@@ -160,5 +160,5 @@ redoCall n t j =
       | pass ↦ (
           let k = getD j (cursor j) 0 in
           stepOutcome true n t j (cursor j) k (cursor j + (3 * k + 2)))
-      | refuse k p ↦ refused k p t [] j
+      | refuse k p q ↦ refused k p q t [] j
     ]

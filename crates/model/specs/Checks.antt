@@ -6,7 +6,8 @@ use mathlib.Core.List.{List, [], _∷_, _++_}
 use lib.ListN.{length}
 use lib.Dec.{leb, ltb, eqb}
 use Rattle.model.specs.Table.{slots, link, live}
-use Rattle.model.specs.Map.{leastBreaking}
+use Rattle.model.specs.Map.{MapRule, links-live, links-return, pairs-commute, stays-flat, keepsRule, breakingLink}
+use Rattle.model.specs.Map.{leastBreaking, isMap}
 use Rattle.model.specs.Reach.{inSet}
 use Rattle.model.specs.Cell.{cellSize, leastWrong}
 use Rattle.model.specs.Add.{addSlots}
@@ -14,22 +15,22 @@ use Rattle.model.specs.Sew.{side, isPaired}
 use Rattle.model.specs.Split.{crosses, splitSlots}
 use Rattle.model.specs.Journal.{cursor, end}
 
--- passed, or refused: the number and the place
+-- passed, or refused: the number, the place and the count
 pub data Check : Type 0 where
   pass : Check
-  refuse : ℕ → ℕ → Check
+  refuse : ℕ → ℕ → ℕ → Check
 
 unfoldable pub must : Bool → ℕ → Check
 must true k = pass
-must false k = refuse k 0
+must false k = refuse k 0 0
 
-unfoldable pub mustAt : Bool → ℕ → ℕ → Check
-mustAt true k p = pass
-mustAt false k p = refuse k p
+unfoldable pub mustAt : Bool → ℕ → ℕ → ℕ → Check
+mustAt true k p q = pass
+mustAt false k p q = refuse k p q
 
 unfoldable pub andThen : Check → Check → Check
 andThen pass c = c
-andThen (refuse k p) c = refuse k p
+andThen (refuse k p q) c = refuse k p q
 
 -- the first refusal, or passed
 unfoldable pub inOrder : List Check → Check
@@ -55,9 +56,24 @@ unfoldable pub journalOk : List ℕ → Check
 journalOk j =
     must (leb 2 (length j) && leb (length j) 1048576 && leb 2 (cursor j) && leb (cursor j) (end j) && leb (end j) (length j)) 4
 
--- 5: "not a map; place: least slot that breaks a rule"
-unfoldable pub mapOk : ℕ → List ℕ → Check
-mapOk n t = let b = leastBreaking n t in mustAt (eqb b (slots t)) 5 b
+-- 5: "half-used slot or link to no live slot stays 5; a link that isn't returned; a distant pair that doesn't commute;
+-- in 2D, a link 3 that leaves its dart .. 24, 25, 26 in that order" (02, R-3)
+unfoldable pub ruleNumber : MapRule → ℕ
+ruleNumber links-live = 5
+ruleNumber links-return = 24
+ruleNumber pairs-commute = 25
+ruleNumber stays-flat = 26
+
+-- 5, 24, 25, 26: "not a map; place: least slot that breaks a rule"; there the rule r. Count: "the link index, the lower one
+-- for a pair, the least if several"
+unfoldable pub ruleOk : ℕ → List ℕ → MapRule → Check
+ruleOk n t r =
+    let b = leastBreaking n t in
+    mustAt (isMap n t || keepsRule n t b r) (ruleNumber r) b (breakingLink n t b r)
+
+-- "in 5's place in the sequence"
+unfoldable pub mapChecks : ℕ → List ℕ → List Check
+mapChecks n t = ruleOk n t links-live ∷ ruleOk n t links-return ∷ ruleOk n t pairs-commute ∷ ruleOk n t stays-flat ∷ []
 
 -- 6: "i above n, or mask above 2^(n+1) - 1"
 unfoldable pub indexOk : ℕ → ℕ → Check
@@ -72,7 +88,7 @@ dartOk t d = must (live t d) 7
 
 -- 8: "not a block map; place: least live slot in a wrong cell"
 unfoldable pub blockOk : ℕ → List ℕ → Check
-blockOk n t = let b = leastWrong n t in mustAt (eqb b (slots t)) 8 b
+blockOk n t = let b = leastWrong n t in mustAt (eqb b (slots t)) 8 b 0
 
 -- 9: "e in d's side"
 unfoldable pub apartOk : ℕ → List ℕ → ℕ → ℕ → ℕ → Check
@@ -111,31 +127,34 @@ redoOk j = must (not (eqb (cursor j) (end j))) 16
 -- ---- the checks, by call
 
 unfoldable pub checkChecks : ℕ → List ℕ → List Check
-checkChecks n t = dimOk n ∷ tableOk t ∷ mapOk n t ∷ []
+checkChecks n t = dimOk n ∷ tableOk t ∷ mapChecks n t
 
 unfoldable pub orbitChecks : ℕ → List ℕ → List ℕ → ℕ → ℕ → List Check
-orbitChecks n t m mask d = dimOk n ∷ tableOk t ∷ marksOk t m ∷ mapOk n t ∷ maskOk n mask ∷ dartOk t d ∷ []
+orbitChecks n t m mask d = dimOk n ∷ tableOk t ∷ marksOk t m ∷ (mapChecks n t ++ (maskOk n mask ∷ dartOk t d ∷ []))
 
 unfoldable pub sheetChecks : ℕ → List ℕ → List ℕ → ℕ → List Check
-sheetChecks n t m d = dimOk n ∷ tableOk t ∷ marksOk t m ∷ mapOk n t ∷ dartOk t d ∷ blockOk n t ∷ []
+sheetChecks n t m d = dimOk n ∷ tableOk t ∷ marksOk t m ∷ (mapChecks n t ++ (dartOk t d ∷ blockOk n t ∷ []))
 
 unfoldable pub addChecks : ℕ → List ℕ → List ℕ → List Check
-addChecks n t j = dimOk n ∷ tableOk t ∷ journalOk j ∷ mapOk n t ∷ addRoomOk n t ∷ []
+addChecks n t j = dimOk n ∷ tableOk t ∷ journalOk j ∷ (mapChecks n t ++ (addRoomOk n t ∷ []))
 
 -- of sew those before 12
 unfoldable pub sidesChecks : ℕ → List ℕ → List ℕ → ℕ → ℕ → ℕ → List Check
 sidesChecks n t j i d e =
-    dimOk n ∷ tableOk t ∷ journalOk j ∷ mapOk n t ∷ indexOk n i ∷ dartOk t d ∷ dartOk t e ∷ apartOk n t i d e ∷ freeOk t i d e ∷ []
+    dimOk n ∷ tableOk t ∷ journalOk j
+    ∷ (mapChecks n t ++ (indexOk n i ∷ dartOk t d ∷ dartOk t e ∷ apartOk n t i d e ∷ freeOk t i d e ∷ []))
 
 unfoldable pub sewChecks : ℕ → List ℕ → List ℕ → ℕ → ℕ → ℕ → List Check
 sewChecks n t j i d e = sidesChecks n t j i d e ++ (pairingOk n t i d e ∷ [])
 
 unfoldable pub unsewChecks : ℕ → List ℕ → List ℕ → ℕ → ℕ → List Check
-unsewChecks n t j i d = dimOk n ∷ tableOk t ∷ journalOk j ∷ mapOk n t ∷ indexOk n i ∷ dartOk t d ∷ sewnOk t i d ∷ []
+unsewChecks n t j i d =
+    dimOk n ∷ tableOk t ∷ journalOk j ∷ (mapChecks n t ++ (indexOk n i ∷ dartOk t d ∷ sewnOk t i d ∷ []))
 
 -- of remove, and of split those that leave the marks as lent
 unfoldable pub layerChecks : ℕ → List ℕ → List ℕ → List ℕ → ℕ → List Check
-layerChecks n t m j d = dimOk n ∷ tableOk t ∷ marksOk t m ∷ journalOk j ∷ mapOk n t ∷ dartOk t d ∷ blockOk n t ∷ []
+layerChecks n t m j d =
+    dimOk n ∷ tableOk t ∷ marksOk t m ∷ journalOk j ∷ (mapChecks n t ++ (dartOk t d ∷ blockOk n t ∷ []))
 
 -- of split those that leave the marks of the sheet s, whose darts are gs
 unfoldable pub splitChecks : ℕ → List ℕ → List ℕ → List ℕ → List Check
@@ -143,4 +162,4 @@ splitChecks n t s gs = crossingOk t s gs ∷ splitRoomOk n t gs ∷ []
 
 -- of undo and redo, of which `there` says that there is a record
 unfoldable pub stepChecks : ℕ → List ℕ → List ℕ → Check → List Check
-stepChecks n t j there = dimOk n ∷ tableOk t ∷ journalOk j ∷ mapOk n t ∷ there ∷ []
+stepChecks n t j there = dimOk n ∷ tableOk t ∷ journalOk j ∷ (mapChecks n t ++ (there ∷ []))

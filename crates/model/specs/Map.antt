@@ -11,20 +11,35 @@ use Rattle.model.specs.Table.{slots, link, live, walk}
 unfoldable pub returns : List ℕ → List ℕ → ℕ → Bool
 returns t w d = eqb (walk t w d) d
 
--- d.i is a live slot, and d.i.i = d
-unfoldable pub linked : List ℕ → ℕ → ℕ → Bool
-linked t d i = live t (link t i d) && returns t (i ∷ i ∷ []) d
-
 -- going i, j, i, j returns to d, where i + 2 <= j
 unfoldable pub crossed : List ℕ → ℕ → ℕ → ℕ → Bool
 crossed t d i j = elim (leb (i + 2) j) [ true ↦ returns t (i ∷ j ∷ i ∷ j ∷ []) d | false ↦ true ]
 
--- the rules at a live slot d
+-- the rules at a live slot, in their order
+pub data MapRule : Type 0 where
+  links-live : MapRule
+  links-return : MapRule
+  pairs-commute : MapRule
+  stays-flat : MapRule
+
+-- link i of d keeps the rule; a pair goes by its lower index
+unfoldable pub keepsAt : ℕ → List ℕ → ℕ → MapRule → ℕ → Bool
+keepsAt n t d links-live i = live t (link t i d)
+keepsAt n t d links-return i = returns t (i ∷ i ∷ []) d
+keepsAt n t d pairs-commute i = allBelow (suc n) (crossed t d i)
+keepsAt n t d stays-flat i = elim (eqb n 2 && eqb i 3) [ true ↦ eqb (link t i d) d | false ↦ true ]
+
+unfoldable pub keepsRule : ℕ → List ℕ → ℕ → MapRule → Bool
+keepsRule n t d r = allBelow 4 (keepsAt n t d r)
+
+-- the least link of d that breaks the rule, or 4
+unfoldable pub breakingLink : ℕ → List ℕ → ℕ → MapRule → ℕ
+breakingLink n t d r = least 4 (λ i. not (keepsAt n t d r i))
+
+-- all rules
 unfoldable pub keepsRules : ℕ → List ℕ → ℕ → Bool
 keepsRules n t d =
-    allBelow 4 (linked t d)
-    && allBelow 4 (λ i. allBelow (suc n) (crossed t d i))
-    && elim (eqb n 2) [ true ↦ eqb (link t 3 d) d | false ↦ true ]
+    keepsRule n t d links-live && keepsRule n t d links-return && keepsRule n t d pairs-commute && keepsRule n t d stays-flat
 
 unfoldable pub breaksRule : ℕ → List ℕ → ℕ → Bool
 breaksRule n t d = elim (live t d) [ true ↦ not (keepsRules n t d) | false ↦ false ]

@@ -95,6 +95,6 @@ pub longest-passes : (t : List ℕ) → length t ≡ 262144 → tableOk t ≡ pa
 unfolding tableOk must
 longest-passes t long = rw long
 
-pub longer-refused : (t : List ℕ) → length t ≡ 262148 → tableOk t ≡ refuse 2 0
+pub longer-refused : (t : List ℕ) → length t ≡ 262148 → tableOk t ≡ refuse 2 0 0
 unfolding tableOk must
 longer-refused t long = rw long

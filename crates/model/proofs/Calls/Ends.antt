@@ -10,7 +10,7 @@ use Rattle.model.specs.Lists.{ones, indexOf}
 use Rattle.model.specs.Journal.{changesFrom, recordOf, written}
 use Rattle.model.specs.Sheet.{sheet, sheetMarks}
 use Rattle.model.specs.Checks.{Check, pass, refuse, must, andThen, inOrder, pairingOk}
-use Rattle.model.specs.Checks.{addChecks, sidesChecks, sewChecks, unsewChecks, layerChecks, splitChecks}
+use Rattle.model.specs.Checks.{mapChecks, addChecks, sidesChecks, sewChecks, unsewChecks, layerChecks, splitChecks}
 use Rattle.model.specs.Calls.{Outcome, refused, commit, checkCall, orbitCall, sheetCall, addCall, sewCall, unsewCall}
 use Rattle.model.specs.Calls.{removeCall, splitCall, stepOutcome, undoCall, redoCall}
 use Rattle.model.specs.Runs.{Call, doCall, keeping, Op, callOf, effect}
@@ -26,54 +26,58 @@ use Rattle.model.proofs.Calls.Pass.{record-pass}
 
 -- ---- an outcome behind checks
 
-module _ (y : Outcome) (f : ℕ → ℕ → Outcome) where
-  behind-more : (cs ds : List Check) (r : Outcome) (g : ℕ → ℕ → Outcome) → Behind ds y f r
-      → ((k p : ℕ) → inOrder cs ≡ refuse k p → g k p ≡ f k p)
-      → Behind (cs ++ ds) y f (elim (inOrder cs) as (λ _. Outcome) [ pass ↦ r | refuse k p ↦ g k p ])
+module _ (y : Outcome) (f : ℕ → ℕ → ℕ → Outcome) where
+  behind-more : (cs ds : List Check) (r : Outcome) (g : ℕ → ℕ → ℕ → Outcome) → Behind ds y f r
+      → ((k p q : ℕ) → inOrder cs ≡ refuse k p q → g k p q ≡ f k p q)
+      → Behind (cs ++ ds) y f (elim (inOrder cs) as (λ _. Outcome) [ pass ↦ r | refuse k p q ↦ g k p q ])
   behind-more cs ds r g b h = go (inOrder cs) refl
     where
-      go : (c : Check) → inOrder cs ≡ c → Behind (cs ++ ds) y f (elim c as (λ _. Outcome) [ pass ↦ r | refuse k p ↦ g k p ])
+      go : (c : Check) → inOrder cs ≡ c → Behind (cs ++ ds) y f (elim c as (λ _. Outcome) [ pass ↦ r | refuse k p q ↦ g k p q ])
       go pass e = record {
         passes = λ a. b .passes (sym (append-passed cs ds e) ∙ a);
-        refuses = λ k p a. b .refuses k p (sym (append-passed cs ds e) ∙ a);
+        refuses = λ k p q a. b .refuses k p q (sym (append-passed cs ds e) ∙ a);
       }
-      go (refuse k p) e = record {
+      go (refuse k p q) e = record {
         passes = λ a. not-pass (sym (append-refused cs ds e) ∙ a);
-        refuses = λ k′ p′ a. h k p e ∙ same-refusal f (sym (append-refused cs ds e) ∙ a);
+        refuses = λ k′ p′ q′ a. h k p q e ∙ same-refusal f (sym (append-refused cs ds e) ∙ a);
       }
 
-  behind-checks : (cs : List Check) → Behind cs y f (elim (inOrder cs) as (λ _. Outcome) [ pass ↦ y | refuse k p ↦ f k p ])
-  behind-checks cs = record { passes = λ e. rw e; refuses = λ k p e. rw e }
+  behind-checks : (cs : List Check) → Behind cs y f (elim (inOrder cs) as (λ _. Outcome) [ pass ↦ y | refuse k p q ↦ f k p q ])
+  behind-checks cs = record { passes = λ e. rw e; refuses = λ k p q e. rw e }
 
-  behind-last : (b : Bool) (z : ℕ) (r s : Outcome) → r ≡ y → s ≡ f z 0
+  behind-last : (b : Bool) (z : ℕ) (r s : Outcome) → r ≡ y → s ≡ f z 0 0
       → Behind (must b z ∷ []) y f (elim b as (λ _. Outcome) [ true ↦ r | false ↦ s ])
   unfolding inOrder andThen must
-  behind-last true z r s a b = record { passes = λ e. a; refuses = λ k p e. not-pass (sym e) }
-  behind-last false z r s a b = record { passes = λ e. not-pass e; refuses = λ k p e. b ∙ same-refusal f e }
+  behind-last true z r s a b = record { passes = λ e. a; refuses = λ k p q e. not-pass (sym e) }
+  behind-last false z r s a b = record { passes = λ e. not-pass e; refuses = λ k p q e. b ∙ same-refusal f e }
 
 -- the outcome changed by a function
-behind-map : {cs : List Check} {y r : Outcome} {f : ℕ → ℕ → Outcome} (g : Outcome → Outcome) → Behind cs y f r
-    → Behind cs (g y) (λ k p. g (f k p)) (g r)
-behind-map g b = record { passes = λ a. ap g (b .passes a); refuses = λ k p a. ap g (b .refuses k p a) }
+behind-map : {cs : List Check} {y r : Outcome} {f : ℕ → ℕ → ℕ → Outcome} (g : Outcome → Outcome) → Behind cs y f r
+    → Behind cs (g y) (λ k p q. g (f k p q)) (g r)
+behind-map g b = record { passes = λ a. ap g (b .passes a); refuses = λ k p q a. ap g (b .refuses k p q a) }
 
 -- a call that takes a journal and no marks; its last check, 15 or 17, is b
 behind-unmarked : (cs : List Check) (b : Bool) (z : ℕ) (t m j : List ℕ) (y : Outcome)
-    → Behind (cs ++ (must b z ∷ [])) (keeping y m (y .journal)) (λ k p. refused k p t m j)
+    → Behind (cs ++ (must b z ∷ [])) (keeping y m (y .journal)) (λ k p q. refused k p q t m j)
     (let r = elim (inOrder cs) as (λ _. Outcome) [
-      | pass ↦ (elim b as (λ _. Outcome) [ true ↦ y | false ↦ refused z 0 t [] j ])
-      | refuse k p ↦ refused k p t [] j
+      | pass ↦ (elim b as (λ _. Outcome) [ true ↦ y | false ↦ refused z 0 0 t [] j ])
+      | refuse k p q ↦ refused k p q t [] j
     ] in keeping r m (r .journal))
 unfolding keeping refused
 behind-unmarked cs b z t m j y =
     behind-map (λ r. keeping r m (r .journal))
-    (behind-more y (λ k p. refused k p t [] j) cs _ _ _ (behind-last _ _ b z _ _ refl refl) (λ k p e. refl))
+    (behind-more y (λ k p q. refused k p q t [] j) cs _ _ _ (behind-last _ _ b z _ _ refl refl) (λ k p q e. refl))
 
 -- ---- the calls
 
-not-late : (k : ℕ) → In k (1 ∷ 2 ∷ 3 ∷ 4 ∷ 5 ∷ 7 ∷ 8 ∷ []) → member (13 ∷ 14 ∷ 15 ∷ []) k ≡ false
+-- of remove and split, before 13
+abbrev early-numbers : List ℕ
+early-numbers = 1 ∷ 2 ∷ 3 ∷ 4 ∷ 5 ∷ 24 ∷ 25 ∷ 26 ∷ 7 ∷ 8 ∷ []
+
+not-late : (k : ℕ) → In k early-numbers → member (13 ∷ 14 ∷ 15 ∷ []) k ≡ false
 not-late k i = test (member (13 ∷ 14 ∷ 15 ∷ []) k) (λ h. absurd (clash (in-member _ k i) (late k (member-in _ k h)))) (λ h. h)
   where
-    late : (k : ℕ) → In k (13 ∷ 14 ∷ 15 ∷ []) → member (1 ∷ 2 ∷ 3 ∷ 4 ∷ 5 ∷ 7 ∷ 8 ∷ []) k ≡ false
+    late : (k : ℕ) → In k (13 ∷ 14 ∷ 15 ∷ []) → member early-numbers k ≡ false
     late k (here e) = unfold member indexOf in rw e
     late k (there (here e)) = unfold member indexOf in rw e
     late k (there (there (here e))) = unfold member indexOf in rw e
@@ -126,36 +130,36 @@ module _ (n : ℕ) (o : Outcome) where
   redo-ends = behind-unmarked _ _ 17 _ _ _ _
 
   -- remove and split: a refusal by 13, 14 or 15 leaves the sheet's marks ..
-  abbrev leaving : ℕ → ℕ → List ℕ → Outcome
-  leaving k p marks = refused k p t marks j
+  abbrev leaving : ℕ → ℕ → ℕ → List ℕ → Outcome
+  leaving k p q marks = refused k p q t marks j
 
-  late-leaves : (d k p : ℕ) → In k (13 ∷ 14 ∷ 15 ∷ [])
-      → leaving k p (sheetMarks n t (sheet n t d)) ≡ leaving k p (layerMarks n o d k)
+  late-leaves : (d k p q : ℕ) → In k (13 ∷ 14 ∷ 15 ∷ [])
+      → leaving k p q (sheetMarks n t (sheet n t d)) ≡ leaving k p q (layerMarks n o d k)
   unfolding layerMarks
-  late-leaves d k p i = ap (leaving k p) (rw (in-member _ k i, layerMarks))
+  late-leaves d k p q i = ap (leaving k p q) (rw (in-member _ k i, layerMarks))
 
   -- .. an earlier one the marks lent
-  early-leaves : (d k p : ℕ) → inOrder (layerChecks n t m j d) ≡ refuse k p
-      → leaving k p m ≡ leaving k p (layerMarks n o d k)
-  unfolding layerMarks layerChecks checksOf
-  early-leaves d k p e = ap (leaving k p) (rw (not-late k (refusal-says _ early k p e .0), layerMarks))
+  early-leaves : (d k p q : ℕ) → inOrder (layerChecks n t m j d) ≡ refuse k p q
+      → leaving k p q m ≡ leaving k p q (layerMarks n o d k)
+  unfolding layerMarks layerChecks mapChecks checksOf
+  early-leaves d k p q e = ap (leaving k p q) (rw (not-late k (refusal-says _ early k p q e .0), layerMarks))
     where
-      early : Numbers n t j (1 ∷ 2 ∷ 3 ∷ 4 ∷ 5 ∷ 7 ∷ 8 ∷ []) (layerChecks n t m j d)
+      early : Numbers n t j early-numbers (layerChecks n t m j d)
       early = numbers-before _ _ (call-numbers n o (Call.remove d))
 
   remove-ends : (d : ℕ) → Ends n o (Call.remove d)
   unfolding doCall removeCall commit checksOf recordOk doneOf refusalMarks
   remove-ends d =
-      behind-more _ _ _ _ _ _ (behind-last _ _ _ 15 _ _ refl (late-leaves d 15 0 (there (there (here refl))))) (early-leaves d)
+      behind-more _ _ _ _ _ _ (behind-last _ _ _ 15 _ _ refl (late-leaves d 15 0 0 (there (there (here refl))))) (early-leaves d)
 
   split-ends : (d : ℕ) → Ends n o (Call.split d)
-  unfolding doCall splitCall commit checksOf recordOk doneOf refusalMarks layerChecks splitChecks
+  unfolding doCall splitCall commit checksOf recordOk doneOf refusalMarks layerChecks mapChecks splitChecks
   split-ends d =
       let late = numbers-behind (layerChecks n t m j d) _ (call-numbers n o (Call.split d)) in
       let crossing = numbers-before (splitChecks n t (sheet n t d) (ones (sheet n t d))) _ late in
       behind-more _ _ _ _ _ _
-      (behind-more _ _ _ _ _ _ (behind-last _ _ _ 15 _ _ refl (late-leaves d 15 0 (there (there (here refl)))))
-      (λ k p e. late-leaves d k p (in-left (15 ∷ []) (refusal-says _ crossing k p e .0))))
+      (behind-more _ _ _ _ _ _ (behind-last _ _ _ 15 _ _ refl (late-leaves d 15 0 0 (there (there (here refl)))))
+      (λ k p q e. late-leaves d k p q (in-left (15 ∷ []) (refusal-says _ crossing k p q e .0))))
       (early-leaves d)
 
   pub call-ends : (c : Call) → Ends n o c
@@ -173,14 +177,15 @@ module _ (n : ℕ) (o : Outcome) where
   -- ---- the number of a call
 
   -- what the first check that fails says
-  pub call-says : (c : Call) (k p : ℕ) → inOrder (checks n o c) ≡ refuse k p → In k (numbers c) × Says n t j k p
+  pub call-says : (c : Call) (k p q : ℕ) → inOrder (checks n o c) ≡ refuse k p q → In k (numbers c) × Says n t j k p q
   call-says c = refusal-says (checks n o c) (call-numbers n o c)
 
   pub call-passed : (c : Call) → doCall n o c .number ≡ 0 → inOrder (checks n o c) ≡ pass
   unfolding refused
   call-passed c h = ⊎-elim (λ e. e) (λ q.
-      let number = ap (λ (r : Outcome). r .number) (call-ends c .refuses (q .0) (q .1) (q .2)) in
-      absurd (call-says c (q .0) (q .1) (q .2) .1 .not-0 (sym number ∙ h)))
+      let (k, p, x, e) = q in
+      let number = ap (λ (r : Outcome). r .number) (call-ends c .refuses k p x e) in
+      absurd (call-says c k p x e .1 .not-0 (sym number ∙ h)))
       (passed-or-refused (inOrder (checks n o c)))
 
   pub call-done : (c : Call) → doCall n o c .number ≡ 0 → doCall n o c ≡ done n o c
@@ -201,13 +206,14 @@ module _ (n : ℕ) (o : Outcome) where
 
   -- a call that gives another number than 0: the first check that fails has that number
   pub call-refused : (c : Call) → doCall n o c .number ≢ 0
-      → (p : ℕ) × (inOrder (checks n o c) ≡ refuse (doCall n o c .number) p)
-      × (doCall n o c ≡ refusedBy n o c (doCall n o c .number) p)
+      → (p : ℕ) × (q : ℕ) × (inOrder (checks n o c) ≡ refuse (doCall n o c .number) p q)
+      × (doCall n o c ≡ refusedBy n o c (doCall n o c .number) p q)
   unfolding refused
   call-refused c h = ⊎-elim (λ e. absurd (h (ap (λ (r : Outcome). r .number) (call-ends c .passes e) ∙ done-number c))) (λ q.
-      let e = call-ends c .refuses (q .0) (q .1) (q .2) in
-      let k : doCall n o c .number ≡ q .0 = ap (λ (r : Outcome). r .number) e in
-      (q .1, rw k (q .2), e ∙ ap (λ (k : ℕ). refusedBy n o c k (q .1)) (sym k)))
+      let (k, p, x, is) = q in
+      let e = call-ends c .refuses k p x is in
+      let number : doCall n o c .number ≡ k = ap (λ (r : Outcome). r .number) e in
+      (p, x, rw number is, e ∙ ap (λ (z : ℕ). refusedBy n o c z p x) (sym number)))
       (passed-or-refused (inOrder (checks n o c)))
 
   -- ---- operations

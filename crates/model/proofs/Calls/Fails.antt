@@ -1,7 +1,7 @@
 -- When each check fails, in the words of 01's table: `dim-fails` (1) to `step-fails` (17).
 use Prim.Native.Nat.{ℕ, _+_, _*_, _-_, _%_, _^_, _≤_, _<_}
 use mathlib.Core.Path.{_≡_, refl}
-use mathlib.Core.Logic.{_⊎_, _≢_, _↔_, Iff·rfl, Iff·trans, Iff·and}
+use mathlib.Core.Logic.{_⊎_, _≢_, _↔_, ⊎-elim, Iff·rfl, Iff·trans, Iff·and}
 use mathlib.Core.Bool.{Bool, true, false}
 use mathlib.Core.List.{List}
 use native.Mathlib.Omega.{arith}
@@ -10,41 +10,42 @@ use lib.Dec.{eqb}
 use borrow.Author.Tests.{le-leb}
 use Rattle.model.specs.Lists.{ones}
 use Rattle.model.specs.Table.{slots, link, live, unusedSlots}
-use Rattle.model.specs.Map.{isMap}
+use Rattle.model.specs.Map.{MapRule, keepsRule, leastBreaking, isMap}
 use Rattle.model.specs.Reach.{inSet}
 use Rattle.model.specs.Cell.{cellSize, isBlock}
 use Rattle.model.specs.Add.{addSlots}
 use Rattle.model.specs.Sew.{side}
 use Rattle.model.specs.Split.{splitSlots}
 use Rattle.model.specs.Journal.{cursor, end, changesFrom, recordOf, changesAt, put, unbroken}
-use Rattle.model.specs.Checks.{pass, must, mustAt, dimOk, tableOk, marksOk, journalOk, mapOk, indexOk, maskOk}
+use Rattle.model.specs.Checks.{pass, must, mustAt, dimOk, tableOk, marksOk, journalOk, ruleNumber, ruleOk, indexOk, maskOk}
 use Rattle.model.specs.Checks.{dartOk, blockOk, apartOk, freeOk, sewnOk, pairingOk, crossingOk, addRoomOk, splitRoomOk}
 use Rattle.model.specs.Checks.{undoOk, redoOk}
 use Rattle.model.specs.Meaning.Ends.{recordOk, stepOk}
-use Rattle.model.specs.Meaning.Maps.{Dim, Map, MapTable, Block}
+use Rattle.model.specs.Meaning.Maps.{Dim, BreaksFirst, MapTable, Block}
 use Rattle.model.specs.Meaning.Numbers.{JournalRule, StepFails}
 use Rattle.model.specs.Meaning.Pairings.{Pairing}
 use Rattle.model.specs.Meaning.Sets.{Marked}
 use Rattle.model.specs.Meaning.Sheets.{Crossing}
-use Rattle.model.proofs.Lists.Scan.{clash}
+use Rattle.model.proofs.Lists.Scan.{clash, or-cases, or-false}
 use Rattle.model.proofs.Maps.Rules.{map-of, of-map}
+use Rattle.model.proofs.Maps.Broken.{broken-first, of-broken}
 use Rattle.model.proofs.Cells.Exact.{block-exactly}
 use Rattle.model.proofs.Sewing.Pairing.{paired-exactly}
 use Rattle.model.proofs.Layers.Sheet.{crosses-some}
 use Rattle.model.proofs.Calls.Tests.{not-fails, and-fails, or-fails, leb-fails, ltb-fails, eqb-fails, eqb-holds}
 use Rattle.model.proofs.Calls.Tests.{test-fails, one-of}
 use Rattle.model.proofs.Calls.Checks.{must-at-0, not-pass}
-use Rattle.model.proofs.Calls.Pass.{journal-pass, SidesPassed, left-side, right-side}
+use Rattle.model.proofs.Calls.Pass.{mustAt-pass, journal-pass, SidesPassed, left-side, right-side}
 
 -- ---- a check that is a test
 
-mustAt-fails : {P : Type 0} (b : Bool) (k p : ℕ) → (b ≡ false) ↔ P → (mustAt b k p ≢ pass) ↔ P
+mustAt-fails : {P : Type 0} (b : Bool) (k p q : ℕ) → (b ≡ false) ↔ P → (mustAt b k p q ≢ pass) ↔ P
 unfolding mustAt
-mustAt-fails true k p f = (λ h. absurd (h refl), λ x. absurd (clash refl (f .1 x)))
-mustAt-fails false k p f = (λ h. f .0 refl, λ x e. not-pass e)
+mustAt-fails true k p q f = (λ h. absurd (h refl), λ x. absurd (clash refl (f .1 x)))
+mustAt-fails false k p q f = (λ h. f .0 refl, λ x e. not-pass e)
 
 must-fails : {P : Type 0} (b : Bool) (k : ℕ) → (b ≡ false) ↔ P → (must b k ≢ pass) ↔ P
-must-fails b k f = rw (must-at-0 b k) (mustAt-fails b k 0 f)
+must-fails b k f = rw (must-at-0 b k) (mustAt-fails b k 0 0 f)
 
 -- ---- the checks by number
 
@@ -73,9 +74,17 @@ journal-holds j rule =
 pub journal-fails : (j : List ℕ) → (journalOk j ≢ pass) ↔ (JournalRule j → ⊥)
 journal-fails j = (λ h rule. h (journal-holds j rule), λ h e. h (journal-pass j e))
 
-pub map-fails : (n : ℕ) (t : List ℕ) → Dim n → (mapOk n t ≢ pass) ↔ (Map n t → ⊥)
-unfolding mapOk isMap
-map-fails n t dim = mustAt-fails _ 5 _ (test-fails (isMap n t) (map-of n t (dim .1), of-map n t))
+-- 5, 24, 25, 26, where the rules before pass
+pub rule-fails : (n : ℕ) (t : List ℕ) (r : MapRule) → Dim n → ((q : MapRule) → ruleNumber q < ruleNumber r → ruleOk n t q ≡ pass)
+    → (ruleOk n t r ≢ pass) ↔ ((d : ℕ) × (i : ℕ) × BreaksFirst n t r d i)
+unfolding ruleOk
+rule-fails n t r dim earlier = mustAt-fails _ (ruleNumber r) _ _ (
+  λ h.
+      let (not-map, broken) = or-false (isMap n t) (keepsRule n t (leastBreaking n t) r) h in
+      (_, _, broken-first n t (dim .1) not-map r broken (λ q l.
+      ⊎-elim (λ e. absurd (clash e not-map)) (λ e. e) (or-cases (isMap n t) _ (mustAt-pass _ _ _ _ (earlier q l))))),
+  λ w. let tested = of-broken n t (dim .1) (w .2) in rw (tested .not-map) (tested .broken),
+)
 
 pub index-fails : (n i : ℕ) → (indexOk n i ≢ pass) ↔ (n < i)
 unfolding indexOk
@@ -91,7 +100,7 @@ dart-fails t d = must-fails _ 7 Iff·rfl
 
 pub block-fails : (n : ℕ) (t : List ℕ) → MapTable n t → (blockOk n t ≢ pass) ↔ (Block n t → ⊥)
 unfolding blockOk isBlock
-block-fails n t table = mustAt-fails _ 8 _ (test-fails (isBlock n t) (block-exactly table))
+block-fails n t table = mustAt-fails _ 8 _ 0 (test-fails (isBlock n t) (block-exactly table))
 
 pub apart-fails : (n : ℕ) (t : List ℕ) (i d e : ℕ) → (apartOk n t i d e ≢ pass) ↔ Marked (side n t i d) e
 unfolding apartOk inSet

@@ -10,7 +10,7 @@ use lib.Dec.{eqb, leb}
 use borrow.Author.Tests.{eqb-true, eqb-false, eq-eqb, leb-true, not-true}
 use Rattle.model.specs.Lists.{indexOf}
 use Rattle.model.specs.Table.{slots, link, live}
-use Rattle.model.specs.Map.{isMap, leastBreaking}
+use Rattle.model.specs.Map.{MapRule, links-live, links-return, pairs-commute, stays-flat, breakingLink, leastBreaking, isMap}
 use Rattle.model.specs.Reach.{inSet}
 use Rattle.model.specs.Cell.{cellSize, isBlock, leastWrong}
 use Rattle.model.specs.Journal.{cursor, end, changesFrom, recordOf, changesAt, put, unbroken}
@@ -18,31 +18,32 @@ use Rattle.model.specs.Add.{addSlots}
 use Rattle.model.specs.Sew.{side, isPaired}
 use Rattle.model.specs.Split.{crosses, splitSlots}
 use Rattle.model.specs.Checks.{pass, must, mustAt, inOrder}
-use Rattle.model.specs.Checks.{dimOk, tableOk, journalOk, mapOk, indexOk, dartOk, blockOk, apartOk, freeOk}
+use Rattle.model.specs.Checks.{dimOk, tableOk, journalOk, ruleNumber, ruleOk, mapChecks, indexOk, dartOk, blockOk, apartOk, freeOk}
 use Rattle.model.specs.Checks.{sewnOk, pairingOk, crossingOk, addRoomOk, splitRoomOk}
 use Rattle.model.specs.Checks.{addChecks, sidesChecks, sewChecks, unsewChecks, layerChecks, splitChecks}
 use Rattle.model.specs.Runs.{Call}
 use Rattle.model.specs.Meaning.Ends.{recordOk, stepOk, numbers}
 use Rattle.model.specs.Meaning.Numbers.{JournalRule}
-use Rattle.model.specs.Meaning.Maps.{Dim, Map, MapTable}
+use Rattle.model.specs.Meaning.Maps.{Dim, MapTable}
 use Rattle.model.specs.Meaning.Pairings.{OnSide, Sewable}
 use Rattle.model.specs.Meaning.Sets.{Marked}
 use Rattle.model.specs.Meaning.Sheets.{BlockDart}
-use Rattle.model.proofs.Lists.Scan.{clash, and-l, and-r}
+use Rattle.model.proofs.Lists.Scan.{clash, test, and-l, and-r, or-cases}
 use Rattle.model.proofs.Maps.Rules.{map-of}
+use Rattle.model.proofs.Maps.Broken.{some-broken, of-broken}
 use Rattle.model.proofs.Cells.Exact.{block-of}
 use Rattle.model.proofs.Calls.Tests.{or-holds}
 use Rattle.model.proofs.Calls.Checks.{must-at-0, not-pass, passed-at, passed-number, passed-append}
 
 -- ---- what a passed check says
 
-pub mustAt-pass : (b : Bool) (k p : ℕ) → mustAt b k p ≡ pass → b ≡ true
+pub mustAt-pass : (b : Bool) (k p q : ℕ) → mustAt b k p q ≡ pass → b ≡ true
 unfolding mustAt
-mustAt-pass true k p h = refl
-mustAt-pass false k p h = not-pass h
+mustAt-pass true k p q h = refl
+mustAt-pass false k p q h = not-pass h
 
 pub must-pass : (b : Bool) (k : ℕ) → must b k ≡ pass → b ≡ true
-must-pass b k h = mustAt-pass b k 0 (sym (must-at-0 b k) ∙ h)
+must-pass b k h = mustAt-pass b k 0 0 (sym (must-at-0 b k) ∙ h)
 
 pub dim-pass : (n : ℕ) → dimOk n ≡ pass → Dim n
 unfolding dimOk
@@ -58,13 +59,27 @@ table-pass t h =
     let b = leb-true (length t) 262144 (and-r (eqb (length t % 4) 0) _ q) in
     (omega arith, omega arith)
 
-pub map-pass : (n : ℕ) (t : List ℕ) → Dim n → mapOk n t ≡ pass → Map n t
-unfolding mapOk isMap
-map-pass n t n23 h = map-of n t (n23 .1) (mustAt-pass _ 5 (leastBreaking n t) h)
+-- the checks of all rules pass
+abbrev pub RulesPass : ℕ → List ℕ → Type 0
+RulesPass n t = (r : MapRule) → ruleOk n t r ≡ pass
+
+pub rules-pass : (n : ℕ) (t : List ℕ) → ruleOk n t links-live ≡ pass → ruleOk n t links-return ≡ pass
+    → ruleOk n t pairs-commute ≡ pass → ruleOk n t stays-flat ≡ pass → RulesPass n t
+rules-pass n t a b c d links-live = a
+rules-pass n t a b c d links-return = b
+rules-pass n t a b c d pairs-commute = c
+rules-pass n t a b c d stays-flat = d
+
+pub map-pass : (n : ℕ) (t : List ℕ) → n ≤ 3 → RulesPass n t → isMap n t ≡ true
+unfolding ruleOk
+map-pass n t n3 h = test (isMap n t) (λ e. e) (λ e.
+    let (r, d, i, broken) = some-broken n t n3 e in
+    let kept = mustAt-pass _ (ruleNumber r) (leastBreaking n t) (breakingLink n t (leastBreaking n t) r) (h r) in
+    absurd (⊎-elim (λ q. clash q e) (λ q. clash q (of-broken n t n3 broken .broken)) (or-cases (isMap n t) _ kept)))
 
 pub block-pass : (n : ℕ) (t : List ℕ) → blockOk n t ≡ pass → isBlock n t ≡ true
 unfolding blockOk isBlock
-block-pass n t h = mustAt-pass _ 8 (leastWrong n t) h
+block-pass n t h = mustAt-pass _ 8 (leastWrong n t) 0 h
 
 pub index-pass : (n i : ℕ) → indexOk n i ≡ pass → i ≤ n
 unfolding indexOk
@@ -106,11 +121,11 @@ step-pass redo n t j a k h =
 
 -- ---- what the passed checks of a call say; `q k` is the check with the number k
 
-pub table-of : (n : ℕ) (t : List ℕ) → dimOk n ≡ pass → tableOk t ≡ pass → mapOk n t ≡ pass → MapTable n t
+pub table-of : (n : ℕ) (t : List ℕ) → dimOk n ≡ pass → tableOk t ≡ pass → RulesPass n t → MapTable n t
 table-of n t a b c =
     let dim = dim-pass n a in
     let long = table-pass t b in
-    record { dim = dim; whole = long .0; few = long .1; map = map-pass n t dim c }
+    record { dim = dim; whole = long .0; few = long .1; map = map-of n t (dim .1) (map-pass n t (dim .1) c) }
 
 pub record AddPassed (n : ℕ) (t : List ℕ) : Type 0 where
   pub table : MapTable n t
@@ -158,30 +173,30 @@ module _ {n : ℕ} {t : List ℕ} {i d e : ℕ} (passed : SidesPassed n t i d e)
 
 module _ (n : ℕ) (t j : List ℕ) where
   pub add-passed : inOrder (addChecks n t j) ≡ pass → AddPassed n t
-  unfolding addChecks addRoomOk indexOf
+  unfolding addChecks mapChecks addRoomOk indexOf
   add-passed a =
       let q = passed-number (numbers Call.add) (addChecks n t j) a in
-      record { table = table-of n t (q 1) (q 2) (q 5); room = eqb-true _ _ (must-pass _ 14 (q 14)) }
+      record { table = table-of n t (q 1) (q 2) (rules-pass n t (q 5) (q 24) (q 25) (q 26)); room = eqb-true _ _ (must-pass _ 14 (q 14)) }
 
   pub unsew-passed : (i d : ℕ) → inOrder (unsewChecks n t j i d) ≡ pass → UnsewPassed n t i d
-  unfolding unsewChecks sewnOk indexOf
+  unfolding unsewChecks mapChecks sewnOk indexOf
   unsew-passed i d a =
       let q = passed-number (numbers (Call.unsew i d)) (unsewChecks n t j i d) a in
       record {
-        table = table-of n t (q 1) (q 2) (q 5);
+        table = table-of n t (q 1) (q 2) (rules-pass n t (q 5) (q 24) (q 25) (q 26));
         index = index-pass n i (q 6);
         lives = dart-pass t d (q 7);
         sewn = eqb-false _ _ (not-true _ (must-pass _ 11 (q 11)));
       }
 
   pub sides-passed : (i d e : ℕ) → inOrder (sidesChecks n t j i d e) ≡ pass → SidesPassed n t i d e
-  unfolding sidesChecks apartOk freeOk inSet indexOf
+  unfolding sidesChecks mapChecks apartOk freeOk inSet indexOf
   sides-passed i d e a =
       let q = passed-number (numbers (Call.sew i d e)) (sidesChecks n t j i d e) a in
-      let second-7 = passed-at (sidesChecks n t j i d e) a 6 in
+      let second-7 = passed-at (sidesChecks n t j i d e) a 9 in
       let f = must-pass (eqb (link t i d) d && eqb (link t i e) e) 10 (q 10) in
       record {
-        table = table-of n t (q 1) (q 2) (q 5);
+        table = table-of n t (q 1) (q 2) (rules-pass n t (q 5) (q 24) (q 25) (q 26));
         index = index-pass n i (q 6);
         lives-d = dart-pass t d (q 7);
         lives-e = dart-pass t e second-7;
@@ -198,11 +213,11 @@ module _ (n : ℕ) (t j : List ℕ) where
 
   -- of remove, and of the first checks of split
   pub layer-passed : (m : List ℕ) (d : ℕ) → inOrder (layerChecks n t m j d) ≡ pass → BlockDart n t d
-  unfolding layerChecks indexOf
+  unfolding layerChecks mapChecks indexOf
   layer-passed m d a =
       let q = passed-number (numbers (Call.remove d)) (layerChecks n t m j d) a in
       record {
-        table = block-of n t (table-of n t (q 1) (q 2) (q 5)) (block-pass n t (q 8));
+        table = block-of n t (table-of n t (q 1) (q 2) (rules-pass n t (q 5) (q 24) (q 25) (q 26))) (block-pass n t (q 8));
         lives = dart-pass t d (q 7);
       }
 

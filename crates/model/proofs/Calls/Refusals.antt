@@ -12,7 +12,7 @@ use Rattle.model.specs.Table.{link}
 use Rattle.model.specs.Sheet.{sheet}
 use Rattle.model.specs.Journal.{cursor}
 use Rattle.model.specs.Checks.{Check, pass, refuse, andThen, inOrder, undoOk, redoOk}
-use Rattle.model.specs.Checks.{sidesChecks, layerChecks, splitChecks, stepChecks}
+use Rattle.model.specs.Checks.{mapChecks, sidesChecks, layerChecks, splitChecks, stepChecks}
 use Rattle.model.specs.Calls.{Outcome, refused, sewCall, splitCall, undoCall, redoCall}
 use Rattle.model.specs.Runs.{Call, doCall, keeping}
 use Rattle.model.specs.Meaning.Sizes.{member}
@@ -40,43 +40,47 @@ record Alone (n : ℕ) (t j : List ℕ) (z : ℕ) (before : List Check) (own : C
 module _ {n : ℕ} {t j : List ℕ} {z : ℕ} {before : List Check} {own : Check} {behind : List Check}
     (alone : Alone n t j z before own behind) where
   abbrev Refused : Type 0
-  Refused = (p : ℕ) × (inOrder (before ++ (own ∷ behind)) ≡ refuse z p)
+  Refused = (p : ℕ) × (q : ℕ) × (inOrder (before ++ (own ∷ behind)) ≡ refuse z p q)
 
   from-own : Numbers n t j (drop (length before) (alone .listed)) (own ∷ behind)
   from-own = numbers-behind before (own ∷ behind) (alone .numbered)
 
   before-passed : Refused → inOrder before ≡ pass
-  before-passed r = ⊎-elim (λ e. e) (λ q.
-      let i = refusal-says before (numbers-before before (own ∷ behind) (alone .numbered)) (q .0) (q .1) (q .2) .0 in
-      let number = same-refusal (λ k p. k) (sym (append-refused before (own ∷ behind) (q .2)) ∙ r .1) in
-      absurd (not-in _ z (alone .not-before) (q .0) i number))
+  before-passed r = ⊎-elim (λ e. e) (λ w.
+      let (k, p, q, e) = w in
+      let i = refusal-says before (numbers-before before (own ∷ behind) (alone .numbered)) k p q e .0 in
+      let number = same-refusal (λ k p q. k) (sym (append-refused before (own ∷ behind) e) ∙ r .2) in
+      absurd (not-in _ z (alone .not-before) k i number))
       (passed-or-refused (inOrder before))
 
   own-failed : Refused → own ≢ pass
   unfolding inOrder andThen
   own-failed r h =
       let own-passed : inOrder (own ∷ []) ≡ pass = rw h in
-      let e = sym (append-passed before (own ∷ behind) (before-passed r) ∙ append-passed (own ∷ []) behind own-passed) ∙ r .1 in
-      not-in _ z (alone .not-behind) z (refusal-says behind (numbers-behind (own ∷ []) behind from-own) z (r .0) e .0) refl
+      let e = sym (append-passed before (own ∷ behind) (before-passed r) ∙ append-passed (own ∷ []) behind own-passed) ∙ r .2 in
+      not-in _ z (alone .not-behind) z (refusal-says behind (numbers-behind (own ∷ []) behind from-own) z (r .0) (r .1) e .0) refl
 
   own-refuses : inOrder before ≡ pass → own ≢ pass → Refused
   unfolding inOrder andThen
-  own-refuses h failed = ⊎-elim (λ e. absurd (failed e)) (λ q.
-      let own-refused : inOrder (own ∷ []) ≡ refuse (q .0) (q .1) = rw (q .2) in
-      let i = refusal-says (own ∷ []) (numbers-before (own ∷ []) behind from-own) (q .0) (q .1) own-refused .0 in
+  own-refuses h failed = ⊎-elim (λ e. absurd (failed e)) (λ w.
+      let (k, p, q, is) = w in
+      let own-refused : inOrder (own ∷ []) ≡ refuse k p q = rw is in
+      let i = refusal-says (own ∷ []) (numbers-before (own ∷ []) behind from-own) k p q own-refused .0 in
       let e = append-passed before (own ∷ behind) h ∙ append-refused (own ∷ []) behind own-refused in
-      (q .1, e ∙ ap (λ (k : ℕ). refuse k (q .1)) (sole (rw (alone .here) at i))))
+      (p, q, e ∙ ap (λ (k : ℕ). refuse k p q) (sole (rw (alone .here) at i))))
       (passed-or-refused own)
 
 -- ---- of a call
 
 module _ (n : ℕ) (o : Outcome) (c : Call) (z : ℕ) (some-number : z ≢ 0) where
   -- another number than 0 is that of the first check that fails
-  number-refused : (doCall n o c .number ≡ z) ↔ ((p : ℕ) × (inOrder (checks n o c) ≡ refuse z p))
+  number-refused : (doCall n o c .number ≡ z) ↔ ((p : ℕ) × (q : ℕ) × (inOrder (checks n o c) ≡ refuse z p q))
   unfolding refused
   number-refused = (
-    λ h. let r = call-refused n o c (λ q. some-number (sym h ∙ q)) in (r .0, r .1 ∙ ap (λ (k : ℕ). refuse k (r .0)) h),
-    λ r. ap (λ (x : Outcome). x .number) (call-ends n o c .refuses z (r .0) (r .1)),
+    λ h.
+        let (p, q, e, _) = call-refused n o c (λ q. some-number (sym h ∙ q)) in
+        (p, q, e ∙ ap (λ (k : ℕ). refuse k p q) h),
+    λ r. ap (λ (x : Outcome). x .number) (call-ends n o c .refuses z (r .0) (r .1) (r .2)),
   )
 
   -- the check `own`, and no other, has the number z, and fails exactly if P, where those before pass
@@ -105,28 +109,28 @@ module _ (n : ℕ) (o : Outcome) (c : Call) (z : ℕ) (some-number : z ≢ 0) wh
 
 pub sew-12-exactly : (n : ℕ) (t j : List ℕ) (i d e : ℕ) → (sewCall n t j i d e .number ≡ 12)
     ↔ ((inOrder (sidesChecks n t j i d e) ≡ pass) × (Pairing n t i d e → ⊥))
-unfolding doCall keeping checksOf sidesChecks member indexOf
+unfolding doCall keeping checksOf sidesChecks mapChecks member indexOf
 sew-12-exactly n t j i d e =
     given-exactly n (lent t [] j) (Call.sew i d e) 12 (λ q. omega arith) (sidesChecks n t j i d e) _ _ refl refl refl refl
     (λ h. pairing-fails n t i d e (sides-passed n t j i d e h))
 
 pub split-13-exactly : (n : ℕ) (t m j : List ℕ) (d : ℕ) → (splitCall n t m j d .number ≡ 13)
     ↔ ((inOrder (layerChecks n t m j d) ≡ pass) × ((g : ℕ) × Marked (sheet n t d) g × Marked (sheet n t d) (link t 1 g)))
-unfolding doCall checksOf layerChecks splitChecks member indexOf
+unfolding doCall checksOf layerChecks mapChecks splitChecks member indexOf
 split-13-exactly n t m j d =
     given-exactly n (lent t m j) (Call.split d) 13 (λ q. omega arith) (layerChecks n t m j d) _ _ refl refl refl refl
     (λ h. crossing-fails t (sheet n t d))
 
 pub undo-17-exactly : (n : ℕ) (t j : List ℕ) → (undoCall n t j .number ≡ 17)
     ↔ ((inOrder (stepChecks n t j (undoOk j)) ≡ pass) × StepFails false n t j (undoStart j) (undoCount j))
-unfolding doCall keeping checksOf stepChecks member indexOf
+unfolding doCall keeping checksOf stepChecks mapChecks member indexOf
 undo-17-exactly n t j =
     given-exactly n (lent t [] j) Call.undo 17 (λ q. omega arith) (stepChecks n t j (undoOk j)) _ [] refl refl refl refl
     (λ h. step-fails false n t j _ _ (dim-pass n (passed-at _ h 0)))
 
 pub redo-17-exactly : (n : ℕ) (t j : List ℕ) → (redoCall n t j .number ≡ 17)
     ↔ ((inOrder (stepChecks n t j (redoOk j)) ≡ pass) × StepFails true n t j (cursor j) (redoCount j))
-unfolding doCall keeping checksOf stepChecks member indexOf
+unfolding doCall keeping checksOf stepChecks mapChecks member indexOf
 redo-17-exactly n t j =
     given-exactly n (lent t [] j) Call.redo 17 (λ q. omega arith) (stepChecks n t j (redoOk j)) _ [] refl refl refl refl
     (λ h. step-fails true n t j _ _ (dim-pass n (passed-at _ h 0)))

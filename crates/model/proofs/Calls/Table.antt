@@ -1,23 +1,27 @@
 -- `number-table`: each call gives the number of the first of its rows of 01's table that is given, or 0.
-use Prim.Native.Nat.{ℕ}
+use Prim.Native.Nat.{ℕ, _<_}
 use mathlib.Core.Path.{_≡_, refl, sym, ap, _∙_, subst}
 use mathlib.Core.Logic.{inl, inr, _≢_, _↔_}
 use mathlib.Core.Bool.{Bool, true, false}
 use mathlib.Core.List.{List, [], _∷_, _++_}
+use native.Mathlib.Omega.{arith}
 use Rattle.model.specs.Lists.{ones, indexOf}
+use Rattle.model.specs.Map.{MapRule, links-live, links-return, pairs-commute, stays-flat}
 use Rattle.model.specs.Sheet.{sheet}
-use Rattle.model.specs.Checks.{Check, pass, refuse, andThen, inOrder, dimOk, tableOk, marksOk, journalOk, mapOk}
-use Rattle.model.specs.Checks.{checkChecks, orbitChecks, sheetChecks, addChecks, sidesChecks, unsewChecks}
+use Rattle.model.specs.Checks.{Check, pass, refuse, andThen, inOrder, dimOk, tableOk, marksOk, journalOk}
+use Rattle.model.specs.Checks.{ruleNumber, ruleOk, mapChecks, checkChecks, orbitChecks, sheetChecks, addChecks, sidesChecks, unsewChecks}
 use Rattle.model.specs.Checks.{layerChecks, splitChecks, stepChecks}
 use Rattle.model.specs.Calls.{Outcome, refused}
 use Rattle.model.specs.Runs.{Call, doCall}
 use Rattle.model.specs.Meaning.Ends.{stepOk, checksOf, checks, numbers}
-use Rattle.model.specs.Meaning.Numbers.{NumberRow, First, dimRow, tableRow, marksRow, journalRow, mapRow, dartRow}
+use Rattle.model.specs.Meaning.Maps.{Dim}
+use Rattle.model.specs.Meaning.Numbers.{NumberRow, First, dimRow, tableRow, marksRow, journalRow, mapRows, dartRow}
 use Rattle.model.specs.Meaning.Numbers.{blockRow, stepRow, numberRows}
-use Rattle.model.proofs.Calls.Checks.{not-pass, passed-at, passed-number, append-passed, Numbered, Numbers, _then_}
+use Rattle.model.proofs.Maps.Broken.{each-earlier}
+use Rattle.model.proofs.Calls.Checks.{not-pass, passed-at, passed-number, passed-append, append-passed, Numbered, Numbers, _then_}
 use Rattle.model.proofs.Calls.Checks.{call-numbers}
-use Rattle.model.proofs.Calls.Pass.{dim-pass, table-of, sides-passed}
-use Rattle.model.proofs.Calls.Fails.{dim-fails, table-fails, marks-fails, journal-fails, map-fails, index-fails, mask-fails}
+use Rattle.model.proofs.Calls.Pass.{dim-pass, rules-pass, table-of, sides-passed}
+use Rattle.model.proofs.Calls.Fails.{dim-fails, table-fails, marks-fails, journal-fails, rule-fails, index-fails, mask-fails}
 use Rattle.model.proofs.Calls.Fails.{dart-fails, block-fails, apart-fails, free-fails, sewn-fails, pairing-fails}
 use Rattle.model.proofs.Calls.Fails.{crossing-fails, add-room-fails, split-room-fails, record-fails, undo-fails, redo-fails}
 use Rattle.model.proofs.Calls.Fails.{step-fails}
@@ -48,7 +52,7 @@ numbersOf (r ∷ rs) = r .number ∷ numbersOf rs
 -- the number of checks in order
 numberIn : Check → ℕ
 numberIn pass = 0
-numberIn (refuse k p) = k
+numberIn (refuse k p q) = k
 
 -- one check before others
 first-one : {n : ℕ} {t j : List ℕ} (r : NumberRow) (rs : List NumberRow) (c : Check) (cs : List Check)
@@ -56,7 +60,7 @@ first-one : {n : ℕ} {t j : List ℕ} (r : NumberRow) (rs : List NumberRow) (c 
     → First (r ∷ rs) (numberIn (inOrder (c ∷ cs)))
 unfolding inOrder andThen numberIn
 first-one r rs pass cs a f rest = inr (λ g. f .1 g refl, rest refl)
-first-one r rs (refuse k p) cs a f rest = inl (f .0 (λ e. not-pass e), a k p refl .0)
+first-one r rs (refuse k p q) cs a f rest = inl (f .0 (λ e. not-pass e), a k p q refl .0)
 
 first-number : {n : ℕ} {t j : List ℕ} (before : List Check) (rs : List NumberRow) (cs : List Check) → inOrder before ≡ pass
     → Meets before rs cs → Numbers n t j (numbersOf rs) cs → First rs (numberIn (inOrder cs))
@@ -66,6 +70,9 @@ first-number before (r ∷ rs) (c ∷ cs) h (f next m) (a then w) = first-one r 
     (λ e. first-number (before ++ (c ∷ [])) rs cs (append-passed before (c ∷ []) h ∙ rw e) m w)
 first-number before (r ∷ rs) (c ∷ cs) h (f next-passed m) (a then w) = first-one r rs c cs a (f h)
     (λ e. first-number (before ++ (c ∷ [])) rs cs (append-passed before (c ∷ []) h ∙ rw e) m w)
+
+last-passed : (before : List Check) (c : Check) → inOrder (before ++ (c ∷ [])) ≡ pass → (inOrder before ≡ pass) × (c ≡ pass)
+last-passed before c h = let (a, b) = passed-append before (c ∷ []) h in (a, passed-at (c ∷ []) b 0)
 
 -- ---- each call
 
@@ -84,37 +91,75 @@ module _ (n : ℕ) (o : Outcome) where
   MeetsRows c = Meets [] (numberRows n t m j c) (checks n o c)
 
   -- n is 2 or 3, where the first check has passed
-  map-row : (before : List Check) → inOrder (dimOk n ∷ before) ≡ pass → (mapOk n t ≢ pass) ↔ mapRow n t .given
-  map-row before h = map-fails n t (dim-pass n (passed-at (dimOk n ∷ before) h 0))
+  dim-before : (before : List Check) → inOrder (dimOk n ∷ before) ≡ pass → Dim n
+  dim-before before h = dim-pass n (passed-at (dimOk n ∷ before) h 0)
 
   step-row : (redo : Bool) (a k : ℕ) (before : List Check) → inOrder (dimOk n ∷ before) ≡ pass
       → (stepOk redo n t j a k ≢ pass) ↔ stepRow redo n t j a k .given
-  step-row redo a k before h = step-fails redo n t j a k (dim-pass n (passed-at (dimOk n ∷ before) h 0))
+  step-row redo a k before h = step-fails redo n t j a k (dim-before before h)
+
+  -- the rows of a map, behind the check 1 and others
+  abbrev with-rule : List Check → MapRule → List Check
+  with-rule before r = before ++ (ruleOk n t r ∷ [])
+
+  abbrev with-rules : List Check → List Check
+  with-rules before = with-rule (with-rule (with-rule (with-rule before links-live) links-return) pairs-commute) stays-flat
+
+  then-map : (others : List Check) {rs : List NumberRow} {cs : List Check} → Meets (with-rules (dimOk n ∷ others)) rs cs
+      → Meets (dimOk n ∷ others) (mapRows n t ++ rs) (mapChecks n t ++ cs)
+  unfolding mapChecks ruleNumber
+  then-map others w =
+      (λ h. rule-fails n t links-live (dim-before _ h) (earlier links-live (λ l. absurd (omega arith)) (λ l. absurd (omega arith))
+      (λ l. absurd (omega arith))))
+      next-passed (λ h. rule-fails n t links-return (dim-before _ h) (earlier links-return (λ _. last-passed before-1 _ h .1)
+      (λ l. absurd (omega arith)) (λ l. absurd (omega arith))))
+      next-passed (λ h. let p = last-passed before-2 _ h in
+      rule-fails n t pairs-commute (dim-before _ h) (earlier pairs-commute (λ _. last-passed before-1 _ (p .0) .1) (λ _. p .1)
+      (λ l. absurd (omega arith))))
+      next-passed (λ h. let p = last-passed before-3 _ h in
+      let q = last-passed before-2 _ (p .0) in
+      rule-fails n t stays-flat (dim-before _ h) (earlier stays-flat (λ _. last-passed before-1 _ (q .0) .1) (λ _. q .1) (λ _. p .1)))
+      next-passed w
+    where
+      before-1 : List Check
+      before-1 = dimOk n ∷ others
+
+      before-2 : List Check
+      before-2 = with-rule before-1 links-live
+
+      before-3 : List Check
+      before-3 = with-rule before-2 links-return
+
+      earlier : (r : MapRule) → (5 < ruleNumber r → ruleOk n t links-live ≡ pass) → (24 < ruleNumber r → ruleOk n t links-return ≡ pass)
+          → (25 < ruleNumber r → ruleOk n t pairs-commute ≡ pass) → (q : MapRule) → ruleNumber q < ruleNumber r → ruleOk n t q ≡ pass
+      earlier = each-earlier (λ r. ruleOk n t r ≡ pass)
 
   -- the first rows of the calls with marks, with a journal, and with both
-  with-marks : {rs : List NumberRow} {cs : List Check} → Meets (dimOk n ∷ tableOk t ∷ marksOk t m ∷ mapOk n t ∷ []) rs cs
-      → Meets [] (dimRow n ∷ tableRow t ∷ marksRow t m ∷ mapRow n t ∷ rs) (dimOk n ∷ tableOk t ∷ marksOk t m ∷ mapOk n t ∷ cs)
-  with-marks w = dim-fails n next table-fails t next marks-fails t m next map-row _ next-passed w
+  with-marks : {rs : List NumberRow} {cs : List Check} → Meets (with-rules (dimOk n ∷ tableOk t ∷ marksOk t m ∷ [])) rs cs
+      → Meets [] (dimRow n ∷ tableRow t ∷ marksRow t m ∷ (mapRows n t ++ rs)) (dimOk n ∷ tableOk t ∷ marksOk t m ∷ (mapChecks n t ++ cs))
+  with-marks w = dim-fails n next table-fails t next marks-fails t m next then-map _ w
 
-  with-journal : {rs : List NumberRow} {cs : List Check} → Meets (dimOk n ∷ tableOk t ∷ journalOk j ∷ mapOk n t ∷ []) rs cs
-      → Meets [] (dimRow n ∷ tableRow t ∷ journalRow j ∷ mapRow n t ∷ rs) (dimOk n ∷ tableOk t ∷ journalOk j ∷ mapOk n t ∷ cs)
-  with-journal w = dim-fails n next table-fails t next journal-fails j next map-row _ next-passed w
+  with-journal : {rs : List NumberRow} {cs : List Check} → Meets (with-rules (dimOk n ∷ tableOk t ∷ journalOk j ∷ [])) rs cs
+      → Meets [] (dimRow n ∷ tableRow t ∷ journalRow j ∷ (mapRows n t ++ rs)) (dimOk n ∷ tableOk t ∷ journalOk j ∷ (mapChecks n t ++ cs))
+  with-journal w = dim-fails n next table-fails t next journal-fails j next then-map _ w
 
   with-layer : (d : ℕ) {rs : List NumberRow} {cs : List Check} → Meets (layerChecks n t m j d) rs cs
-      → Meets [] (dimRow n ∷ tableRow t ∷ marksRow t m ∷ journalRow j ∷ mapRow n t ∷ dartRow t d ∷ blockRow n t ∷ rs)
+      → Meets [] (dimRow n ∷ tableRow t ∷ marksRow t m ∷ journalRow j ∷ (mapRows n t ++ (dartRow t d ∷ blockRow n t ∷ rs)))
       (layerChecks n t m j d ++ cs)
-  unfolding layerChecks indexOf
+  unfolding layerChecks mapChecks indexOf
   with-layer d w =
-      dim-fails n next table-fails t next marks-fails t m next journal-fails j next map-row _ next-passed dart-fails t d
-      next (λ h. let q = passed-number (numbers (Call.remove d)) _ h in block-fails n t (table-of n t (q 1) (q 2) (q 5)))
-      next-passed w
+      dim-fails n next table-fails t next marks-fails t m next journal-fails j next then-map _ (dart-fails t d
+      next (λ h. let q = passed-number (numbers (Call.remove d)) _ h in
+      block-fails n t (table-of n t (q 1) (q 2) (rules-pass n t (q 5) (q 24) (q 25) (q 26))))
+      next-passed w)
 
   meets : (c : Call) → MeetsRows c
-  unfolding checksOf checkChecks orbitChecks sheetChecks addChecks sidesChecks unsewChecks splitChecks stepChecks indexOf
-  meets Call.check = dim-fails n next table-fails t next map-row _ next-passed no-more
+  unfolding checksOf mapChecks checkChecks orbitChecks sheetChecks addChecks sidesChecks unsewChecks splitChecks stepChecks indexOf
+  meets Call.check = dim-fails n next table-fails t next then-map _ no-more
   meets (Call.orbit mask d) = with-marks (mask-fails n mask next dart-fails t d next no-more)
   meets (Call.sheet d) = with-marks (dart-fails t d
-      next (λ h. let q = passed-number (numbers (Call.sheet d)) _ h in block-fails n t (table-of n t (q 1) (q 2) (q 5)))
+      next (λ h. let q = passed-number (numbers (Call.sheet d)) _ h in
+      block-fails n t (table-of n t (q 1) (q 2) (rules-pass n t (q 5) (q 24) (q 25) (q 26))))
       next-passed no-more)
   meets Call.add = with-journal (add-room-fails n t next record-fails t _ j next no-more)
   meets (Call.sew i d e) = with-journal (index-fails n i next dart-fails t d next dart-fails t e next apart-fails n t i d e
@@ -129,6 +174,7 @@ module _ (n : ℕ) (o : Outcome) where
   meets Call.redo = with-journal (redo-fails j next step-row true _ _ _ next-passed no-more)
 
   rows-numbers : (c : Call) → numbers c ≡ numbersOf (numberRows n t m j c)
+  unfolding ruleNumber
   rows-numbers Call.check = refl
   rows-numbers (Call.orbit mask d) = refl
   rows-numbers (Call.sheet d) = refl
@@ -146,7 +192,7 @@ module _ (n : ℕ) (o : Outcome) where
     where
       go : (x : Check) → inOrder (checks n o c) ≡ x → doCall n o c .number ≡ numberIn x
       go pass e = ap (λ (r : Outcome). r .number) (call-ends n o c .passes e) ∙ done-number n o c
-      go (refuse k p) e = ap (λ (r : Outcome). r .number) (call-ends n o c .refuses k p e)
+      go (refuse k p q) e = ap (λ (r : Outcome). r .number) (call-ends n o c .refuses k p q e)
 
   pub number-table : (c : Call) (z : ℕ) → (doCall n o c .number ≡ z) ↔ First (numberRows n t m j c) z
   unfolding inOrder

@@ -1,46 +1,57 @@
--- `call-untouched`: a call that is refused leaves table and journal, gives the count 0, the place of its number, and the
--- marks as lent, but for remove and split refused by 13, 14 or 15.
+-- `call-untouched`: a call that is refused leaves table and journal, gives the place and the count of its number, and the
+-- marks as lent, but for remove and split refused by 13, 14 or 15. The place is 0 but for 5, 24 to 26 and 8, the count but for
+-- 5 and 24 to 26: `place-of-others`, `count-of-others`.
 -- `reading-untouched`: check, orbit and sheet leave table and journal also where they are accepted.
 use Prim.Native.Nat.{ℕ}
-use mathlib.Core.Path.{_≡_, refl, ap, _∙_}
+use mathlib.Core.Path.{_≡_, refl, sym, ap, _∙_}
 use mathlib.Core.Logic.{_≢_}
 use native.Mathlib.Omega.{arith}
-use Rattle.model.specs.Map.{leastBreaking}
+use Rattle.model.specs.Map.{MapRule, breakingLink, leastBreaking}
 use Rattle.model.specs.Cell.{leastWrong}
+use Rattle.model.specs.Checks.{ruleNumber}
 use Rattle.model.specs.Calls.{Outcome, refused}
 use Rattle.model.specs.Runs.{Call, doCall}
-use Rattle.model.specs.Meaning.Ends.{Untouched, done, refusalPlace, Reading, reads-check, reads-orbit, reads-sheet, doneOf}
+use Rattle.model.specs.Meaning.Ends.{Untouched, done, byRule, refusalPlace, refusalCount, doneOf}
+use Rattle.model.specs.Meaning.Ends.{Reading, reads-check, reads-orbit, reads-sheet}
 use Rattle.model.proofs.Lists.Scan.{if-eq}
-use Rattle.model.proofs.Calls.Checks.{place-other}
+use Rattle.model.proofs.Calls.Checks.{NoRule, by-rule, place-other, count-other, rule-not-0}
 use Rattle.model.proofs.Calls.Ends.{call-says, call-done, call-refused}
 
 module _ (n : ℕ) (o : Outcome) (c : Call) where
   pub call-untouched : doCall n o c .number ≢ 0 → Untouched n o c (doCall n o c)
   unfolding refused
   call-untouched h =
-      let r = call-refused n o c h in
-      let is = r .2 in
+      let (p, q, e, is) = call-refused n o c h in
+      let says = call-says n o c _ p q e .1 in
       record {
-        count = ap (λ (x : Outcome). x .count) is;
-        place = ap (λ (x : Outcome). x .place) is ∙ call-says n o c _ (r .0) (r .1) .1 .place;
+        place = ap (λ (x : Outcome). x .place) is ∙ says .place;
+        count = ap (λ (x : Outcome). x .count) is ∙ says .count;
         table = ap (λ (x : Outcome). x .table) is;
         marks = ap (λ (x : Outcome). x .marks) is;
         journal = ap (λ (x : Outcome). x .journal) is;
       }
 
-  -- "On a refusal .. place is 0 but for 5 and 8": the least slot that breaks a rule ..
-  pub place-of-5 : doCall n o c .number ≡ 5 → doCall n o c .place ≡ leastBreaking n (o .table)
+  -- the place and the count by the number: 5 and 24 to 26 ..
+  pub place-of-rule : (r : MapRule) → doCall n o c .number ≡ ruleNumber r → doCall n o c .place ≡ leastBreaking n (o .table)
   unfolding refusalPlace
-  place-of-5 h = rw h at (call-untouched (λ q. omega arith) .place)
+  place-of-rule r h = call-untouched (λ q. rule-not-0 r (sym h ∙ q)) .place ∙ ap (refusalPlace n (o .table)) h ∙ by-rule _ _ r
 
-  -- .. the least live slot in a wrong cell ..
+  pub count-of-rule : (r : MapRule) → doCall n o c .number ≡ ruleNumber r
+      → doCall n o c .count ≡ breakingLink n (o .table) (leastBreaking n (o .table)) r
+  unfolding refusalCount
+  count-of-rule r h = call-untouched (λ q. rule-not-0 r (sym h ∙ q)) .count ∙ ap (refusalCount n (o .table)) h ∙ by-rule _ _ r
+
+  -- .. 8 ..
   pub place-of-8 : doCall n o c .number ≡ 8 → doCall n o c .place ≡ leastWrong n (o .table)
-  unfolding refusalPlace
+  unfolding refusalPlace byRule
   place-of-8 h = rw h at (call-untouched (λ q. omega arith) .place)
 
-  -- .. and 0
-  pub place-of-others : doCall n o c .number ≢ 0 → doCall n o c .number ≢ 5 → doCall n o c .number ≢ 8 → doCall n o c .place ≡ 0
-  place-of-others h a b = call-untouched h .place ∙ place-other n (o .table) _ a b
+  -- .. and the others
+  pub place-of-others : doCall n o c .number ≢ 0 → NoRule (doCall n o c .number) → doCall n o c .number ≢ 8 → doCall n o c .place ≡ 0
+  place-of-others h none b = call-untouched h .place ∙ place-other n (o .table) _ none b
+
+  pub count-of-others : doCall n o c .number ≢ 0 → NoRule (doCall n o c .number) → doCall n o c .count ≡ 0
+  count-of-others h none = call-untouched h .count ∙ count-other n (o .table) _ none
 
   -- a call that leaves table and journal where it is accepted leaves them always
   untouched-always : done n o c .table ≡ o .table → done n o c .journal ≡ o .journal

@@ -20,9 +20,11 @@ use Rattle.model.specs.Runs.{Step, State, answer, stepped, run, start}
 use Rattle.model.specs.Meaning.Demand.{FreshStart, calling, numberOf, Stands, Alike}
 use Rattle.model.specs.Meaning.Maps.{Dim}
 use Rattle.model.proofs.Maps.Dim.{two-cases}
+use Rattle.model.proofs.Lists.Scan.{clash}
+use Rattle.model.proofs.Calls.Checks.{Says, NoRule, rule-not-0}
 use Rattle.model.proofs.Calls.Ends.{call-says, call-refused}
 use Rattle.model.proofs.Calls.Untouched.{call-untouched}
-use Rattle.model.proofs.History.Log.{journalOf, stepsTo, map-ok}
+use Rattle.model.proofs.History.Log.{journalOf, stepsTo}
 use Rattle.model.proofs.History.Invariant.{historyOf, standingWords, undoneWords, historyWords, Invariant, stepNumber}
 use Rattle.model.proofs.History.Invariant.{undo-moves, redo-undone, undo-number, redo-number}
 use Rattle.model.proofs.History.Invariant.{refused-history, rule-now, journal-now, call-keeps}
@@ -62,19 +64,21 @@ module _ {n : ℕ} {first : List ℕ} (s : State) (inv : InvariantAt n first s) 
   unfolding numberOf answer doCall keeping
   redo-gives m = redo-number n first (s .history .standing) (s .history .undone) inv
 
-  no-4 : (c : Call) (m : List ℕ) → numberOf n s c m ≢ 4
+  -- what a refusal says of the next call
+  call-refusal : (c : Call) (m : List ℕ) → numberOf n s c m ≢ 0
+      → (p : ℕ) × (q : ℕ) × Says n (s .outcome .table) (s .outcome .journal) (numberOf n s c m) p q
   unfolding numberOf answer keeping
-  no-4 c m e =
+  call-refusal c m h =
       let o = keeping (s .outcome) m (s .outcome .journal) in
-      let r = call-refused n o c (λ q. omega arith) in
-      call-says n o c _ (r .0) (r .1) .1 .journal e (journal-now o inv)
+      let (p, q, e, _) = call-refused n o c h in
+      (p, q, call-says n o c _ p q e .1)
 
-  no-5 : (c : Call) (m : List ℕ) → numberOf n s c m ≢ 5
-  unfolding numberOf answer keeping
-  no-5 c m e =
-      let o = keeping (s .outcome) m (s .outcome .journal) in
-      let r = call-refused n o c (λ q. omega arith) in
-      call-says n o c _ (r .0) (r .1) .1 .map e (map-ok n _ (rule-now o inv .map))
+  no-4 : (c : Call) (m : List ℕ) → numberOf n s c m ≢ 4
+  no-4 c m e = call-refusal c m (λ q. omega arith) .2 .journal e (journal-now (s .outcome) inv)
+
+  no-rule : (c : Call) (m : List ℕ) → NoRule (numberOf n s c m)
+  no-rule c m r e =
+      clash (rule-now (s .outcome) inv .map) (call-refusal c m (λ q. rule-not-0 r (sym e ∙ q)) .2 .map r e)
 
   invariant-stands : Stands n first s
   invariant-stands = record {
@@ -87,7 +91,7 @@ module _ {n : ℕ} {first : List ℕ} (s : State) (inv : InvariantAt n first s) 
     undo-17 = λ m e. step-17 _ (sym (undo-gives m) ∙ e);
     redo-17 = λ m e. step-17 _ (sym (redo-gives m) ∙ e);
     never-4 = no-4;
-    never-5 = no-5;
+    never-broken = no-rule;
   }
     where
       given-16 : {k : ℕ} {ps : List Op} → k ≡ stepNumber ps → (k ≡ 16) ↔ (ps ≡ [])

@@ -206,11 +206,11 @@ abbrev pub After : ℕ → List ℕ → History → Call → Outcome → Type 0
 After n first h c r = Invariant n first (answered (r .number) c h) (r .table) (r .journal)
 
 module _ (n : ℕ) (first : List ℕ) {t j : List ℕ} where
-  undo-nothing : (us : List Op) → Invariant n first (historyOf [] us) t j → undoCall n t j ≡ refused 16 0 t [] j
+  undo-nothing : (us : List Op) → Invariant n first (historyOf [] us) t j → undoCall n t j ≡ refused 16 0 0 t [] j
   unfolding historyWords standingWords
   undo-nothing us inv = rw (inv .table, inv .journal) (undo-none (inv .rule) _ (inv .rest) (inv .few))
 
-  redo-nothing : (ds : List Op) → Invariant n first (historyOf ds []) t j → redoCall n t j ≡ refused 16 0 t [] j
+  redo-nothing : (ds : List Op) → Invariant n first (historyOf ds []) t j → redoCall n t j ≡ refused 16 0 0 t [] j
   unfolding historyWords undoneWords
   redo-nothing ds inv = rw (inv .table, inv .journal) (redo-none (inv .rule) _ (inv .rest) (inv .few))
 

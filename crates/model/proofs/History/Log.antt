@@ -11,12 +11,13 @@ use lib.ListN.{length, getD, drop, length-append, length-drop}
 use lib.Seq.{getD-at, getD-append-seam, getD-append-add, take-append-seam, drop-append-add}
 use lib.Dec.{eqb}
 use borrow.Author.Tests.{eq-eqb, ne-eqb, le-leb}
-use Rattle.model.specs.Map.{isMap}
+use Rattle.model.specs.Map.{links-live, links-return, pairs-commute, stays-flat, isMap}
 use Rattle.model.specs.Journal.{Change, triples, readChanges, changesAt, recordOf, written, cursor, end, put, sound, unbroken}
-use Rattle.model.specs.Checks.{Check, pass, refuse, andThen, must, mustAt, inOrder, dimOk, tableOk, journalOk, mapOk}
+use Rattle.model.specs.Checks.{Check, pass, refuse, andThen, must, inOrder, dimOk, tableOk, journalOk, mapChecks}
 use Rattle.model.specs.Checks.{undoOk, redoOk, stepChecks}
 use Rattle.model.specs.Calls.{Outcome, stepOutcome, undoCall, redoCall, refused}
 use Rattle.model.proofs.Lists.Scan.{and-i}
+use Rattle.model.proofs.Calls.Checks.{map-keeps}
 use Rattle.model.proofs.Calls.Fails.{journal-holds}
 use Rattle.model.proofs.History.Record.{read-triples, length-triples, length-record}
 
@@ -99,11 +100,7 @@ module _ (first second : ℕ) (before : List ℕ) (cs : List Change) (behind : L
 
 -- ---- undo and redo
 
-pub map-ok : (n : ℕ) (t : List ℕ) → isMap n t ≡ true → mapOk n t ≡ pass
-unfolding isMap mapOk mustAt
-map-ok n t h = rw h
-
--- a dimension and a table that pass the checks 1, 2 and 5
+-- a dimension and a table that pass the checks 1, 2, 5 and 24 to 26
 pub record InRule (n : ℕ) (t : List ℕ) : Type 0 where
   pub dim : dimOk n ≡ pass
   pub size : tableOk t ≡ pass
@@ -112,19 +109,21 @@ pub record InRule (n : ℕ) (t : List ℕ) : Type 0 where
 then-pass : (c : Check) → andThen c pass ≡ c
 unfolding andThen
 then-pass pass = refl
-then-pass (refuse k p) = refl
+then-pass (refuse k p q) = refl
 
 -- where they pass, and 4 too, the last check of undo and redo decides
 step-checks : {n : ℕ} {t : List ℕ} (j : List ℕ) (there : Check) → InRule n t → journalOk j ≡ pass
     → inOrder (stepChecks n t j there) ≡ there
-unfolding inOrder andThen stepChecks
-step-checks {n} {t} j there rule ok = rw (rule .dim, rule .size, ok, map-ok n t (rule .map)) (then-pass there)
+unfolding inOrder andThen stepChecks mapChecks
+step-checks {n} {t} j there rule ok =
+    let keeps = map-keeps n t (rule .map) in
+    rw (rule .dim, rule .size, ok, keeps links-live, keeps links-return, keeps pairs-commute, keeps stays-flat) (then-pass there)
 
 not-equal-ok : (x y : ℕ) → x ≢ y → must (not (eqb x y)) 16 ≡ pass
 unfolding must
 not-equal-ok x y h = rw (ne-eqb x y h)
 
-equal-refused : (x y : ℕ) → x ≡ y → must (not (eqb x y)) 16 ≡ refuse 16 0
+equal-refused : (x y : ℕ) → x ≡ y → must (not (eqb x y)) 16 ≡ refuse 16 0 0
 unfolding must
 equal-refused x y h = rw (eq-eqb x y h)
 
@@ -217,13 +216,13 @@ module _ (standing undone rest : List ℕ) (cs : List Change) where
 
 module _ {n : ℕ} {t : List ℕ} (rule : InRule n t) where
   pub undo-none : (undone rest : List ℕ) → length (journalOf [] undone rest) ≤ 1048576
-      → undoCall n t (journalOf [] undone rest) ≡ refused 16 0 t [] (journalOf [] undone rest)
+      → undoCall n t (journalOf [] undone rest) ≡ refused 16 0 0 t [] (journalOf [] undone rest)
   unfolding undoCall undoOk cursor journalOf
   undo-none undone rest few =
       rw (step-checks _ _ rule (journal-ok [] undone rest few) ∙ equal-refused 2 2 refl, undoCall)
 
   pub redo-none : (standing rest : List ℕ) → length (journalOf standing [] rest) ≤ 1048576
-      → redoCall n t (journalOf standing [] rest) ≡ refused 16 0 t [] (journalOf standing [] rest)
+      → redoCall n t (journalOf standing [] rest) ≡ refused 16 0 0 t [] (journalOf standing [] rest)
   unfolding redoCall redoOk cursor end journalOf
   redo-none standing rest few =
       let s = length standing in

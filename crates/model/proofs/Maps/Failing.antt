@@ -31,7 +31,7 @@ module _ (t : List ℕ) (keeps : ℕ → Bool) where
   of-keeps : (d : ℕ) → (live t d ≡ true → keeps d ≡ true) → failing t keeps d ≡ false
   of-keeps d h = test (live t d) (λ l. failing-live d l ∙ ap not (h l)) (failing-dead d)
 
-  fails-of : (d : ℕ) → failing t keeps d ≡ true → (live t d ≡ true) × (keeps d ≡ false)
+  pub fails-of : (d : ℕ) → failing t keeps d ≡ true → (live t d ≡ true) × (keeps d ≡ false)
   fails-of d h = test (live t d) (λ l. (l, not-true _ (sym (failing-live d l) ∙ h))) (λ l. absurd (clash h (failing-dead d l)))
 
   of-fails : (d : ℕ) → live t d ≡ true → keeps d ≡ false → failing t keeps d ≡ true

@@ -9,12 +9,12 @@ use native.Mathlib.Omega.{arith}
 use lib.ListN.{length, List·getD-eq-default}
 use lib.Dec.{eqb}
 use borrow.Author.Tests.{eqb-true, eq-eqb, ne-eqb, le-leb, lt-leb, not-false}
-use Rattle.model.specs.Lists.{allBelow}
 use Rattle.model.specs.Table.{unused, slots, link, walk, live, retable, relinkAt, relink}
-use Rattle.model.specs.Map.{returns, linked, crossed, keepsRules, breaksRule, leastBreaking, isMap}
+use Rattle.model.specs.Map.{MapRule, links-live, links-return, pairs-commute, stays-flat, returns, crossed, keepsAt}
+use Rattle.model.specs.Map.{keepsRule, keepsRules, breaksRule, leastBreaking, isMap}
 use Rattle.model.specs.Meaning.Maps.{Map, MapTable, Rule}
 use Rattle.model.specs.Meaning.Pairings.{Far}
-use Rattle.model.proofs.Lists.Scan.{and-l, and-r, and-i, test, if-eq, if-lt, clash, below-at, below-of, below-both}
+use Rattle.model.proofs.Lists.Scan.{and-l, and-r, and-i, test, if-eq, if-lt, clash, below-at, below-of}
 use Rattle.model.proofs.Lists.Scan.{length-tab, getD-tab}
 use Rattle.model.proofs.Maps.Failing.{failing, none-failing}
 
@@ -25,47 +25,74 @@ module _ (n : ℕ) (t : List ℕ) (d : ℕ) where
   unfolding crossed returns walk
   crossed-far i j h = rw (le-leb _ _ h, crossed)
 
-  crossed-near : (i j : ℕ) → j < i + 2 → crossed t d i j ≡ true
+  pub crossed-near : (i j : ℕ) → j < i + 2 → crossed t d i j ≡ true
   unfolding crossed
   crossed-near i j h = rw (lt-leb _ _ h, crossed)
 
-  -- the three parts of the test
-  abbrev linksKeep : Bool
-  linksKeep = allBelow 4 (linked t d)
+  -- the four parts of the test
+  abbrev liveLinks : Bool
+  liveLinks = keepsRule n t d links-live
 
-  abbrev pairsKeep : Bool
-  pairsKeep = allBelow 4 (λ i. allBelow (suc n) (crossed t d i))
+  abbrev returned : Bool
+  returned = keepsRule n t d links-return
 
-  abbrev planeKeeps : Bool
-  planeKeeps = elim (eqb n 2) [ true ↦ eqb (link t 3 d) d | false ↦ true ]
+  abbrev commuting : Bool
+  commuting = keepsRule n t d pairs-commute
+
+  abbrev flat : Bool
+  flat = keepsRule n t d stays-flat
+
+  pub keep-all : ((r : MapRule) → keepsRule n t d r ≡ true) → keepsRules n t d ≡ true
+  unfolding keepsRules
+  keep-all h = and-i (and-i (and-i (h links-live) (h links-return)) (h pairs-commute)) (h stays-flat)
+
+  pub keep-each : keepsRules n t d ≡ true → (r : MapRule) → keepsRule n t d r ≡ true
+  unfolding keepsRules
+  keep-each h = each
+    where
+      three : (liveLinks && returned && commuting) ≡ true
+      three = and-l (liveLinks && returned && commuting) flat h
+
+      two : (liveLinks && returned) ≡ true
+      two = and-l (liveLinks && returned) commuting three
+
+      each : (r : MapRule) → keepsRule n t d r ≡ true
+      each links-live = and-l liveLinks returned two
+      each links-return = and-r liveLinks returned two
+      each pairs-commute = and-r (liveLinks && returned) commuting three
+      each stays-flat = and-r (liveLinks && returned && commuting) flat h
 
   pub rule-of : n ≤ 3 → keepsRules n t d ≡ true → Rule n t d
-  unfolding keepsRules linked returns walk
+  unfolding keepsAt keepsRule returns walk
   rule-of n3 h = record {
-    goes = λ i l. and-l (live t (link t i d)) _ (below-at (linked t d) 4 links i l);
-    comes = λ i l. eqb-true _ _ (and-r (live t (link t i d)) _ (below-at (linked t d) 4 links i l));
-    cross = λ i j u l. eqb-true _ _ (sym (crossed-far i j u) ∙ pair i j (omega arith) (omega arith));
-    plane = λ e. eqb-true _ _ (rw (eq-eqb n 2 e, planeKeeps) at (and-r (linksKeep && pairsKeep) planeKeeps h));
+    goes = λ i l. at links-live i l;
+    comes = λ i l. eqb-true _ _ (at links-return i l);
+    cross = λ i j u l.
+        eqb-true _ _ (sym (crossed-far i j u) ∙ below-at (crossed t d i) (suc n) (at pairs-commute i (omega arith)) j (omega arith));
+    plane = λ e. eqb-true _ _ (rw (eq-eqb n 2 e, keepsAt) at (at stays-flat 3 (omega arith)));
   }
     where
-      links : linksKeep ≡ true
-      links = and-l linksKeep pairsKeep (and-l (linksKeep && pairsKeep) planeKeeps h)
-
-      pair : (i j : ℕ) → i < 4 → j < suc n → crossed t d i j ≡ true
-      pair = below-both (crossed t d) 4 (suc n) (and-r linksKeep pairsKeep (and-l (linksKeep && pairsKeep) planeKeeps h))
+      at : (r : MapRule) (i : ℕ) → i < 4 → keepsAt n t d r i ≡ true
+      at r i l = below-at (keepsAt n t d r) 4 (keep-each h r) i l
 
   pub of-rule : Rule n t d → keepsRules n t d ≡ true
-  unfolding keepsRules linked returns walk
-  of-rule r = and-i (and-i links (below-of _ 4 (λ i _. below-of _ (suc n) (pair i)))) plane
+  unfolding keepsAt keepsRule returns walk
+  of-rule q = keep-all (λ r. below-of (keepsAt n t d r) 4 (at r))
     where
-      links : linksKeep ≡ true
-      links = below-of (linked t d) 4 (λ i l. and-i (r .goes i l) (eq-eqb _ _ (r .comes i l)))
-
       pair : (i j : ℕ) → j < suc n → crossed t d i j ≡ true
-      pair i j l = if-lt j (i + 2) (crossed-near i j) (λ u. crossed-far i j u ∙ eq-eqb _ _ (r .cross i j u (omega arith)))
+      pair i j l = if-lt j (i + 2) (crossed-near i j) (λ u. crossed-far i j u ∙ eq-eqb _ _ (q .cross i j u (omega arith)))
 
-      plane : planeKeeps ≡ true
-      plane = test (eqb n 2) (λ e. rw (e, planeKeeps) (eq-eqb _ _ (r .plane (eqb-true n 2 e)))) (λ e. rw (e, planeKeeps))
+      at : (r : MapRule) (i : ℕ) → i < 4 → keepsAt n t d r i ≡ true
+      at links-live i l = q .goes i l
+      at links-return i l = eq-eqb _ _ (q .comes i l)
+      at pairs-commute i l = below-of _ (suc n) (pair i)
+      at stays-flat i l =
+          test (eqb n 2 && eqb i 3) (λ e. rw (e, keepsAt) (eq-eqb _ _ (flat-link e))) (λ e. rw (e, keepsAt))
+        where
+          flat-link : (eqb n 2 && eqb i 3) ≡ true → link t i d ≡ d
+          flat-link e =
+              let is-3 : i ≡ 3 = eqb-true i 3 (and-r (eqb n 2) _ e) in
+              rw is-3 (q .plane (eqb-true n 2 (and-l (eqb n 2) _ e)))
 
 module _ (n : ℕ) (t : List ℕ) where
   pub map-of : n ≤ 3 → isMap n t ≡ true → Map n t

@@ -5,8 +5,9 @@ use mathlib.Core.Logic.{_≢_, _↔_}
 use mathlib.Core.Bool.{true}
 use mathlib.Core.List.{List, []}
 use lib.ListN.{length}
-use Rattle.model.specs.Map.{isMap}
+use Rattle.model.specs.Map.{MapRule, isMap}
 use Rattle.model.specs.Journal.{cursor, end}
+use Rattle.model.specs.Checks.{ruleNumber}
 use Rattle.model.specs.Runs.{Call, State, Step, answer, replay}
 use Rattle.model.specs.Meaning.Maps.{Dim}
 
@@ -41,9 +42,9 @@ pub record Stands (n : ℕ) (t : List ℕ) (s : State) : Type 0 where
   pub redo-0 : (m : List ℕ) → s .history .undone ≢ [] → numberOf n s Call.redo m ≡ 0
   pub undo-17 : (m : List ℕ) → numberOf n s Call.undo m ≢ 17
   pub redo-17 : (m : List ℕ) → numberOf n s Call.redo m ≢ 17
-  -- no call finds a journal out of rule, or a table that is no map
+  -- no call finds a journal out of rule, or a table that breaks a rule of a map: none gives 4, 5, 24, 25 or 26
   pub never-4 : (c : Call) (m : List ℕ) → numberOf n s c m ≢ 4
-  pub never-5 : (c : Call) (m : List ℕ) → numberOf n s c m ≢ 5
+  pub never-broken : (c : Call) (m : List ℕ) (r : MapRule) → numberOf n s c m ≢ ruleNumber r
 
 -- two states with the same table, journal and history
 pub record Alike (s r : State) : Type 0 where

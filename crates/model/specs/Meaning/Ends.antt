@@ -9,7 +9,7 @@ use lib.ListN.{length, getD, set}
 use lib.Dec.{leb, eqb}
 use Rattle.model.specs.Lists.{count, ones}
 use Rattle.model.specs.Table.{slots}
-use Rattle.model.specs.Map.{isMap, leastBreaking}
+use Rattle.model.specs.Map.{MapRule, links-live, links-return, pairs-commute, stays-flat, breakingLink, isMap, leastBreaking}
 use Rattle.model.specs.Cell.{cellSize, isBlock, leastWrong}
 use Rattle.model.specs.Orbit.{orbit, orbitPlace}
 use Rattle.model.specs.Sheet.{sheet, sheetMarks}
@@ -69,18 +69,18 @@ checksOf n t m j Call.redo = stepChecks n t j (redoOk j) ++ (stepOk true n t j (
 abbrev pub checks : ℕ → Outcome → Call → List Check
 checks n o c = checksOf n (o .table) (o .marks) (o .journal) c
 
--- their numbers: the column "Calls" of 01's table. sew has 7 twice, for d and for e
+-- their numbers: the column "Calls" of 01's table, and 02's R-3. sew has 7 twice, for d and for e
 abbrev pub numbers : Call → List ℕ
-numbers Call.check = 1 ∷ 2 ∷ 5 ∷ []
-numbers (Call.orbit mask d) = 1 ∷ 2 ∷ 3 ∷ 5 ∷ 6 ∷ 7 ∷ []
-numbers (Call.sheet d) = 1 ∷ 2 ∷ 3 ∷ 5 ∷ 7 ∷ 8 ∷ []
-numbers Call.add = 1 ∷ 2 ∷ 4 ∷ 5 ∷ 14 ∷ 15 ∷ []
-numbers (Call.sew i d e) = 1 ∷ 2 ∷ 4 ∷ 5 ∷ 6 ∷ 7 ∷ 7 ∷ 9 ∷ 10 ∷ 12 ∷ 15 ∷ []
-numbers (Call.unsew i d) = 1 ∷ 2 ∷ 4 ∷ 5 ∷ 6 ∷ 7 ∷ 11 ∷ 15 ∷ []
-numbers (Call.remove d) = 1 ∷ 2 ∷ 3 ∷ 4 ∷ 5 ∷ 7 ∷ 8 ∷ 15 ∷ []
-numbers (Call.split d) = 1 ∷ 2 ∷ 3 ∷ 4 ∷ 5 ∷ 7 ∷ 8 ∷ 13 ∷ 14 ∷ 15 ∷ []
-numbers Call.undo = 1 ∷ 2 ∷ 4 ∷ 5 ∷ 16 ∷ 17 ∷ []
-numbers Call.redo = 1 ∷ 2 ∷ 4 ∷ 5 ∷ 16 ∷ 17 ∷ []
+numbers Call.check = 1 ∷ 2 ∷ 5 ∷ 24 ∷ 25 ∷ 26 ∷ []
+numbers (Call.orbit mask d) = 1 ∷ 2 ∷ 3 ∷ 5 ∷ 24 ∷ 25 ∷ 26 ∷ 6 ∷ 7 ∷ []
+numbers (Call.sheet d) = 1 ∷ 2 ∷ 3 ∷ 5 ∷ 24 ∷ 25 ∷ 26 ∷ 7 ∷ 8 ∷ []
+numbers Call.add = 1 ∷ 2 ∷ 4 ∷ 5 ∷ 24 ∷ 25 ∷ 26 ∷ 14 ∷ 15 ∷ []
+numbers (Call.sew i d e) = 1 ∷ 2 ∷ 4 ∷ 5 ∷ 24 ∷ 25 ∷ 26 ∷ 6 ∷ 7 ∷ 7 ∷ 9 ∷ 10 ∷ 12 ∷ 15 ∷ []
+numbers (Call.unsew i d) = 1 ∷ 2 ∷ 4 ∷ 5 ∷ 24 ∷ 25 ∷ 26 ∷ 6 ∷ 7 ∷ 11 ∷ 15 ∷ []
+numbers (Call.remove d) = 1 ∷ 2 ∷ 3 ∷ 4 ∷ 5 ∷ 24 ∷ 25 ∷ 26 ∷ 7 ∷ 8 ∷ 15 ∷ []
+numbers (Call.split d) = 1 ∷ 2 ∷ 3 ∷ 4 ∷ 5 ∷ 24 ∷ 25 ∷ 26 ∷ 7 ∷ 8 ∷ 13 ∷ 14 ∷ 15 ∷ []
+numbers Call.undo = 1 ∷ 2 ∷ 4 ∷ 5 ∷ 24 ∷ 25 ∷ 26 ∷ 16 ∷ 17 ∷ []
+numbers Call.redo = 1 ∷ 2 ∷ 4 ∷ 5 ∷ 24 ∷ 25 ∷ 26 ∷ 16 ∷ 17 ∷ []
 
 -- an operation passes its checks, but for 15
 abbrev pub Passed : ℕ → List ℕ → List ℕ → List ℕ → Op → Type 0
@@ -93,10 +93,26 @@ Passed n t m j (Op.split d) =
 
 -- ---- a refusal by the number k
 
--- "place is 0 but for 5 and 8"
+-- what f gives for the rule that has the number k; where none has it, z
+unfoldable pub byRule : (MapRule → ℕ) → ℕ → ℕ → ℕ
+byRule f z k = elim (eqb k 5) [
+  | true ↦ f links-live
+  | false ↦ (elim (eqb k 24) [
+    | true ↦ f links-return
+    | false ↦ (elim (eqb k 25) [
+      | true ↦ f pairs-commute
+      | false ↦ (elim (eqb k 26) [ true ↦ f stays-flat | false ↦ z ])
+    ])
+  ])
+]
+
+-- "place is 0 but for 5 and 8", and 24 to 26, whose "place stays that slot"
 unfoldable pub refusalPlace : ℕ → List ℕ → ℕ → ℕ
-refusalPlace n t k =
-    elim (eqb k 5) [ true ↦ leastBreaking n t | false ↦ (elim (eqb k 8) [ true ↦ leastWrong n t | false ↦ 0 ]) ]
+refusalPlace n t k = byRule (λ r. leastBreaking n t) (elim (eqb k 8) [ true ↦ leastWrong n t | false ↦ 0 ]) k
+
+-- "count is 0" but for 5 and 24 to 26: "count then gives the link index"
+unfoldable pub refusalCount : ℕ → List ℕ → ℕ → ℕ
+refusalCount n t k = byRule (breakingLink n t (leastBreaking n t)) 0 k
 
 -- "marks too, but remove and split refused by 13, 14 or 15 leave the sheet's marks"
 unfoldable pub layerMarks : ℕ → Outcome → ℕ → ℕ → List ℕ
@@ -116,13 +132,13 @@ refusalMarks n o Call.undo k = o .marks
 refusalMarks n o Call.redo k = o .marks
 
 -- "Refusals leave table and journal alike"
-abbrev pub refusedBy : ℕ → Outcome → Call → ℕ → ℕ → Outcome
-refusedBy n o c k p = refused k p (o .table) (refusalMarks n o c k) (o .journal)
+abbrev pub refusedBy : ℕ → Outcome → Call → ℕ → ℕ → ℕ → Outcome
+refusedBy n o c k p q = refused k p q (o .table) (refusalMarks n o c k) (o .journal)
 
 -- of the outcome r of a call on o that is refused
 pub record Untouched (n : ℕ) (o : Outcome) (c : Call) (r : Outcome) : Type 0 where
-  pub count : r .count ≡ 0
   pub place : r .place ≡ refusalPlace n (o .table) (r .number)
+  pub count : r .count ≡ refusalCount n (o .table) (r .number)
   pub table : r .table ≡ o .table
   pub marks : r .marks ≡ refusalMarks n o c (r .number)
   pub journal : r .journal ≡ o .journal
@@ -182,10 +198,10 @@ done n o c = doneOf n (o .table) (o .marks) (o .journal) c
 
 -- ---- how a call ends
 
--- behind the checks cs an outcome is y, where they pass, and f of the number and place where one refuses
-pub record Behind (cs : List Check) (y : Outcome) (f : ℕ → ℕ → Outcome) (r : Outcome) : Type 0 where
+-- behind the checks cs an outcome is y, where they pass, and f of the number, place and count where one refuses
+pub record Behind (cs : List Check) (y : Outcome) (f : ℕ → ℕ → ℕ → Outcome) (r : Outcome) : Type 0 where
   pub passes : inOrder cs ≡ pass → r ≡ y
-  pub refuses : (k p : ℕ) → inOrder cs ≡ refuse k p → r ≡ f k p
+  pub refuses : (k p q : ℕ) → inOrder cs ≡ refuse k p q → r ≡ f k p q
 
 abbrev pub Ends : ℕ → Outcome → Call → Type 0
 Ends n o c = Behind (checks n o c) (done n o c) (refusedBy n o c) (doCall n o c)

@@ -1,15 +1,18 @@
 -- Maps and block maps, as properties and not as tests.
--- Main definitions: `Rule` and `Map`; `Straight`, `GoodCell` and `Block`; `MapTable` and `BlockTable`, what the passed checks of a call say.
+-- Main definitions: `Rule` and `Map`, `BreaksFirst`; `Straight`, `GoodCell` and `Block`; `MapTable` and `BlockTable`, what the passed
+-- checks of a call say.
 use Prim.Native.Nat.{ℕ, _+_, _*_, _≤_, _<_}
 use mathlib.Core.Path.{_≡_}
-use mathlib.Core.Bool.{true}
+use mathlib.Core.Logic.{_≢_}
+use mathlib.Core.Bool.{true, false}
 use mathlib.Core.List.{List, [], _∷_}
 use lib.ListN.{length}
 use Rattle.model.specs.Lists.{count}
 use Rattle.model.specs.Table.{slots, link, live, walk}
-use Rattle.model.specs.Map.{isMap}
+use Rattle.model.specs.Map.{MapRule, links-live, links-return, pairs-commute, stays-flat, isMap}
 use Rattle.model.specs.Cell.{cellSize, cellOf, goodCell, isBlock}
 use Rattle.model.specs.Sew.{side}
+use Rattle.model.specs.Checks.{ruleNumber}
 use Rattle.model.specs.Meaning.Sets.{Marked}
 
 -- n is 2 or 3
@@ -22,6 +25,13 @@ pub record Rule (n : ℕ) (t : List ℕ) (d : ℕ) : Type 0 where
   pub comes : (i : ℕ) → i < 4 → link t i (link t i d) ≡ d
   pub cross : (i j : ℕ) → i + 2 ≤ j → j ≤ n → link t j (link t i (link t j (link t i d))) ≡ d
   pub plane : n ≡ 2 → link t 3 d ≡ d
+
+-- link i of d breaks a rule
+abbrev pub Breaks : ℕ → List ℕ → ℕ → MapRule → ℕ → Type 0
+Breaks n t d links-live i = live t (link t i d) ≡ false
+Breaks n t d links-return i = link t i (link t i d) ≢ d
+Breaks n t d pairs-commute i = (j : ℕ) × (i + 2 ≤ j) × (j ≤ n) × (link t j (link t i (link t j (link t i d))) ≢ d)
+Breaks n t d stays-flat i = (n ≡ 2) × (i ≡ 3) × (link t i d ≢ d)
 
 pub record Map (n : ℕ) (t : List ℕ) : Type 0 where
   pub rule : (d : ℕ) → d < slots t → live t d ≡ true → Rule n t d
@@ -64,9 +74,18 @@ pub record LeastFailing (t : List ℕ) (P : ℕ → Type 0) (d : ℕ) : Type 0 w
   pub fails : P d → ⊥
   pub before : (x : ℕ) → x < d → live t x ≡ true → P x
 
+-- d is the least slot that breaks a rule of a map, r the first rule that it breaks, and i the least link that breaks it
+pub record BreaksFirst (n : ℕ) (t : List ℕ) (r : MapRule) (d i : ℕ) : Type 0 where
+  pub slot : d < slots t
+  pub least : LeastFailing t (Rule n t) d
+  pub index : i < 4
+  pub breaks : Breaks n t d r i
+  pub lower : (k : ℕ) → k < i → Breaks n t d r k → ⊥
+  pub earlier : (q : MapRule) → ruleNumber q < ruleNumber r → (k : ℕ) → k < 4 → Breaks n t d q k → ⊥
+
 -- ---- what the passed checks of a call say of a table
 
--- 1, 2 and 5: a table of a length that is allowed, and a map
+-- 1, 2, 5 and 24 to 26: a table of a length that is allowed, and a map
 pub record MapTable (n : ℕ) (t : List ℕ) : Type 0 where
   pub dim : Dim n
   pub whole : length t ≡ 4 * slots t

@@ -1,13 +1,14 @@
--- "Numbers a call gives back": 01's table as rows, a number and when it is given, and for each call its rows in the order
+-- "Numbers a call gives back": 01's table, with the numbers of 02, as rows, a number and when it is given, and for each call its rows in the order
 -- of the numbers. A call gives the number of the first row that is given, or 0 (`First`).
 use Prim.Native.Nat.{ℕ, _+_, _*_, _-_, _%_, _^_, _≤_, _<_}
 use mathlib.Core.Path.{_≡_}
 use mathlib.Core.Logic.{_⊎_, _≢_}
 use mathlib.Core.Bool.{Bool, true, false}
-use mathlib.Core.List.{List, [], _∷_}
+use mathlib.Core.List.{List, [], _∷_, _++_}
 use lib.ListN.{length}
 use Rattle.model.specs.Lists.{ones}
 use Rattle.model.specs.Table.{slots, link, live, unusedSlots}
+use Rattle.model.specs.Map.{MapRule, links-live, links-return, pairs-commute, stays-flat}
 use Rattle.model.specs.Cell.{cellSize}
 use Rattle.model.specs.Sheet.{sheet}
 use Rattle.model.specs.Add.{addTable}
@@ -15,9 +16,10 @@ use Rattle.model.specs.Sew.{side, sewTable, unsewTable}
 use Rattle.model.specs.Remove.{removeTable}
 use Rattle.model.specs.Split.{splitTable}
 use Rattle.model.specs.Journal.{cursor, end, changesFrom, recordOf, changesAt, put, unbroken}
+use Rattle.model.specs.Checks.{ruleNumber}
 use Rattle.model.specs.Runs.{Call}
 use Rattle.model.specs.Meaning.Ends.{undoCount, undoStart, redoCount}
-use Rattle.model.specs.Meaning.Maps.{Map, Block}
+use Rattle.model.specs.Meaning.Maps.{Map, BreaksFirst, Block}
 use Rattle.model.specs.Meaning.Pairings.{Pairing}
 use Rattle.model.specs.Meaning.Sets.{Marked}
 
@@ -56,9 +58,12 @@ pub record JournalRule (j : List ℕ) : Type 0 where
 abbrev pub journalRow : List ℕ → NumberRow
 journalRow j = record { number = 4; given = JournalRule j → ⊥ }
 
--- "not a map"
-abbrev pub mapRow : ℕ → List ℕ → NumberRow
-mapRow n t = record { number = 5; given = Map n t → ⊥ }
+-- "not a map": the rule r is the first that is broken
+abbrev pub ruleRow : ℕ → List ℕ → MapRule → NumberRow
+ruleRow n t r = record { number = ruleNumber r; given = (d : ℕ) × (i : ℕ) × BreaksFirst n t r d i }
+
+abbrev pub mapRows : ℕ → List ℕ → List NumberRow
+mapRows n t = ruleRow n t links-live ∷ ruleRow n t links-return ∷ ruleRow n t pairs-commute ∷ ruleRow n t stays-flat ∷ []
 
 -- "i above n, or mask above 2^(n+1) - 1"
 abbrev pub indexRow : ℕ → ℕ → NumberRow
@@ -120,25 +125,27 @@ stepRow redo n t j a k = record { number = 17; given = StepFails redo n t j a k 
 -- ---- the rows of each call, on the table t, the marks m and the journal j
 
 abbrev pub numberRows : ℕ → List ℕ → List ℕ → List ℕ → Call → List NumberRow
-numberRows n t m j Call.check = dimRow n ∷ tableRow t ∷ mapRow n t ∷ []
+numberRows n t m j Call.check = dimRow n ∷ tableRow t ∷ mapRows n t
 numberRows n t m j (Call.orbit mask d) =
-    dimRow n ∷ tableRow t ∷ marksRow t m ∷ mapRow n t ∷ maskRow n mask ∷ dartRow t d ∷ []
-numberRows n t m j (Call.sheet d) = dimRow n ∷ tableRow t ∷ marksRow t m ∷ mapRow n t ∷ dartRow t d ∷ blockRow n t ∷ []
+    dimRow n ∷ tableRow t ∷ marksRow t m ∷ (mapRows n t ++ (maskRow n mask ∷ dartRow t d ∷ []))
+numberRows n t m j (Call.sheet d) = dimRow n ∷ tableRow t ∷ marksRow t m ∷ (mapRows n t ++ (dartRow t d ∷ blockRow n t ∷ []))
 numberRows n t m j Call.add =
-    dimRow n ∷ tableRow t ∷ journalRow j ∷ mapRow n t ∷ roomRow t (cellSize n) ∷ recordRow t (addTable n t) j ∷ []
+    dimRow n ∷ tableRow t ∷ journalRow j ∷ (mapRows n t ++ (roomRow t (cellSize n) ∷ recordRow t (addTable n t) j ∷ []))
 numberRows n t m j (Call.sew i d e) =
-    dimRow n ∷ tableRow t ∷ journalRow j ∷ mapRow n t ∷ indexRow n i ∷ dartRow t d ∷ dartRow t e ∷ apartRow n t i d e
-    ∷ freeRow t i d e ∷ pairingRow n t i d e ∷ recordRow t (sewTable n t i d e) j ∷ []
+    dimRow n ∷ tableRow t ∷ journalRow j ∷ (mapRows n t ++ (indexRow n i ∷ dartRow t d ∷ dartRow t e ∷ apartRow n t i d e
+    ∷ freeRow t i d e ∷ pairingRow n t i d e ∷ recordRow t (sewTable n t i d e) j ∷ []))
 numberRows n t m j (Call.unsew i d) =
-    dimRow n ∷ tableRow t ∷ journalRow j ∷ mapRow n t ∷ indexRow n i ∷ dartRow t d ∷ sewnRow t i d
-    ∷ recordRow t (unsewTable n t i d) j ∷ []
+    dimRow n ∷ tableRow t ∷ journalRow j ∷ (mapRows n t ++ (indexRow n i ∷ dartRow t d ∷ sewnRow t i d
+    ∷ recordRow t (unsewTable n t i d) j ∷ []))
 numberRows n t m j (Call.remove d) =
-    dimRow n ∷ tableRow t ∷ marksRow t m ∷ journalRow j ∷ mapRow n t ∷ dartRow t d ∷ blockRow n t
-    ∷ recordRow t (removeTable n t d) j ∷ []
+    dimRow n ∷ tableRow t ∷ marksRow t m ∷ journalRow j ∷ (mapRows n t ++ (dartRow t d ∷ blockRow n t
+    ∷ recordRow t (removeTable n t d) j ∷ []))
 numberRows n t m j (Call.split d) =
-    dimRow n ∷ tableRow t ∷ marksRow t m ∷ journalRow j ∷ mapRow n t ∷ dartRow t d ∷ blockRow n t ∷ crossingRow n t d
-    ∷ roomRow t (n * length (ones (sheet n t d))) ∷ recordRow t (splitTable n t d) j ∷ []
+    dimRow n ∷ tableRow t ∷ marksRow t m ∷ journalRow j ∷ (mapRows n t ++ (dartRow t d ∷ blockRow n t ∷ crossingRow n t d
+    ∷ roomRow t (n * length (ones (sheet n t d))) ∷ recordRow t (splitTable n t d) j ∷ []))
 numberRows n t m j Call.undo =
-    dimRow n ∷ tableRow t ∷ journalRow j ∷ mapRow n t ∷ undoRow j ∷ stepRow false n t j (undoStart j) (undoCount j) ∷ []
+    dimRow n ∷ tableRow t ∷ journalRow j
+    ∷ (mapRows n t ++ (undoRow j ∷ stepRow false n t j (undoStart j) (undoCount j) ∷ []))
 numberRows n t m j Call.redo =
-    dimRow n ∷ tableRow t ∷ journalRow j ∷ mapRow n t ∷ redoRow j ∷ stepRow true n t j (cursor j) (redoCount j) ∷ []
+    dimRow n ∷ tableRow t ∷ journalRow j
+    ∷ (mapRows n t ++ (redoRow j ∷ stepRow true n t j (cursor j) (redoCount j) ∷ []))

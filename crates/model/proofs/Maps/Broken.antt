@@ -1,0 +1,206 @@
+-- Which rule a table that is no map breaks.
+-- Main theorems: `breaks-exactly` (a test and its property); `broken-first` and `of-broken` (the first rule broken, by the tests);
+-- `some-broken` (a table that is no map has one); `broken-once` (it has one only).
+use Prim.Native.Nat.{ℕ, suc, _≤_, _<_}
+use mathlib.Core.Path.{_≡_, refl, sym, ap, _∙_, subst}
+use mathlib.Core.Logic.{_↔_, Iff·rfl}
+use mathlib.Core.Bool.{true, false, not, _&&_}
+use mathlib.Core.List.{List}
+use native.Mathlib.Omega.{arith}
+use lib.Dec.{eqb}
+use borrow.Author.Tests.{eqb-true, eq-eqb, eqb-false, ne-eqb, not-true, not-false}
+use Rattle.model.specs.Lists.{least}
+use Rattle.model.specs.Table.{slots, link, live, walk}
+use Rattle.model.specs.Map.{MapRule, links-live, links-return, pairs-commute, stays-flat, returns, crossed, keepsAt, keepsRule}
+use Rattle.model.specs.Map.{breakingLink, keepsRules, breaksRule, leastBreaking, isMap}
+use Rattle.model.specs.Checks.{ruleNumber}
+use Rattle.model.specs.Meaning.Maps.{Rule, Breaks, BreaksFirst, LeastFailing}
+use Rattle.model.proofs.Lists.Scan.{and-l, and-r, and-i, test, clash, if-eq, if-lt, below-at, below-of, below-not}
+use Rattle.model.proofs.Lists.Scan.{First, least-is, least-by}
+use Rattle.model.proofs.Maps.Failing.{failing, fails-of}
+use Rattle.model.proofs.Maps.Rules.{crossed-far, crossed-near, keep-all, of-rule}
+use Rattle.model.proofs.Maps.Exact.{least-breaking}
+
+-- ---- one rule at one slot
+
+module _ (n : ℕ) (t : List ℕ) (d : ℕ) where
+  pub breaks-exactly : (r : MapRule) (i : ℕ) → (keepsAt n t d r i ≡ false) ↔ Breaks n t d r i
+  unfolding keepsAt returns walk
+  breaks-exactly links-live i = Iff·rfl
+  breaks-exactly links-return i = (eqb-false _ _, ne-eqb _ _)
+  breaks-exactly pairs-commute i = (
+    λ h.
+        let (j, l, f) = below-not (crossed t d i) (suc n) h in
+        if-lt j (suc (suc i)) (λ u. absurd (clash (crossed-near n t d i j (omega arith)) f)) (λ u.
+        (j, omega arith, omega arith, eqb-false _ _ (sym (crossed-far n t d i j (omega arith)) ∙ f))),
+    λ w.
+        let (j, u, l, e) = w in
+        test _ (λ h. absurd (clash (below-at (crossed t d i) (suc n) h j (omega arith)) (crossed-far n t d i j u ∙ ne-eqb _ _ e)))
+        (λ h. h),
+  )
+  breaks-exactly stays-flat i = (
+    λ h. test (eqb n 2 && eqb i 3)
+        (λ e. (eqb-true n 2 (and-l (eqb n 2) _ e), eqb-true i 3 (and-r (eqb n 2) _ e), eqb-false _ _ (rw (e, keepsAt) at h)))
+        (λ e. absurd (clash (rw (e, keepsAt)) h)),
+    λ w. let (flat, third, e) = w in rw (and-i (eq-eqb n 2 flat) (eq-eqb i 3 third), keepsAt) (ne-eqb _ _ e),
+  )
+
+  module _ (r : MapRule) where
+    keeps-at : (i : ℕ) → (Breaks n t d r i → ⊥) → keepsAt n t d r i ≡ true
+    keeps-at i h = test (keepsAt n t d r i) (λ e. e) (λ e. absurd (h (breaks-exactly r i .0 e)))
+
+    pub keeps-rule : ((i : ℕ) → i < 4 → Breaks n t d r i → ⊥) → keepsRule n t d r ≡ true
+    unfolding keepsRule
+    keeps-rule h = below-of (keepsAt n t d r) 4 (λ i l. keeps-at i (h i l))
+
+    pub kept-by : keepsRule n t d r ≡ true → (i : ℕ) → i < 4 → Breaks n t d r i → ⊥
+    unfolding keepsRule
+    kept-by h i l b = clash (below-at (keepsAt n t d r) 4 h i l) (breaks-exactly r i .1 b)
+
+    -- the least link that breaks the rule
+    abbrev i : ℕ
+    i = breakingLink n t d r
+
+    first : First (λ i. not (keepsAt n t d r i)) 0 4 i
+    unfolding breakingLink
+    first = least-is (λ i. not (keepsAt n t d r i)) 4
+
+    pub link-lower : (k : ℕ) → k < i → Breaks n t d r k → ⊥
+    link-lower k l b = clash (not-false _ (first .before k (omega arith) l)) (breaks-exactly r k .1 b)
+
+    pub link-below : keepsRule n t d r ≡ false → i < 4
+    link-below h = if-lt i 4 (λ l. l) (λ u. absurd (clash (keeps-rule (λ k l. link-lower k (omega arith))) h))
+
+    pub link-breaks : keepsRule n t d r ≡ false → Breaks n t d r i
+    link-breaks h = breaks-exactly r i .0 (not-true _ (first .passes (link-below h)))
+
+    pub link-is : (k : ℕ) → k < 4 → Breaks n t d r k → ((x : ℕ) → x < k → Breaks n t d r x → ⊥) → i ≡ k
+    unfolding breakingLink
+    link-is k l b lower = least-by (λ i. not (keepsAt n t d r i)) 4 k (record {
+      low = omega arith;
+      high = omega arith;
+      passes = λ _. ap not (breaks-exactly r k .1 b);
+      before = λ x _ u. ap not (keeps-at x (lower x u));
+    })
+
+-- ---- the order of the rules
+
+-- the rule that has the number
+ruleAt : ℕ → MapRule
+ruleAt k = elim (eqb k 5) [
+  | true ↦ links-live
+  | false ↦ (elim (eqb k 24) [
+    | true ↦ links-return
+    | false ↦ (elim (eqb k 25) [ true ↦ pairs-commute | false ↦ stays-flat ])
+  ])
+]
+
+rule-at : (r : MapRule) → ruleAt (ruleNumber r) ≡ r
+unfolding ruleNumber ruleAt
+rule-at links-live = refl
+rule-at links-return = refl
+rule-at pairs-commute = refl
+rule-at stays-flat = refl
+
+number-most : (r : MapRule) → ruleNumber r ≤ 26
+unfolding ruleNumber
+number-most links-live = omega arith
+number-most links-return = omega arith
+number-most pairs-commute = omega arith
+number-most stays-flat = omega arith
+
+-- what holds of every rule before r
+pub each-earlier : (P : MapRule → Type 0) (r : MapRule) → (5 < ruleNumber r → P links-live) → (24 < ruleNumber r → P links-return)
+    → (25 < ruleNumber r → P pairs-commute) → (q : MapRule) → ruleNumber q < ruleNumber r → P q
+unfolding ruleNumber
+each-earlier P r a b c links-live l = a l
+each-earlier P r a b c links-return l = b l
+each-earlier P r a b c pairs-commute l = c l
+each-earlier P r a b c stays-flat l = let most = number-most r in absurd (omega arith)
+
+-- ---- the first rule broken
+
+module _ (n : ℕ) (t : List ℕ) (n3 : n ≤ 3) where
+  -- the least slot that breaks a rule
+  abbrev b : ℕ
+  b = leastBreaking n t
+
+  -- it keeps the rule
+  abbrev Kept : MapRule → Type 0
+  Kept r = keepsRule n t b r ≡ true
+
+  breaking : First (failing t (keepsRules n t)) 0 (slots t) b
+  unfolding leastBreaking breaksRule failing
+  breaking = least-is (failing t (keepsRules n t)) (slots t)
+
+  module _ (not-map : isMap n t ≡ false) where
+    slot : b < slots t
+    unfolding isMap
+    slot = let h = breaking .high in let e = eqb-false b (slots t) not-map in omega arith
+
+    pub broken-first : (r : MapRule) → keepsRule n t b r ≡ false → ((q : MapRule) → ruleNumber q < ruleNumber r → Kept q)
+        → BreaksFirst n t r b (breakingLink n t b r)
+    broken-first r h earlier = record {
+      slot = slot;
+      least = least-breaking n t n3 b slot .0 refl;
+      index = link-below n t b r h;
+      breaks = link-breaks n t b r h;
+      lower = link-lower n t b r;
+      earlier = λ q l. kept-by n t b q (earlier q l);
+    }
+
+    pub some-broken : (r : MapRule) × (d : ℕ) × (i : ℕ) × BreaksFirst n t r d i
+    unfolding ruleNumber
+    some-broken =
+        test (keepsRule n t b links-live) (λ lives. test (keepsRule n t b links-return) (λ back.
+        test (keepsRule n t b pairs-commute) (λ pairs. test (keepsRule n t b stays-flat) (λ flat. absurd (all-kept lives back pairs flat))
+        (λ h. found stays-flat h (λ _. lives) (λ _. back) (λ _. pairs)))
+        (λ h. found pairs-commute h (λ _. lives) (λ _. back) (λ l. absurd (omega arith))))
+        (λ h. found links-return h (λ _. lives) (λ l. absurd (omega arith)) (λ l. absurd (omega arith))))
+        (λ h. found links-live h (λ l. absurd (omega arith)) (λ l. absurd (omega arith)) (λ l. absurd (omega arith)))
+      where
+        found : (r : MapRule) → keepsRule n t b r ≡ false → (5 < ruleNumber r → Kept links-live)
+            → (24 < ruleNumber r → Kept links-return) → (25 < ruleNumber r → Kept pairs-commute)
+            → (r : MapRule) × (d : ℕ) × (i : ℕ) × BreaksFirst n t r d i
+        found r h lives back pairs = (r, b, breakingLink n t b r, broken-first r h (each-earlier Kept r lives back pairs))
+
+        every : Kept links-live → Kept links-return → Kept pairs-commute → Kept stays-flat → (r : MapRule) → Kept r
+        every lives back pairs flat links-live = lives
+        every lives back pairs flat links-return = back
+        every lives back pairs flat pairs-commute = pairs
+        every lives back pairs flat stays-flat = flat
+
+        all-kept : Kept links-live → Kept links-return → Kept pairs-commute → Kept stays-flat → ⊥
+        all-kept lives back pairs flat =
+            clash (keep-all n t b (every lives back pairs flat)) (fails-of t (keepsRules n t) b (breaking .passes slot) .1)
+
+  -- what the tests say of it
+  pub record Tested (r : MapRule) (d i : ℕ) : Type 0 where
+    pub place : b ≡ d
+    pub not-map : isMap n t ≡ false
+    pub broken : keepsRule n t b r ≡ false
+    pub link : breakingLink n t b r ≡ i
+    pub earlier : (q : MapRule) → ruleNumber q < ruleNumber r → Kept q
+
+  pub of-broken : {r : MapRule} {d i : ℕ} → BreaksFirst n t r d i → Tested r d i
+  unfolding isMap
+  of-broken {r} {d} {i} f =
+      let place : b ≡ d = least-breaking n t n3 d (f .slot) .1 (f .least) in
+      let here : BreaksFirst n t r b i = subst (λ (x : ℕ). BreaksFirst n t r x i) (sym place) f in
+      record {
+        place = place;
+        not-map = let s = f .slot in ne-eqb b (slots t) (λ e. omega arith);
+        broken = test _ (λ h. absurd (kept-by n t b r h i (f .index) (here .breaks))) (λ h. h);
+        link = link-is n t b r i (f .index) (here .breaks) (here .lower);
+        earlier = λ q l. keeps-rule n t b q (here .earlier q l);
+      }
+
+  -- "The four conditions exclude one another": there is one rule, one slot and one link
+  pub broken-once : {r q : MapRule} {d e i k : ℕ} → BreaksFirst n t r d i → BreaksFirst n t q e k → (r ≡ q) × (d ≡ e) × (i ≡ k)
+  broken-once {r} {q} {d} {e} {i} {k} f g =
+      let a = of-broken f in
+      let c = of-broken g in
+      let number : ruleNumber r ≡ ruleNumber q = if-lt (ruleNumber r) (ruleNumber q) (λ l. absurd (clash (c .earlier r l) (a .broken)))
+          (λ u. if-lt (ruleNumber q) (ruleNumber r) (λ l. absurd (clash (a .earlier q l) (c .broken))) (λ v. omega arith)) in
+      let rule : r ≡ q = sym (rule-at r) ∙ ap ruleAt number ∙ rule-at q in
+      (rule, sym (a .place) ∙ c .place, sym (a .link) ∙ ap (breakingLink n t b) rule ∙ c .link)
