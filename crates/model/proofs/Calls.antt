@@ -6,5 +6,6 @@ pub mod Ends
 pub mod Table
 pub mod Refusals
 pub mod Untouched
+pub mod Rules
 pub mod Written
 pub mod Kept

@@ -121,7 +121,7 @@ must-is b {z} k p q e = mustAt-is b k p q (sym (must-at-0 b z) ∙ e)
 abbrev pub NoRule : ℕ → Type 0
 NoRule k = (r : MapRule) → k ≢ ruleNumber r
 
-pub by-rule : (f : MapRule → ℕ) (z : ℕ) (r : MapRule) → byRule f z (ruleNumber r) ≡ f r
+by-rule : (f : MapRule → ℕ) (z : ℕ) (r : MapRule) → byRule f z (ruleNumber r) ≡ f r
 unfolding byRule ruleNumber
 by-rule f z links-live = refl
 by-rule f z links-return = refl
@@ -143,11 +143,11 @@ module _ (n : ℕ) (t : List ℕ) (k : ℕ) (none : NoRule k) where
   count-other = by-none _ _ k none
 
 -- the numbers of a list are none of them
-pub noRules : List ℕ → Bool
+abbrev pub noRules : List ℕ → Bool
 noRules zs = not (member zs 5 || member zs 24 || member zs 25 || member zs 26)
 
 pub rule-not-in : (zs : List ℕ) → noRules zs ≡ true → (r : MapRule) → member zs (ruleNumber r) ≡ false
-unfolding noRules ruleNumber
+unfolding ruleNumber
 rule-not-in zs h = go
   where
     a : (member zs 5 || member zs 24 || member zs 25 || member zs 26) ≡ false
@@ -170,7 +170,7 @@ none-of : (z : ℕ) → noRules (z ∷ []) ≡ true → NoRule z
 none-of z h r e = clash (in-member (z ∷ []) (ruleNumber r) (here (sym e))) (rule-not-in (z ∷ []) h r)
 
 pub rule-not-0 : (r : MapRule) → ruleNumber r ≢ 0
-unfolding noRules member indexOf
+unfolding member indexOf
 rule-not-0 r e = none-of 0 refl r (sym e)
 
 -- ---- the checks by number
@@ -203,11 +203,11 @@ module _ {n : ℕ} {t j : List ℕ} where
       (λ r q. absurd (no-rule r q))
 
   journal-4 : Numbered n t j 4 (journalOk j)
-  unfolding journalOk refusalPlace refusalCount byRule noRules member indexOf
+  unfolding journalOk refusalPlace refusalCount byRule member indexOf
   journal-4 = numbered (journalOk j) 4 (λ q. omega arith) (must-is _) (λ q. refl) (λ r q. absurd (none-of 4 refl r q))
 
   block-8 : Numbered n t j 8 (blockOk n t)
-  unfolding blockOk refusalPlace refusalCount byRule noRules member indexOf
+  unfolding blockOk refusalPlace refusalCount byRule member indexOf
   block-8 = numbered (blockOk n t) 8 (λ q. omega arith) (mustAt-is _) (λ q. absurd (omega arith)) (λ r q. absurd (none-of 8 refl r q))
 
   rule-numbered : (r : MapRule) → Numbered n t j (ruleNumber r) (ruleOk n t r)
@@ -215,7 +215,7 @@ module _ {n : ℕ} {t j : List ℕ} where
       let place : refusalPlace n t (ruleNumber r) ≡ leastBreaking n t = unfold refusalPlace in by-rule _ _ r in
       let count : refusalCount n t (ruleNumber r) ≡ breakingLink n t (leastBreaking n t) r = unfold refusalCount in by-rule _ _ r in
       numbered (ruleOk n t r) (ruleNumber r) (rule-not-0 r) (rw (place, count) (unfold ruleOk in mustAt-is _))
-      (λ q. absurd (none-of 4 (unfold noRules member indexOf in refl) r (sym q))) (λ _ _ refused. refused-map refused)
+      (λ q. absurd (none-of 4 (unfold member indexOf in refl) r (sym q))) (λ _ _ refused. refused-map refused)
     where
       refused-map : ruleOk n t r ≢ pass → isMap n t ≡ false
       refused-map h = test (isMap n t) (λ e. absurd (h (map-keeps n t e r))) (λ e. e)
@@ -250,7 +250,7 @@ module _ (n : ℕ) (o : Outcome) where
       rule-numbered links-live then rule-numbered links-return then rule-numbered pairs-commute then rule-numbered stays-flat then w
 
   pub call-numbers : (c : Call) → Has (numbers c) (checks n o c)
-  unfolding checksOf mapChecks checkChecks orbitChecks sheetChecks addChecks sidesChecks unsewChecks layerChecks splitChecks stepChecks dimOk tableOk marksOk indexOk maskOk dartOk apartOk freeOk sewnOk pairingOk crossingOk addRoomOk splitRoomOk undoOk redoOk recordOk stepOk noRules member indexOf
+  unfolding checksOf mapChecks checkChecks orbitChecks sheetChecks addChecks sidesChecks unsewChecks layerChecks splitChecks stepChecks dimOk tableOk marksOk indexOk maskOk dartOk apartOk freeOk sewnOk pairingOk crossingOk addRoomOk splitRoomOk undoOk redoOk recordOk stepOk member indexOf
   call-numbers Call.check = plain _ 1 refl refl then plain _ 2 refl refl then map-then last
   call-numbers (Call.orbit mask d) =
       plain _ 1 refl refl then plain _ 2 refl refl then plain _ 3 refl refl

@@ -3,18 +3,16 @@
 -- 5 and 24 to 26: `place-of-others`, `count-of-others`.
 -- `reading-untouched`: check, orbit and sheet leave table and journal also where they are accepted.
 use Prim.Native.Nat.{ℕ}
-use mathlib.Core.Path.{_≡_, refl, sym, ap, _∙_}
+use mathlib.Core.Path.{_≡_, refl, ap, _∙_}
 use mathlib.Core.Logic.{_≢_}
 use native.Mathlib.Omega.{arith}
-use Rattle.model.specs.Map.{MapRule, breakingLink, leastBreaking}
 use Rattle.model.specs.Cell.{leastWrong}
-use Rattle.model.specs.Checks.{ruleNumber}
 use Rattle.model.specs.Calls.{Outcome, refused}
 use Rattle.model.specs.Runs.{Call, doCall}
-use Rattle.model.specs.Meaning.Ends.{Untouched, done, byRule, refusalPlace, refusalCount, doneOf}
+use Rattle.model.specs.Meaning.Ends.{Untouched, done, byRule, refusalPlace, doneOf}
 use Rattle.model.specs.Meaning.Ends.{Reading, reads-check, reads-orbit, reads-sheet}
 use Rattle.model.proofs.Lists.Scan.{if-eq}
-use Rattle.model.proofs.Calls.Checks.{NoRule, by-rule, place-other, count-other, rule-not-0}
+use Rattle.model.proofs.Calls.Checks.{NoRule, place-other, count-other}
 use Rattle.model.proofs.Calls.Ends.{call-says, call-done, call-refused}
 
 module _ (n : ℕ) (o : Outcome) (c : Call) where
@@ -31,22 +29,12 @@ module _ (n : ℕ) (o : Outcome) (c : Call) where
         journal = ap (λ (x : Outcome). x .journal) is;
       }
 
-  -- the place and the count by the number: 5 and 24 to 26 ..
-  pub place-of-rule : (r : MapRule) → doCall n o c .number ≡ ruleNumber r → doCall n o c .place ≡ leastBreaking n (o .table)
-  unfolding refusalPlace
-  place-of-rule r h = call-untouched (λ q. rule-not-0 r (sym h ∙ q)) .place ∙ ap (refusalPlace n (o .table)) h ∙ by-rule _ _ r
-
-  pub count-of-rule : (r : MapRule) → doCall n o c .number ≡ ruleNumber r
-      → doCall n o c .count ≡ breakingLink n (o .table) (leastBreaking n (o .table)) r
-  unfolding refusalCount
-  count-of-rule r h = call-untouched (λ q. rule-not-0 r (sym h ∙ q)) .count ∙ ap (refusalCount n (o .table)) h ∙ by-rule _ _ r
-
-  -- .. 8 ..
+  -- the place of 8 ..
   pub place-of-8 : doCall n o c .number ≡ 8 → doCall n o c .place ≡ leastWrong n (o .table)
   unfolding refusalPlace byRule
   place-of-8 h = rw h at (call-untouched (λ q. omega arith) .place)
 
-  -- .. and the others
+  -- .. and of the others; 5 and 24 to 26 stand in Rules.antt
   pub place-of-others : doCall n o c .number ≢ 0 → NoRule (doCall n o c .number) → doCall n o c .number ≢ 8 → doCall n o c .place ≡ 0
   place-of-others h none b = call-untouched h .place ∙ place-other n (o .table) _ none b
 

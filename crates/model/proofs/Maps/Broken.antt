@@ -102,6 +102,9 @@ rule-at links-return = refl
 rule-at pairs-commute = refl
 rule-at stays-flat = refl
 
+pub number-one : {r q : MapRule} → ruleNumber r ≡ ruleNumber q → r ≡ q
+number-one {r} {q} e = sym (rule-at r) ∙ ap ruleAt e ∙ rule-at q
+
 number-most : (r : MapRule) → ruleNumber r ≤ 26
 unfolding ruleNumber
 number-most links-live = omega arith
@@ -202,5 +205,5 @@ module _ (n : ℕ) (t : List ℕ) (n3 : n ≤ 3) where
       let c = of-broken g in
       let number : ruleNumber r ≡ ruleNumber q = if-lt (ruleNumber r) (ruleNumber q) (λ l. absurd (clash (c .earlier r l) (a .broken)))
           (λ u. if-lt (ruleNumber q) (ruleNumber r) (λ l. absurd (clash (a .earlier q l) (c .broken))) (λ v. omega arith)) in
-      let rule : r ≡ q = sym (rule-at r) ∙ ap ruleAt number ∙ rule-at q in
+      let rule : r ≡ q = number-one number in
       (rule, sym (a .place) ∙ c .place, sym (a .link) ∙ ap (breakingLink n t b) rule ∙ c .link)

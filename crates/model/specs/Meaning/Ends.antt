@@ -18,7 +18,7 @@ use Rattle.model.specs.Sew.{sewTable, unsewTable}
 use Rattle.model.specs.Remove.{removeTable}
 use Rattle.model.specs.Split.{splitSlots, splitTable}
 use Rattle.model.specs.Journal.{cursor, end, changesFrom, recordOf, written, changesAt, put, unbroken}
-use Rattle.model.specs.Checks.{Check, pass, refuse, must, inOrder, pairingOk, undoOk, redoOk}
+use Rattle.model.specs.Checks.{Check, pass, refuse, must, inOrder, dimOk, tableOk, marksOk, journalOk, pairingOk, undoOk, redoOk}
 use Rattle.model.specs.Checks.{checkChecks, orbitChecks, sheetChecks}
 use Rattle.model.specs.Checks.{addChecks, sidesChecks, sewChecks, unsewChecks, layerChecks, splitChecks, stepChecks}
 use Rattle.model.specs.Calls.{Outcome, refused}
@@ -69,7 +69,20 @@ checksOf n t m j Call.redo = stepChecks n t j (redoOk j) ++ (stepOk true n t j (
 abbrev pub checks : ℕ → Outcome → Call → List Check
 checks n o c = checksOf n (o .table) (o .marks) (o .journal) c
 
--- their numbers: the column "Calls" of 01's table, and 02's R-3. sew has 7 twice, for d and for e
+-- of them those before the checks of a map
+abbrev pub firstChecks : ℕ → Outcome → Call → List Check
+firstChecks n o Call.check = dimOk n ∷ tableOk (o .table) ∷ []
+firstChecks n o (Call.orbit mask d) = dimOk n ∷ tableOk (o .table) ∷ marksOk (o .table) (o .marks) ∷ []
+firstChecks n o (Call.sheet d) = dimOk n ∷ tableOk (o .table) ∷ marksOk (o .table) (o .marks) ∷ []
+firstChecks n o Call.add = dimOk n ∷ tableOk (o .table) ∷ journalOk (o .journal) ∷ []
+firstChecks n o (Call.sew i d e) = dimOk n ∷ tableOk (o .table) ∷ journalOk (o .journal) ∷ []
+firstChecks n o (Call.unsew i d) = dimOk n ∷ tableOk (o .table) ∷ journalOk (o .journal) ∷ []
+firstChecks n o (Call.remove d) = dimOk n ∷ tableOk (o .table) ∷ marksOk (o .table) (o .marks) ∷ journalOk (o .journal) ∷ []
+firstChecks n o (Call.split d) = dimOk n ∷ tableOk (o .table) ∷ marksOk (o .table) (o .marks) ∷ journalOk (o .journal) ∷ []
+firstChecks n o Call.undo = dimOk n ∷ tableOk (o .table) ∷ journalOk (o .journal) ∷ []
+firstChecks n o Call.redo = dimOk n ∷ tableOk (o .table) ∷ journalOk (o .journal) ∷ []
+
+-- the numbers of a call's checks: the column "Calls" of 01's table, and 02's R-3. sew has 7 twice, for d and for e
 abbrev pub numbers : Call → List ℕ
 numbers Call.check = 1 ∷ 2 ∷ 5 ∷ 24 ∷ 25 ∷ 26 ∷ []
 numbers (Call.orbit mask d) = 1 ∷ 2 ∷ 3 ∷ 5 ∷ 24 ∷ 25 ∷ 26 ∷ 6 ∷ 7 ∷ []
