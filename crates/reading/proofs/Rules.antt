@@ -1,5 +1,5 @@
--- The rules of a map at a slot, by the tests that code makes: `keeps-rules`, from the tests of `rules`; `turned-linked`, a link
--- that turns back leads to a live slot, so that nothing else is to be tested.
+-- The rules of a map at a slot, by the tests that code makes: `keeps-rules`, from the tests of `rules`. `turned-live`: a link that
+-- turns back leads to a live slot, so that nothing else is to be tested.
 use Prim.Native.Nat.{ℕ, zero, suc, _+_, _≤_, _<_}
 use mathlib.Core.Path.{_≡_, sym, _∙_}
 use mathlib.Core.Logic.{_⊎_, inl, inr, _≢_}
@@ -8,8 +8,8 @@ use mathlib.Core.List.{List}
 use native.Mathlib.Omega.{arith}
 use lib.Dec.{eqb}
 use borrow.Author.Tests.{eqb-true, eq-eqb, ne-eqb}
-use Rattle.model.specs.Table.{unused, link, live, walk}
-use Rattle.model.specs.Map.{returns, linked, crossed, keepsRules}
+use Rattle.model.specs.Table.{unused, link, live}
+use Rattle.model.specs.Map.{crossed, keepsRules}
 use Rattle.model.specs.Meaning.Maps.{Dim, Rule}
 use Rattle.model.proofs.Lists.Scan.{and-l, and-r, and-i, test, if-eq}
 use Rattle.model.proofs.Maps.Dim.{dim-cases}
@@ -94,36 +94,30 @@ module _ (n : ℕ) (one : ℕ → Bool) (two : ℕ → ℕ → Bool) (flat : Boo
             rw (ne-eqb n 2 (λ q. omega arith))
             (and-i (t .pair 0 3 (omega arith) (omega arith)) (t .pair 1 3 (omega arith) (omega arith)))
 
-module _ (n : ℕ) (t : List ℕ) (d : ℕ) (dim : Dim n) where
-  rule-tests : Rule n t d → Tests n (linked t d) (crossed t d) (eqb (link t 3 d) d)
-  unfolding linked returns walk
+-- a link that turns back leads to a live slot
+pub turned-live : (t : List ℕ) (d i : ℕ) → i < 4 → d ≢ unused → link t i (link t i d) ≡ d → live t (link t i d) ≡ true
+turned-live t d i l used h =
+    test (live t (link t i d)) (λ e. e) (λ e. absurd (used (sym h ∙ dead-link t (link t i d) e i l)))
+
+module _ (n : ℕ) (t : List ℕ) (d : ℕ) (dim : Dim n) (used : d ≢ unused) where
+  rule-tests : Rule n t d → Tests n (turned t d) (crossed t d) (eqb (link t 3 d) d)
+  unfolding turned
   rule-tests r = record {
-    each = λ i l. and-i (r .goes i l) (eq-eqb _ _ (r .comes i l));
+    each = λ i l. eq-eqb _ _ (r .comes i l);
     pair = λ i j ij jn. crossed-far n t d i j ij ∙ eq-eqb _ _ (r .cross i j ij jn);
     plane = λ e. eq-eqb _ _ (r .plane e);
   }
 
-  tests-rule : Tests n (linked t d) (crossed t d) (eqb (link t 3 d) d) → Rule n t d
-  unfolding linked returns walk
+  tests-rule : Tests n (turned t d) (crossed t d) (eqb (link t 3 d) d) → Rule n t d
+  unfolding turned
   tests-rule s = record {
-    goes = λ i l. and-l (live t (link t i d)) _ (s .each i l);
-    comes = λ i l. eqb-true _ _ (and-r (live t (link t i d)) _ (s .each i l));
+    goes = λ i l. turned-live t d i l used (eqb-true _ _ (s .each i l));
+    comes = λ i l. eqb-true _ _ (s .each i l);
     cross = λ i j ij jn. eqb-true _ _ (sym (crossed-far n t d i j ij) ∙ s .pair i j ij jn);
     plane = λ e. eqb-true _ _ (s .plane e);
   }
 
-  pub keeps-rules : rules n (linked t d) (crossed t d) (eqb (link t 3 d) d) ≡ keepsRules n t d
+  pub keeps-rules : rules n (turned t d) (crossed t d) (eqb (link t 3 d) d) ≡ keepsRules n t d
   keeps-rules = same-test
       (λ h. of-rule n t d (tests-rule (tests-of n _ _ _ dim h)))
       (λ h. of-tests n _ _ _ dim (rule-tests (rule-of n t d (dim .1) h)))
-
-module _ (t : List ℕ) (d i : ℕ) (l : i < 4) (used : d ≢ unused) where
-  pub turned-live : link t i (link t i d) ≡ d → live t (link t i d) ≡ true
-  turned-live h =
-      test (live t (link t i d)) (λ e. e) (λ e. absurd (used (sym h ∙ dead-link t (link t i d) e i l)))
-
-  pub turned-linked : turned t d i ≡ linked t d i
-  unfolding turned linked returns walk
-  turned-linked = same-test
-      (λ h. and-i (turned-live (eqb-true _ _ h)) h)
-      (λ h. and-r (live t (link t i d)) _ h)

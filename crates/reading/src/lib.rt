@@ -1,12 +1,17 @@
-// Reading the table: links and live slots, the rules of a map, and the checks 1, 2 and 4.
+// Reading the table: links and live slots, the rules of a map, which of them a slot breaks, and the checks 1, 2 and 4.
+pub use broken::Rule;
+pub use broken::breaking_link;
+
+mod broken;
+
 ghost use mathlib.Core.Path.{_≡_};
 ghost use Prim.Native.Nat.{_+_, _*_, _<_, _≤_};
 ghost use lib.ListN.{length};
 ghost use Rattle.model.specs.Table.{slots, link, live};
-ghost use Rattle.model.specs.Map.{linked, crossed, keepsRules, breaksRule, leastBreaking, isMap};
+ghost use Rattle.model.specs.Map.{crossed, keepsRules, breaksRule, leastBreaking, isMap};
 ghost use Rattle.model.specs.Checks.{must, pass, dimOk, tableOk, journalOk};
 ghost use Rattle.reading.specs.Sized.{Sized};
-ghost use Rattle.reading.specs.Near.{nearRules, keepsNear, Row, Below};
+ghost use Rattle.reading.specs.Near.{turned, nearRules, keepsNear, Row, Below};
 
 // The entry of an unused slot.
 const UNUSED: u32 = 4294967295;
@@ -79,10 +84,10 @@ pub fn link_in(table: &[u32], i: usize, d: u32) -> u32
     table[4 * (d as usize) + i]
 }
 
-// Whether d.i is a live slot and d.i.i = d: a link that turns back leads to a live slot.
-fn linked(table: &[u32], d: u32, i: usize) -> bool
-    requires { ⌜ (i < 4) × (d < 4294967295) ⌝ }
-    ensures { λ r. ⌜ r ≡ linked (now (table .entry)) d i ⌝ }
+// Whether d.i.i = d.
+fn turned(table: &[u32], d: u32, i: usize) -> bool
+    requires { ⌜ i < 4 ⌝ }
+    ensures { λ r. ⌜ r ≡ turned (now (table .entry)) d i ⌝ }
 {
     link(table, i, link(table, i, d)) == d
 }
@@ -95,15 +100,15 @@ fn crossed(table: &[u32], d: u32, i: usize, j: usize) -> bool
     link(table, j, link(table, i, link(table, j, link(table, i, d)))) == d
 }
 
-// Whether the live slot d keeps the rules.
+// Whether the live slot d keeps the rules: a link that turns back leads to a live slot, so that is not tested.
 fn keeps_rules(n: u32, table: &[u32], d: u32) -> bool
     requires { ⌜ (dimOk n ≡ pass) × (d < 4294967295) ⌝ }
     ensures { λ r. ⌜ r ≡ keepsRules n (now (table .entry)) d ⌝ }
 {
-    let links = linked(table, d, 0)
-        & linked(table, d, 1)
-        & linked(table, d, 2)
-        & linked(table, d, 3);
+    let links = turned(table, d, 0)
+        & turned(table, d, 1)
+        & turned(table, d, 2)
+        & turned(table, d, 3);
     let flat = links & crossed(table, d, 0, 2);
     if n == 2 {
         flat & (link(table, 3, d) == d)
