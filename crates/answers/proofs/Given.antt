@@ -8,14 +8,13 @@ use native.Mathlib.Omega.{arith}
 use lib.ListN.{length}
 use borrow.Author.Tests.{eqb-true}
 use Rattle.model.specs.Table.{slots}
-use Rattle.model.specs.Map.{isMap, leastBreaking}
-use Rattle.model.specs.Checks.{pass, dimOk, tableOk, marksOk, mapOk, dartOk}
-use Rattle.model.proofs.Calls.Pass.{must-pass, mustAt-pass, dim-pass, table-pass, dart-pass}
+use Rattle.model.specs.Map.{isMap}
+use Rattle.model.specs.Checks.{pass, dimOk, tableOk, marksOk, dartOk}
+use Rattle.model.proofs.Calls.Pass.{must-pass, dim-pass, table-pass, RulesPass, map-pass, dart-pass}
 use Rattle.reach.specs.Given.{Given}
 
-pub map-given : (n : ℕ) (t : List ℕ) → mapOk n t ≡ pass → isMap n t ≡ true
-unfolding mapOk isMap
-map-given n t h = mustAt-pass _ 5 (leastBreaking n t) h
+pub map-given : (n : ℕ) (t : List ℕ) → dimOk n ≡ pass → RulesPass n t → isMap n t ≡ true
+map-given n t dim rules = map-pass n t (dim-pass n dim .1) rules
 
 marks-given : (t m : List ℕ) → marksOk t m ≡ pass → length m ≡ slots t
 unfolding marksOk
@@ -28,15 +27,15 @@ room-given t table = table-pass t table .1
 pub room-small : (k : ℕ) (t : List ℕ) → tableOk t ≡ pass → length t ≤ 4 * k → slots t ≤ k
 room-small k t table small = let sized = table-pass t table in omega arith
 
-pub flood-given : (n : ℕ) (t m q : List ℕ) (d : ℕ) → dimOk n ≡ pass → tableOk t ≡ pass → marksOk t m ≡ pass → mapOk n t ≡ pass
+pub flood-given : (n : ℕ) (t m q : List ℕ) (d : ℕ) → dimOk n ≡ pass → tableOk t ≡ pass → marksOk t m ≡ pass → RulesPass n t
     → dartOk t d ≡ pass → slots t ≤ length q → Given n t m q d
-flood-given n t m q d dim table marks map dart room =
+flood-given n t m q d dim table marks rules dart room =
     let sized = table-pass t table in
     record {
       dim = dim-pass n dim;
       fits = sized .0;
       few = sized .1;
-      map = map-given n t map;
+      map = map-given n t dim rules;
       long = marks-given t m marks;
       room = room;
       start = dart-pass t d dart;

@@ -36,26 +36,26 @@ one-more [] k p e = tt
 one-more (c ∷ cs) zero p e = (e, tt)
 one-more (c ∷ cs) (suc k) p e = (p .0, one-more cs k (p .1) e)
 
-first-refusal : (cs : List Check) (k : ℕ) {z q : ℕ} → Passed (take k cs) → getD cs k pass ≡ refuse z q
-    → inOrder cs ≡ refuse z q
+first-refusal : (cs : List Check) (k : ℕ) {z p q : ℕ} → Passed (take k cs) → getD cs k pass ≡ refuse z p q
+    → inOrder cs ≡ refuse z p q
 unfolding inOrder andThen
-first-refusal [] k p e = not-pass (sym e)
-first-refusal (c ∷ cs) zero p e = rw e
-first-refusal (c ∷ cs) (suc k) p e = rw (p .0) (first-refusal cs k (p .1) e)
+first-refusal [] k h e = not-pass (sym e)
+first-refusal (c ∷ cs) zero h e = rw e
+first-refusal (c ∷ cs) (suc k) h e = rw (h .0) (first-refusal cs k (h .1) e)
 
 pub passed-all : (cs : List Check) → inOrder cs ≡ pass → Passed cs
 unfolding inOrder andThen
 passed-all [] h = tt
 passed-all (pass ∷ cs) h = (refl, passed-all cs h)
-passed-all (refuse z q ∷ cs) h = not-pass h
+passed-all (refuse z p q ∷ cs) h = not-pass h
 
-pub front-refusal : (cs : List Check) (k : ℕ) {z q : ℕ} → inOrder (take k cs) ≡ refuse z q → inOrder cs ≡ refuse z q
+pub front-refusal : (cs : List Check) (k : ℕ) {z p q : ℕ} → inOrder (take k cs) ≡ refuse z p q → inOrder cs ≡ refuse z p q
 unfolding inOrder andThen
 front-refusal [] zero h = not-pass (sym h)
 front-refusal [] (suc k) h = not-pass (sym h)
 front-refusal (c ∷ cs) zero h = not-pass (sym h)
 front-refusal (pass ∷ cs) (suc k) h = front-refusal cs k h
-front-refusal (refuse x y ∷ cs) (suc k) h = h
+front-refusal (refuse x y w ∷ cs) (suc k) h = h
 
 -- ---- rungs; S is the record of a function's entry
 
@@ -73,8 +73,8 @@ module _ {S : Type 0} {checks : S → List Check} where
   up {k} r e = record { entry = r .entry; passed = one-more (checks (r .entry)) k (r .passed) e }
 
   -- the next check refuses
-  pub out : {k : ℕ} (r : Rung checks k) {z q : ℕ} → getD (checks (r .entry)) k pass ≡ refuse z q
-      → inOrder (checks (r .entry)) ≡ refuse z q
+  pub out : {k : ℕ} (r : Rung checks k) {z p q : ℕ} → getD (checks (r .entry)) k pass ≡ refuse z p q
+      → inOrder (checks (r .entry)) ≡ refuse z p q
   out {k} r e = first-refusal (checks (r .entry)) k (r .passed) e
 
   -- where another function has made the first k checks: they pass

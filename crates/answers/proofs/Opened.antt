@@ -4,8 +4,8 @@
 use Prim.Native.Nat.{ℕ}
 use mathlib.Core.Path.{_≡_, subst}
 use mathlib.Core.Bool.{Bool, true}
-use mathlib.Core.List.{List, [], _∷_}
-use Rattle.model.specs.Checks.{Check, andThen, inOrder, must, dimOk, tableOk, marksOk, journalOk, mapOk, indexOk, dartOk}
+use mathlib.Core.List.{List, [], _∷_, _++_}
+use Rattle.model.specs.Checks.{Check, andThen, inOrder, must, dimOk, tableOk, marksOk, journalOk, mapChecks, indexOk, dartOk}
 use Rattle.model.specs.Checks.{sheetChecks, layerChecks}
 use Rattle.answers.specs.declared.Answer.{Answer}
 use Rattle.answers.specs.Openings.{Settles, openingChecks, sideChecks}
@@ -15,14 +15,14 @@ same : {r : Answer} {c c′ : Check} → c ≡ c′ → Settles r c → Settles 
 same {r} e s = subst (Settles r) e s
 
 module _ {r : Answer} (n : ℕ) (t : List ℕ) where
-  pub opened-table : Settles r (inOrder (openingChecks true true n t)) → Settles r (inOrder (dimOk n ∷ tableOk t ∷ mapOk n t ∷ []))
+  pub opened-table : Settles r (inOrder (openingChecks true true n t)) → Settles r (inOrder (dimOk n ∷ tableOk t ∷ mapChecks n t))
   unfolding openingChecks inOrder andThen must
   opened-table s = s
 
   -- m says whether 3 passes
   module _ (m : List ℕ) (marks : Bool) (three : must marks 3 ≡ marksOk t m) where
     pub opened-marks : Settles r (inOrder (openingChecks marks true n t))
-        → Settles r (inOrder (dimOk n ∷ tableOk t ∷ marksOk t m ∷ mapOk n t ∷ []))
+        → Settles r (inOrder (dimOk n ∷ tableOk t ∷ marksOk t m ∷ mapChecks n t))
     unfolding openingChecks inOrder andThen must
     opened-marks s = same (rw three) s
 
@@ -37,11 +37,11 @@ module _ {r : Answer} (n : ℕ) (t : List ℕ) where
 
   module _ (j : List ℕ) (journal : Bool) (four : must journal 4 ≡ journalOk j) where
     pub opened-journal : Settles r (inOrder (openingChecks true journal n t))
-        → Settles r (inOrder (dimOk n ∷ tableOk t ∷ journalOk j ∷ mapOk n t ∷ []))
+        → Settles r (inOrder (dimOk n ∷ tableOk t ∷ journalOk j ∷ mapChecks n t))
     unfolding openingChecks inOrder andThen must
     opened-journal s = same (rw four) s
 
     pub opened-side : (i d : ℕ) → Settles r (inOrder (sideChecks journal n t i d))
-        → Settles r (inOrder (dimOk n ∷ tableOk t ∷ journalOk j ∷ mapOk n t ∷ indexOk n i ∷ dartOk t d ∷ []))
+        → Settles r (inOrder (dimOk n ∷ tableOk t ∷ journalOk j ∷ (mapChecks n t ++ (indexOk n i ∷ dartOk t d ∷ []))))
     unfolding sideChecks openingChecks inOrder andThen must
     opened-side i d s = same (rw four) s

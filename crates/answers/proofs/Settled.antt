@@ -1,29 +1,33 @@
--- Answers that settle checks: `settles-refusal`, `settles-pass` and `settles-front` for a function that makes them,
+-- Answers that settle checks: `settles-refusal`, `settles-pass`, `settles-front` and `settles-behind` for a function that makes them,
 -- `opened` and `handed-on` for a call that begins with such a function.
 use Prim.Native.Nat.{ℕ, suc}
-use mathlib.Core.Path.{_≡_, refl, ap, _∙_}
+use mathlib.Core.Path.{_≡_, refl, sym, subst}
 use mathlib.Core.Logic.{_≢_}
-use mathlib.Core.List.{List}
+use mathlib.Core.List.{List, _++_}
 use native.Mathlib.Omega.{arith}
 use lib.ListN.{take}
 use Rattle.model.specs.Checks.{Check, pass, refuse, inOrder}
 use Rattle.model.specs.Calls.{Outcome}
+use Rattle.model.proofs.Calls.Checks.{append-passed}
 use Rattle.answers.specs.declared.Answer.{Answer}
 use Rattle.answers.specs.Answers.{outcome, refusal}
 use Rattle.answers.specs.Openings.{Settles}
 use Rattle.answers.proofs.Ladder.{Rung, rise, front-refusal}
 
-pub settles-refusal : {c : Check} (z : ℕ) {q : ℕ} → c ≡ refuse (suc z) q → Settles (refusal (suc z) q) c
-settles-refusal z h = record { passes = λ e. absurd (omega arith); refuses = λ e. h; count = refl }
+pub settles-refusal : {c : Check} (z : ℕ) {p q : ℕ} → c ≡ refuse (suc z) p q → Settles (refusal (suc z) p q) c
+settles-refusal z h = record { passes = λ e. absurd (omega arith); refuses = λ e. h }
 
-pub settles-pass : {c : Check} → c ≡ pass → Settles (refusal 0 0) c
-settles-pass h = record { passes = λ e. h; refuses = λ e. absurd (e refl); count = refl }
+pub settles-pass : {c : Check} → c ≡ pass → Settles (refusal 0 0 0) c
+settles-pass h = record { passes = λ e. h; refuses = λ e. absurd (e refl) }
 
 -- what refuses the first k checks refuses them all
 pub settles-front : {r : Answer} (cs : List Check) (k : ℕ) → Settles r (inOrder (take k cs)) → r .number ≢ 0
     → Settles r (inOrder cs)
-settles-front cs k s h =
-    record { passes = λ e. absurd (h e); refuses = λ e. front-refusal cs k (s .refuses h); count = s .count }
+settles-front cs k s h = record { passes = λ e. absurd (h e); refuses = λ e. front-refusal cs k (s .refuses h) }
+
+-- behind checks that pass, what settles the others
+pub settles-behind : {r : Answer} (cs ds : List Check) → inOrder cs ≡ pass → Settles r (inOrder ds) → Settles r (inOrder (cs ++ ds))
+settles-behind {r} cs ds h s = subst (Settles r) (sym (append-passed cs ds h)) s
 
 -- ---- a call's opening; S is the record of the call's entry
 
@@ -40,10 +44,6 @@ module _ {S : Type 0} {checks : S → List Check} {k : ℕ} (o : Opening checks 
 
   -- it refuses, and the call hands it on
   pub handed-on : {t m j : List ℕ} {x : Outcome} → o .answer .number ≢ 0
-      → (inOrder (checks (o .entry)) ≡ refuse (o .answer .number) (o .answer .place)
-      → outcome (refusal (o .answer .number) (o .answer .place)) t m j ≡ x)
+      → (inOrder (checks (o .entry)) ≡ refuse (o .answer .number) (o .answer .place) (o .answer .count) → outcome (o .answer) t m j ≡ x)
       → outcome (o .answer) t m j ≡ x
-  handed-on {t} {m} {j} h ends =
-      let r = o .answer in
-      ap (λ z. outcome (record { number = r .number; place = r .place; count = z }) t m j) (o .settles .count)
-      ∙ ends (front-refusal (checks (o .entry)) k (o .settles .refuses h))
+  handed-on h ends = ends (front-refusal (checks (o .entry)) k (o .settles .refuses h))

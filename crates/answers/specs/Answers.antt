@@ -10,8 +10,8 @@ outcome r t m j = record { number = r .number; place = r .place; count = r .coun
 
 -- ---- answers as values
 
-abbrev pub refusal : ℕ → ℕ → Answer
-refusal k p = record { number = k; place = p; count = 0 }
+abbrev pub refusal : ℕ → ℕ → ℕ → Answer
+refusal k p q = record { number = k; place = p; count = q }
 
 abbrev pub accepted : ℕ → ℕ → Answer
 accepted p k = record { number = 0; place = p; count = k }

@@ -1,11 +1,12 @@
-// The checks 1 to 5.
+// The checks 1 to 4, and those of a map.
 ghost use Rattle.model.specs.Checks.{inOrder};
 ghost use Rattle.answers.specs.Openings.{openingChecks, Settles};
 use crate::Answer;
+use crate::broken::broken;
 use crate::numbers;
 
-// Number 0 where the checks 1 to 5 pass, else the refusal. Whether 3 and 4 pass the caller says: true, if it has no marks
-// or no journal.
+// Number 0 where these checks pass, else the refusal. Whether 3 and 4 pass the caller says: true, if it has no marks or no
+// journal.
 pub fn opening(n: u32, table: &[u32], marks: bool, journal: bool) -> Answer
     ensures { λ r. ⌜ Settles r (inOrder (openingChecks marks journal n (now (table .entry)))) ⌝ }
 {
@@ -23,11 +24,7 @@ pub fn opening(n: u32, table: &[u32], marks: bool, journal: bool) -> Answer
     }
     let least = reading::least_breaking(n, table);
     if least != reading::slots(table) {
-        return Answer {
-            number: 5,
-            place: least,
-            count: 0,
-        };
+        return broken(n, table, least);
     }
     numbers::PASSED
 }

@@ -1,10 +1,11 @@
-// What every call gives back, and the checks that calls begin with: 1 to 5 for all, up to 7 for the calls on a side, up to 8 for
-// those on a layer.
+// What every call gives back, and the checks that calls begin with: up to those of a map for all, up to 7 for the calls on a side,
+// up to 8 for those on a layer.
 pub use all::opening;
 pub use layer::opening_layer;
 pub use side::opening_side;
 
 mod all;
+mod broken;
 mod layer;
 pub mod numbers;
 mod side;

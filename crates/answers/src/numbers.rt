@@ -1,4 +1,4 @@
-// "Numbers a call gives back": the refusals whose place is 0. Those by 5 and 8 have a place of their own.
+// "Numbers a call gives back": the refusals whose place is 0. Those by 5, 24, 25, 26 (broken.rt) and 8 (layer.rt) have a place.
 use crate::Answer;
 
 // No refusal: the checks before pass.

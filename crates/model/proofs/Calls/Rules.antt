@@ -19,12 +19,12 @@ use Rattle.model.specs.Runs.{Call, doCall}
 use Rattle.model.specs.Meaning.Sizes.{member}
 use Rattle.model.specs.Meaning.Ends.{checksOf, checks, firstChecks, numbers}
 use Rattle.model.specs.Meaning.Maps.{Map, BreaksFirst}
-use Rattle.model.proofs.Lists.Scan.{test, clash}
+use Rattle.model.proofs.Lists.Scan.{test, clash, or-cases}
 use Rattle.model.proofs.Maps.Rules.{map-of, of-map}
 use Rattle.model.proofs.Maps.Broken.{number-one, some-broken, Tested, of-broken}
 use Rattle.model.proofs.Calls.Checks.{passed-at, append-passed, append-refused, passed-or-refused}
 use Rattle.model.proofs.Calls.Checks.{not-in, noRules, rule-not-in, rule-not-0, numbers-before, refusal-says, call-numbers}
-use Rattle.model.proofs.Calls.Pass.{dim-pass}
+use Rattle.model.proofs.Calls.Pass.{mustAt-pass, dim-pass}
 use Rattle.model.proofs.Calls.Ends.{call-ends, call-says, call-refused}
 
 -- ---- the checks of a map
@@ -42,6 +42,10 @@ module _ (n : ℕ) (t : List ℕ) (n3 : n ≤ 3) where
   kept-passes : (r : MapRule) → keepsRule n t b r ≡ true → ruleOk n t r ≡ pass
   unfolding ruleOk mustAt
   kept-passes r h = test (isMap n t) (λ e. rw e) (λ e. rw (e, h))
+
+  passed-keeps : isMap n t ≡ false → (r : MapRule) → ruleOk n t r ≡ pass → keepsRule n t b r ≡ true
+  unfolding ruleOk
+  passed-keeps e r h = ⊎-elim (λ q. absurd (clash q e)) (λ q. q) (or-cases (isMap n t) _ (mustAt-pass _ _ _ _ h))
 
   -- behind the rules that pass, one that refuses
   first-refused : (r : MapRule) {k p q : ℕ} → ((s : MapRule) → ruleNumber s < ruleNumber r → ruleOk n t s ≡ pass)
@@ -62,6 +66,21 @@ module _ (n : ℕ) (t : List ℕ) (n3 : n ≤ 3) where
 
       own : ruleOk n t r ≡ refuse (ruleNumber r) d i
       own = rw (tested .not-map, tested .broken) (ap₂ (refuse (ruleNumber r)) (tested .place) (tested .link))
+
+  -- where the other rules pass, and the table is no map, it is the last rule, by link 3
+  pub last-refused : isMap n t ≡ false → ruleOk n t links-live ≡ pass → ruleOk n t links-return ≡ pass → ruleOk n t pairs-commute ≡ pass
+      → inOrder (mapChecks n t) ≡ refuse 26 b 3
+  unfolding ruleNumber
+  last-refused e lives back pairs = go (some-broken n t n3 e)
+    where
+      kept : (r : MapRule) {d i : ℕ} → ruleOk n t r ≡ pass → BreaksFirst n t r d i → ⊥
+      kept r h f = clash (passed-keeps e r h) (of-broken n t n3 f .broken)
+
+      go : (r : MapRule) × (d : ℕ) × (i : ℕ) × BreaksFirst n t r d i → inOrder (mapChecks n t) ≡ refuse 26 b 3
+      go (links-live, d, i, f) = absurd (kept links-live lives f)
+      go (links-return, d, i, f) = absurd (kept links-return back f)
+      go (pairs-commute, d, i, f) = absurd (kept pairs-commute pairs f)
+      go (stays-flat, d, i, f) = broken-refused f ∙ ap₂ (refuse 26) (sym (of-broken n t n3 f .place)) (f .breaks .1)
 
 -- ---- the calls
 

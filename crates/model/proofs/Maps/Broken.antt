@@ -71,6 +71,9 @@ module _ (n : ℕ) (t : List ℕ) (d : ℕ) where
     pub link-below : keepsRule n t d r ≡ false → i < 4
     link-below h = if-lt i 4 (λ l. l) (λ u. absurd (clash (keeps-rule (λ k l. link-lower k (omega arith))) h))
 
+    pub link-found : i < 4 → keepsRule n t d r ≡ false
+    link-found l = test (keepsRule n t d r) (λ h. absurd (kept-by h i l (breaks-exactly r i .0 (not-true _ (first .passes l))))) (λ h. h)
+
     pub link-breaks : keepsRule n t d r ≡ false → Breaks n t d r i
     link-breaks h = breaks-exactly r i .0 (not-true _ (first .passes (link-below h)))
 

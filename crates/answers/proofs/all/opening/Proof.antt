@@ -1,12 +1,16 @@
--- `answers::opening` meets its contract: the ladder of the checks 1 to 5.
-use mathlib.Core.Path.{refl}
+-- `answers::opening` meets its contract: the ladder of the checks 1 to 4, and those of a map.
+use mathlib.Core.Path.{refl, sym, _∙_}
 use mathlib.Core.List.{List}
+use lib.ListN.{take}
 use borrow.Author.Needs.{needs}
-use Rattle.model.specs.Checks.{Check}
+use borrow.Author.Tests.{eq-eqb, ne-eqb}
+use Rattle.model.specs.Map.{links-live, links-return, pairs-commute, stays-flat, isMap}
+use Rattle.model.specs.Checks.{Check, mapChecks}
+use Rattle.model.proofs.Calls.Checks.{map-keeps}
 use Rattle.answers.specs.Openings.{openingChecks}
 use Rattle.answers.proofs.Ladder.{Rung, ground, up, out, all-passed}
-use Rattle.answers.proofs.Verdicts.{passes, refuses, least-passes, least-refuses, map-test}
-use Rattle.answers.proofs.Settled.{settles-refusal, settles-pass}
+use Rattle.answers.proofs.Verdicts.{passes, refuses}
+use Rattle.answers.proofs.Settled.{settles-refusal, settles-pass, settles-behind}
 use Rattle.answers.proofs.all.opening.Statement.{statement}
 use Rattle.answers.proofs.all.opening.Tie as tie
 
@@ -32,13 +36,13 @@ abbrev journal : tie.Else4 → Rung checks 4
 unfolding openingChecks
 journal c = up (marks (c .before)) (passes _ 4 refl (c .if4 .left))
 
-abbrev map : tie.Else5 → Rung checks 5
-unfolding openingChecks
+abbrev map : tie.Else5 → Rung checks 8
+unfolding openingChecks mapChecks isMap
 map c =
     let end = c .before in
     let least = end .before in
-    up (journal (least .before))
-    (least-passes _ _ 5 (map-test _ _) (least .least-breaking .ensures) (end .slots .ensures) (c .if5 .left))
+    let keeps = map-keeps _ _ (eq-eqb _ _ (sym (least .least-breaking .ensures) ∙ c .if5 .left ∙ end .slots .ensures)) in
+    up (up (up (up (journal (least .before)) (keeps links-live)) (keeps links-return)) (keeps pairs-commute)) (keeps stays-flat)
 
 dim-fits-requires : tie.Need-dim-fits-requires
 dim-fits-requires c κs = search needs
@@ -72,17 +76,23 @@ slots-requires : tie.Need-slots-requires
 unfolding openingChecks
 slots-requires c κs = let p = journal (c .before) .passed in search
 
+broken-requires : tie.Need-broken-requires
+unfolding openingChecks isMap
+broken-requires c κs =
+    let end = c .before in
+    let least = end .before in
+    let p = journal (least .before) .passed in
+    let broken = ne-eqb _ _ (λ e. c .if5 .taken (least .least-breaking .ensures ∙ e ∙ sym (end .slots .ensures))) in
+    (p .0, broken, least .least-breaking .ensures)
+
 returns-5 : tie.Need-returns-5
 unfolding openingChecks
 returns-5 c =
-    let end = c .before in
-    let least = end .before in
-    settles-refusal 4
-    (out (journal (least .before))
-    (least-refuses _ _ 5 (map-test _ _) (least .least-breaking .ensures) (end .slots .ensures) (c .if5 .taken)))
+    let tested = journal (c .before .before .before .before) in
+    settles-behind (take 4 (checks (tested .entry))) _ (all-passed _ (tested .passed)) (c .broken .ensures)
 
 returns-6 : tie.Need-returns-6
-unfolding openingChecks
+unfolding openingChecks mapChecks isMap
 returns-6 c = settles-pass (all-passed _ (map c .passed))
 
 pub opening-spec : {M : Type 1} → statement M
@@ -97,5 +107,6 @@ opening-spec =
     returns-4
     least-breaking-requires
     slots-requires
+    broken-requires
     returns-5
     returns-6)

@@ -1,7 +1,8 @@
 -- `answers::opening_layer` meets its contract: `opening`, and above it the checks 7 and 8.
 use mathlib.Core.List.{List}
 use borrow.Author.Needs.{needs}
-use Rattle.model.specs.Checks.{Check}
+use Rattle.model.specs.Checks.{Check, mapChecks}
+use Rattle.model.proofs.Calls.Pass.{rules-pass}
 use Rattle.answers.specs.Openings.{openingChecks, layerChecks}
 use Rattle.answers.proofs.Ladder.{Rung, rise, up, out, all-passed}
 use Rattle.answers.proofs.Verdicts.{passes, refuses, least-passes, least-refuses, dart-test, block-test}
@@ -13,16 +14,16 @@ use Rattle.answers.proofs.layer.opening_layer.Tie as tie
 abbrev checks : tie.Start → List Check
 checks p = layerChecks (p .args .marks) (p .args .journal) (p .args .n) (p .args .table .now) (p .args .d)
 
-abbrev opened : tie.Else1 → Rung checks 5
-unfolding layerChecks openingChecks
-opened c = rise 5 (c .before .before .before .before) (c .before .before .opening .ensures .passes (c .if1 .left))
+abbrev opened : tie.Else1 → Rung checks 8
+unfolding layerChecks openingChecks mapChecks
+opened c = rise 8 (c .before .before .before .before) (c .before .before .opening .ensures .passes (c .if1 .left))
 
-abbrev dart : tie.Else2 → Rung checks 6
-unfolding layerChecks openingChecks
+abbrev dart : tie.Else2 → Rung checks 9
+unfolding layerChecks openingChecks mapChecks
 dart c = up (opened (c .before .before)) (passes _ 7 (dart-test _ _ (c .before .live .ensures)) (c .if2 .left))
 
-abbrev block : tie.Else3 → Rung checks 7
-unfolding layerChecks openingChecks
+abbrev block : tie.Else3 → Rung checks 10
+unfolding layerChecks openingChecks mapChecks
 block c =
     let end = c .before in
     let least = end .before in
@@ -33,30 +34,30 @@ opening-requires : tie.Need-opening-requires
 opening-requires c κs = search needs
 
 returns : tie.Need-returns
-unfolding layerChecks openingChecks
-returns c = settles-front _ 5 (c .before .before .opening .ensures) (c .if1 .taken)
+unfolding layerChecks openingChecks mapChecks
+returns c = settles-front _ 8 (c .before .before .opening .ensures) (c .if1 .taken)
 
 live-requires : tie.Need-live-requires
 live-requires c κs = search needs
 
 returns-2 : tie.Need-returns-2
-unfolding layerChecks openingChecks
+unfolding layerChecks openingChecks mapChecks
 returns-2 c =
     settles-refusal 6
     (out (opened (c .before .before)) (refuses _ 7 (dart-test _ _ (c .before .live .ensures)) (c .if2 .taken)))
 
 least-wrong-requires : tie.Need-least-wrong-requires
-unfolding layerChecks openingChecks
+unfolding layerChecks openingChecks mapChecks
 least-wrong-requires c κs =
     let p = dart c .passed in
-    (search, search, map-given _ _ (search))
+    (search, search, map-given _ _ (search) (rules-pass _ _ (search) (search) (search) (search)))
 
 slots-requires : tie.Need-slots-requires
-unfolding layerChecks openingChecks
+unfolding layerChecks openingChecks mapChecks
 slots-requires c κs = let p = dart (c .before) .passed in search
 
 returns-3 : tie.Need-returns-3
-unfolding layerChecks openingChecks
+unfolding layerChecks openingChecks mapChecks
 returns-3 c =
     let end = c .before in
     let least = end .before in
@@ -65,7 +66,7 @@ returns-3 c =
     (least-refuses _ _ 8 (block-test _ _) (least .least-wrong .ensures) (end .slots .ensures) (c .if3 .taken)))
 
 returns-4 : tie.Need-returns-4
-unfolding layerChecks openingChecks
+unfolding layerChecks openingChecks mapChecks
 returns-4 c = settles-pass (all-passed _ (block c .passed))
 
 pub opening-layer-spec : {M : Type 1} → statement M

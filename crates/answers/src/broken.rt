@@ -1,0 +1,44 @@
+// The refusals of a table that is no map.
+ghost use mathlib.Core.Path.{_≡_};
+ghost use mathlib.Core.Bool.{false};
+ghost use Rattle.model.specs.Map.{leastBreaking, isMap};
+ghost use Rattle.model.specs.Checks.{inOrder, pass, dimOk, mapChecks};
+ghost use Rattle.answers.specs.Openings.{Settles};
+use crate::Answer;
+use reading::Rule;
+
+// The first rule that d breaks, with the least link that breaks it, where d is the least slot that breaks a rule.
+pub fn broken(n: u32, table: &[u32], d: u32) -> Answer
+    requires { ⌜ (dimOk n ≡ pass) × (isMap n (now table) ≡ false) × (d ≡ leastBreaking n (now table)) ⌝ }
+    ensures { λ r. ⌜ Settles r (inOrder (mapChecks n (now (table .entry)))) ⌝ }
+{
+    let dead = reading::breaking_link(n, table, d, Rule::LinksLive);
+    if dead < 4 {
+        return Answer {
+            number: 5,
+            place: d,
+            count: dead,
+        };
+    }
+    let lost = reading::breaking_link(n, table, d, Rule::LinksReturn);
+    if lost < 4 {
+        return Answer {
+            number: 24,
+            place: d,
+            count: lost,
+        };
+    }
+    let lower = reading::breaking_link(n, table, d, Rule::PairsCommute);
+    if lower < 4 {
+        return Answer {
+            number: 25,
+            place: d,
+            count: lower,
+        };
+    }
+    Answer {
+        number: 26,
+        place: d,
+        count: 3,
+    }
+}
