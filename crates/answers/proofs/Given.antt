@@ -1,4 +1,4 @@
--- What the passed checks say, as the crates below ask it: `map-given` for the block test, `flood-given` for orbit
+-- What the passed checks say, as the crates below ask it: `rules-given` and `map-given` for the block test, `flood-given` for orbit
 -- and sheet, `room-given` and `room-small` for a lent buffer.
 use Prim.Native.Nat.{ℕ, _*_, _≤_}
 use mathlib.Core.Path.{_≡_}
@@ -8,10 +8,16 @@ use native.Mathlib.Omega.{arith}
 use lib.ListN.{length}
 use borrow.Author.Tests.{eqb-true}
 use Rattle.model.specs.Table.{slots}
-use Rattle.model.specs.Map.{isMap}
-use Rattle.model.specs.Checks.{pass, dimOk, tableOk, marksOk, dartOk}
-use Rattle.model.proofs.Calls.Pass.{must-pass, dim-pass, table-pass, RulesPass, map-pass, dart-pass}
+use Rattle.model.specs.Map.{links-live, links-return, pairs-commute, stays-flat, isMap}
+use Rattle.model.specs.Checks.{pass, dimOk, tableOk, marksOk, ruleOk, dartOk}
+use Rattle.model.proofs.Calls.Pass.{must-pass, dim-pass, table-pass, RulesPass, rules-pass, map-pass, dart-pass}
 use Rattle.reach.specs.Given.{Given}
+
+-- the checks of a map pass, before others
+pub rules-given : (n : ℕ) (t : List ℕ) {Others : Type 0}
+    → (ruleOk n t links-live ≡ pass) × ((ruleOk n t links-return ≡ pass) × ((ruleOk n t pairs-commute ≡ pass)
+    × ((ruleOk n t stays-flat ≡ pass) × Others))) → RulesPass n t
+rules-given n t p = rules-pass n t (p .0) (p .1 .0) (p .1 .1 .0) (p .1 .1 .1 .0)
 
 pub map-given : (n : ℕ) (t : List ℕ) → dimOk n ≡ pass → RulesPass n t → isMap n t ≡ true
 map-given n t dim rules = map-pass n t (dim-pass n dim .1) rules

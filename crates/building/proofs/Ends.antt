@@ -17,7 +17,7 @@ use Rattle.edits.proofs.Carrying.{carried-accepted, carried-refused}
 
 -- the change from t to u where the checks, whose verdict is c, pass; p is the place, size gives the count
 unfoldable pub operation : Check → List ℕ → List ℕ → List ℕ → ℕ → (List Change → ℕ) → Outcome
-operation c t u j p size = elim c [ pass ↦ commit t u [] j p size | refuse k q ↦ refused k q t [] j ]
+operation c t u j p size = elim c [ pass ↦ commit t u [] j p size | refuse k p q ↦ refused k p q t [] j ]
 
 -- the call whose outcome is x is that operation
 pub record Operates (c : Check) (t u j : List ℕ) (p : ℕ) (size : List Change → ℕ) (x : Outcome) : Type 0 where
@@ -40,7 +40,7 @@ module _ (n : ℕ) (t j : List ℕ) where
   unsew-operates i d = record { is = refl }
 
 module _ {c : Check} {t u j : List ℕ} {p : ℕ} {size : List Change → ℕ} {x : Outcome} (call : Operates c t u j p size x) where
-  pub operation-refused : {k q : ℕ} → c ≡ refuse k q → outcome (refusal k q) t [] j ≡ x
+  pub operation-refused : {k p q : ℕ} → c ≡ refuse k p q → outcome (refusal k p q) t [] j ≡ x
   unfolding operation refused
   operation-refused e = rw (← call .is, operation, e)
 
@@ -49,7 +49,7 @@ module _ {c : Check} {t u j : List ℕ} {p : ℕ} {size : List Change → ℕ} {
     unfolding operation
     ends = rw (← call .is, operation, passes)
 
-    pub operation-full : fits ≡ false → outcome (refusal 15 0) t′ [] j′ ≡ x
+    pub operation-full : fits ≡ false → outcome (refusal 15 0 0) t′ [] j′ ≡ x
     unfolding refused
     operation-full h = sym (carried-refused done [] p size h) ∙ ends
 

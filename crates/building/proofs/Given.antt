@@ -7,18 +7,18 @@ use mathlib.Core.List.{List}
 use native.Mathlib.Omega.{arith}
 use lib.ListN.{length}
 use Rattle.model.specs.Table.{slots}
-use Rattle.model.specs.Checks.{pass, tableOk, journalOk, dartOk, inOrder}
+use Rattle.model.specs.Checks.{pass, tableOk, journalOk, mapChecks, dartOk, inOrder}
 use Rattle.model.specs.Meaning.Maps.{MapTable}
 use Rattle.model.specs.Meaning.Numbers.{JournalRule}
 use Rattle.model.specs.Meaning.Pairings.{OnSide}
-use Rattle.model.proofs.Calls.Pass.{journal-pass, index-pass, dart-pass, table-of}
+use Rattle.model.proofs.Calls.Pass.{journal-pass, RulesPass, index-pass, dart-pass, table-of}
 use Rattle.reading.specs.Sized.{Sized}
 use Rattle.reading.proofs.Passed.{table-passed}
 use Rattle.reach.specs.Search.{SideMask}
 use Rattle.reach.specs.Given.{Given}
 use Rattle.sides.specs.Given.{Given as SidesGiven}
 use Rattle.answers.proofs.Ladder.{Passed, passed-all}
-use Rattle.answers.proofs.Given.{map-given}
+use Rattle.answers.proofs.Given.{rules-given, map-given}
 use Rattle.building.specs.Opened.{sideChecks}
 
 pub edit-given : (t j : List ℕ) → tableOk t ≡ pass → journalOk j ≡ pass → Sized t × JournalRule j
@@ -28,12 +28,17 @@ module _ (n : ℕ) (t j : List ℕ) (i d : ℕ) (h : inOrder (sideChecks n t j i
   all : Passed (sideChecks n t j i d)
   all = passed-all (sideChecks n t j i d) h
 
+  rules : RulesPass n t
+  unfolding mapChecks
+  rules = rules-given n t (all .1 .1 .1)
+
   table : MapTable n t
-  table = table-of n t (all .0) (all .1 .0) (all .1 .1 .1 .0)
+  table = table-of n t (all .0) (all .1 .0) rules
 
   pub on-side : OnSide n t i d
+  unfolding mapChecks
   on-side =
-      let dart = all .1 .1 .1 .1 in
+      let dart = all .1 .1 .1 .1 .1 .1 .1 in
       record { table = table; index = index-pass n i (dart .0); lives = dart-pass t d (dart .1 .0) }
 
   pub on-other : (e : ℕ) → dartOk t e ≡ pass → OnSide n t i e
@@ -51,7 +56,7 @@ module _ (n : ℕ) (t j : List ℕ) (i d : ℕ) (h : inOrder (sideChecks n t j i
       dim = table .dim;
       fits = table .whole;
       few = table .few;
-      map = map-given n t (all .1 .1 .1 .0);
+      map = map-given n t (all .0) rules;
       long = marks;
       room = omega arith;
       start = on-side .lives;

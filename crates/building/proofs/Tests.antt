@@ -17,7 +17,7 @@ pub clear-passes : (b : Bool) (z : ℕ) {c : Check} → must (not b) z ≡ c →
 unfolding must
 clear-passes b z e h = sym e ∙ ap (λ b. must (not b) z) h
 
-pub clear-refuses : (b : Bool) (z : ℕ) {c : Check} → must (not b) z ≡ c → b ≡ true → c ≡ refuse z 0
+pub clear-refuses : (b : Bool) (z : ℕ) {c : Check} → must (not b) z ≡ c → b ≡ true → c ≡ refuse z 0 0
 unfolding must
 clear-refuses b z e h = sym e ∙ ap (λ b. must (not b) z) h
 

@@ -11,7 +11,7 @@ ghost use Rattle.model.specs.Cell.{cellSize};
 ghost use Rattle.model.specs.Checks.{pass, inOrder};
 ghost use Rattle.model.specs.Calls.{addCall};
 ghost use Rattle.answers.specs.Answers.{outcome};
-ghost use Rattle.building.specs.Opened.{mapChecks};
+ghost use Rattle.building.specs.Opened.{openedChecks};
 
 // How many darts a cell has: 8 or 48.
 fn cell_size(n: u32) -> u32
@@ -22,7 +22,7 @@ fn cell_size(n: u32) -> u32
 
 // add, where the checks 1 to 5 have passed, with a rank for each slot.
 fn add_in(n: u32, table: &mut [u32], journal: &mut [u32], rank: &mut [u32]) -> Answer
-    requires { ⌜ inOrder (mapChecks n (now table) (now journal)) ≡ pass ⌝ }
+    requires { ⌜ inOrder (openedChecks n (now table) (now journal)) ≡ pass ⌝ }
     requires { ⌜ slots (now table) ≤ length (now rank) ⌝ }
     ensures { λ r. ⌜ outcome r (now (table .exit)) [] (now (journal .exit))
         ≡ addCall n (now (table .entry)) (now (journal .entry)) ⌝ }

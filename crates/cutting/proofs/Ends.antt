@@ -19,8 +19,8 @@ use Rattle.edits.proofs.Carrying.{carried-same, carried-accepted, carried-refus
 use Rattle.answers.specs.Answers.{outcome, refusal, accepted}
 use Rattle.cutting.proofs.Given.{Sheeted, layer}
 
-pub remove-refused : (n : ℕ) (t m j : List ℕ) (d : ℕ) {k p : ℕ} → inOrder (layerChecks n t m j d) ≡ refuse k p
-    → outcome (refusal k p) t m j ≡ removeCall n t m j d
+pub remove-refused : (n : ℕ) (t m j : List ℕ) (d : ℕ) {k p q : ℕ} → inOrder (layerChecks n t m j d) ≡ refuse k p q
+    → outcome (refusal k p q) t m j ≡ removeCall n t m j d
 unfolding removeCall refused
 remove-refused n t m j d e = rw (e, removeCall)
 
@@ -36,7 +36,7 @@ module _ {n d : ℕ} {t m j s : List ℕ} (H : Sheeted n t m j d s) where
       carried : Carried t (removeTable n t d) j t′ j′ fits k
       carried = carried-same (edit-remove n t s a b size d (H .marked)) C
 
-      pub remove-no-room : fits ≡ false → outcome (refusal 15 0) t′ s j′ ≡ removeCall n t m j d
+      pub remove-no-room : fits ≡ false → outcome (refusal 15 0 0) t′ s j′ ≡ removeCall n t m j d
       unfolding refused
       remove-no-room h = rw (remove-goes, H .marked) (sym (carried-refused carried _ _ _ h))
 

@@ -7,7 +7,7 @@ use native.Mathlib.Omega.{arith}
 use lib.ListN.{length}
 use Rattle.model.specs.Lists.{indexOf}
 use Rattle.model.specs.Table.{slots}
-use Rattle.model.specs.Checks.{pass, inOrder, layerChecks, dimOk, tableOk, marksOk, mapOk, dartOk}
+use Rattle.model.specs.Checks.{pass, inOrder, layerChecks, dimOk, tableOk, marksOk, mapChecks, dartOk}
 use Rattle.model.specs.Runs.{Call}
 use Rattle.model.specs.Meaning.Ends.{numbers}
 use Rattle.model.specs.Meaning.Numbers.{JournalRule}
@@ -15,7 +15,7 @@ use Rattle.model.specs.Meaning.Sheets.{BlockDart, marksOf}
 use Rattle.model.specs.Meaning.Walks.{Layer}
 use Rattle.model.proofs.Calls.Checks.{passed-number}
 use Rattle.model.proofs.Layers.Marks.{sheet-layer}
-use Rattle.model.proofs.Calls.Pass.{journal-pass, layer-passed}
+use Rattle.model.proofs.Calls.Pass.{journal-pass, RulesPass, rules-pass, layer-passed}
 use Rattle.reading.specs.Sized.{Sized}
 use Rattle.reading.proofs.Passed.{table-passed}
 use Rattle.reach.specs.Given.{Given}
@@ -25,28 +25,28 @@ pub record Layered (n : ℕ) (t m j : List ℕ) (d : ℕ) : Type 0 where
   pub dim : dimOk n ≡ pass
   pub table : tableOk t ≡ pass
   pub marks : marksOk t m ≡ pass
-  pub map : mapOk n t ≡ pass
+  pub rules : RulesPass n t
   pub lives : dartOk t d ≡ pass
   pub rule : JournalRule j
   pub dart : BlockDart n t d
 
 module _ {n d : ℕ} {t m j : List ℕ} where
   pub layered : inOrder (layerChecks n t m j d) ≡ pass → Layered n t m j d
-  unfolding layerChecks indexOf
+  unfolding layerChecks mapChecks indexOf
   layered h =
       let q = passed-number (numbers (Call.remove d)) (layerChecks n t m j d) h in
       record {
         dim = q 1;
         table = q 2;
         marks = q 3;
-        map = q 5;
+        rules = rules-pass n t (q 5) (q 24) (q 25) (q 26);
         lives = q 7;
         rule = journal-pass j (q 4);
         dart = layer-passed n t j m d h;
       }
 
   pub flooding : Layered n t m j d → {q : List ℕ} → slots t ≤ length q → Given n t m q d
-  flooding L {q} room = flood-given n t m q d (L .dim) (L .table) (L .marks) (L .map) (L .lives) room
+  flooding L {q} room = flood-given n t m q d (L .dim) (L .table) (L .marks) (L .rules) (L .lives) room
 
   pub sized : Layered n t m j d → Sized t
   sized L = table-passed t (L .table)

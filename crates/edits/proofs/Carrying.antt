@@ -90,6 +90,6 @@ module _ {t u j t′ j′ : List ℕ} {fits : Bool} {k : ℕ} (c : Carried t u j
     unfolding commit
     carried-accepted h = rw (← c .tested, h, commit, c .table, h, c .journal, h)
 
-    pub carried-refused : fits ≡ false → commit t u m j p size ≡ refused 15 0 t′ m j′
+    pub carried-refused : fits ≡ false → commit t u m j p size ≡ refused 15 0 0 t′ m j′
     unfolding commit
     carried-refused h = rw (← c .tested, h, commit, c .table, h, c .journal, h)

@@ -31,8 +31,8 @@ use Rattle.edits.proofs.Carrying.{carried-same, carried-accepted, carried-refus
 use Rattle.answers.specs.Answers.{outcome, refusal, accepted}
 use Rattle.cutting.proofs.Given.{Sheeted, given, marks-few}
 
-pub split-refused : (n : ℕ) (t m j : List ℕ) (d : ℕ) {k p : ℕ} → inOrder (layerChecks n t m j d) ≡ refuse k p
-    → outcome (refusal k p) t m j ≡ splitCall n t m j d
+pub split-refused : (n : ℕ) (t m j : List ℕ) (d : ℕ) {k p q : ℕ} → inOrder (layerChecks n t m j d) ≡ refuse k p q
+    → outcome (refusal k p q) t m j ≡ splitCall n t m j d
 unfolding splitCall refused
 split-refused n t m j d e = rw (e, splitCall)
 
@@ -44,8 +44,8 @@ dartsOf n t d = ones (sheet n t d)
 module _ {n d : ℕ} {t m j s : List ℕ} (H : Sheeted n t m j d s)
     {size : ℕ} {darts₀ darts rank₀ rank₁ : List ℕ} (G : Lists (ones s) size darts₀ darts rank₀ rank₁)
   where
-    split-stops : {k p : ℕ} → inOrder (splitChecks n t (sheet n t d) (dartsOf n t d)) ≡ refuse k p
-        → outcome (refusal k p) t s j ≡ splitCall n t m j d
+    split-stops : {k p q : ℕ} → inOrder (splitChecks n t (sheet n t d) (dartsOf n t d)) ≡ refuse k p q
+        → outcome (refusal k p q) t s j ≡ splitCall n t m j d
     unfolding splitCall refused
     split-stops e = rw (H .passed, splitCall, e, splitCall, H .marked)
 
@@ -59,7 +59,7 @@ module _ {n d : ℕ} {t m j s : List ℕ} (H : Sheeted n t m j d s)
     crossed is = sym (is ∙ ap₂ (crosses t) (H .marked) listed ∙ marks-crosses (given H .dart) (dartsOf n t d))
 
     pub split-crosses : {b : Bool} → b ≡ crosses t s (take size darts) → b ≡ true
-        → outcome (refusal 13 0) t s j ≡ splitCall n t m j d
+        → outcome (refusal 13 0 0) t s j ≡ splitCall n t m j d
     unfolding splitChecks crossingOk inOrder andThen must
     split-crosses is h = split-stops (rw (crossed is, h))
 
@@ -87,7 +87,7 @@ module _ {n d : ℕ} {t m j s : List ℕ} (H : Sheeted n t m j d s)
         new-number : length (splitSlots n t (dartsOf n t d)) ≡ r
         new-number = sym (F .size ∙ ap length slots-new)
 
-        pub split-few : r ≢ n * size → outcome (refusal 14 0) t s j ≡ splitCall n t m j d
+        pub split-few : r ≢ n * size → outcome (refusal 14 0 0) t s j ≡ splitCall n t m j d
         unfolding splitChecks crossingOk splitRoomOk inOrder andThen must
         split-few h = split-stops (rw (crossed is, uncrossed, new-number, ← size-is, ne-eqb r (n * size) h))
 
@@ -119,7 +119,7 @@ module _ {n d : ℕ} {t m j s : List ℕ} (H : Sheeted n t m j d s)
               carried : Carried t (splitTable n t d) j t′ j′ fits k
               carried = carried-same (edit-split n t s darts fresh size d listed taken) C
 
-              pub split-no-room : fits ≡ false → outcome (refusal 15 0) t′ s j′ ≡ splitCall n t m j d
+              pub split-no-room : fits ≡ false → outcome (refusal 15 0 0) t′ s j′ ≡ splitCall n t m j d
               unfolding refused
               split-no-room h = rw (split-goes, H .marked) (sym (carried-refused carried _ _ _ h))
 

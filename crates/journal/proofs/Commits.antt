@@ -24,7 +24,7 @@ module _ (t u j : List ℕ) (k : ℕ) (count : k ≡ length (changesFrom 0 t u))
     record-words : length (recordOf (changesFrom 0 t u)) ≡ 3 * k + 2
     record-words = length-record (changesFrom 0 t u) ∙ ap (λ (n : ℕ). 3 * n + 2) (sym count)
 
-    pub commit-refused : r ≡ false → (m : List ℕ) (p : ℕ) (size : List Change → ℕ) → commit t u m j p size ≡ refused 15 0 t m j
+    pub commit-refused : r ≡ false → (m : List ℕ) (p : ℕ) (size : List Change → ℕ) → commit t u m j p size ≡ refused 15 0 0 t m j
     unfolding commit
     commit-refused h m p size = rw (record-words, ← tested, h, commit)
 

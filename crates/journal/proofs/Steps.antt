@@ -57,7 +57,7 @@ module _ (redo : Bool) (t j : List ℕ) (a k : ℕ) (r : Bool) (tested : r ≡ u
   abbrev cs : List Change
   cs = changesAt j a k
 
-  pub step-broken : r ≡ false → (n c : ℕ) → stepOutcome redo n t j a k c ≡ refused 17 0 t [] j
+  pub step-broken : r ≡ false → (n c : ℕ) → stepOutcome redo n t j a k c ≡ refused 17 0 0 t [] j
   unfolding stepOutcome
   step-broken h n c = rw (← tested, h, stepOutcome)
 
@@ -77,7 +77,7 @@ module _ (redo : Bool) (t j : List ℕ) (a k : ℕ) (r : Bool) (tested : r ≡ u
       unbroken-back t″ h = h ∙ rw done (put-back redo t cs (parts .sounds))
 
       module _ (n c : ℕ) where
-        pub step-no-map : isMap n t′ ≡ false → stepOutcome redo n t j a k c ≡ refused 17 0 t [] j
+        pub step-no-map : isMap n t′ ≡ false → stepOutcome redo n t j a k c ≡ refused 17 0 0 t [] j
         unfolding stepOutcome
         step-no-map h = rw (← tested, whole, ← done, h, stepOutcome)
 

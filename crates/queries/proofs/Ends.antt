@@ -12,7 +12,7 @@ use Rattle.model.specs.Calls.{refused, checkCall, orbitCall, sheetCall}
 use Rattle.answers.specs.Answers.{outcome, refusal, accepted}
 
 module _ (n : ℕ) (t : List ℕ) where
-  pub check-refused : {k p : ℕ} → inOrder (checkChecks n t) ≡ refuse k p → outcome (refusal k p) t [] [] ≡ checkCall n t
+  pub check-refused : {k p q : ℕ} → inOrder (checkChecks n t) ≡ refuse k p q → outcome (refusal k p q) t [] [] ≡ checkCall n t
   unfolding checkCall refused
   check-refused e = rw (e, checkCall)
 
@@ -22,8 +22,8 @@ module _ (n : ℕ) (t : List ℕ) where
   check-accepted e block = rw (e, checkCall, block)
 
   module _ (m : List ℕ) (mask d : ℕ) where
-    pub orbit-refused : {k p : ℕ} → inOrder (orbitChecks n t m mask d) ≡ refuse k p
-        → outcome (refusal k p) t m [] ≡ orbitCall n t m mask d
+    pub orbit-refused : {k p q : ℕ} → inOrder (orbitChecks n t m mask d) ≡ refuse k p q
+        → outcome (refusal k p q) t m [] ≡ orbitCall n t m mask d
     unfolding orbitCall refused
     orbit-refused e = rw (e, orbitCall)
 
@@ -33,7 +33,7 @@ module _ (n : ℕ) (t : List ℕ) where
     orbit-accepted e place reached = rw (e, orbitCall, place, reached .0, reached .1)
 
   module _ (m : List ℕ) (d : ℕ) where
-    pub sheet-refused : {k p : ℕ} → inOrder (sheetChecks n t m d) ≡ refuse k p → outcome (refusal k p) t m [] ≡ sheetCall n t m d
+    pub sheet-refused : {k p q : ℕ} → inOrder (sheetChecks n t m d) ≡ refuse k p q → outcome (refusal k p q) t m [] ≡ sheetCall n t m d
     unfolding sheetCall refused
     sheet-refused e = rw (e, sheetCall)
 

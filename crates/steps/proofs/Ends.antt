@@ -11,13 +11,13 @@ use Rattle.answers.specs.Answers.{outcome, refusal}
 
 module _ (n : ℕ) (t j : List ℕ) where
   -- the table was taken back, or never changed
-  pub step-refused : (redo : Bool) (a k to : ℕ) {t′ : List ℕ} → t′ ≡ t → stepOutcome redo n t j a k to ≡ refused 17 0 t [] j
-      → outcome (refusal 17 0) t′ [] j ≡ stepOutcome redo n t j a k to
+  pub step-refused : (redo : Bool) (a k to : ℕ) {t′ : List ℕ} → t′ ≡ t → stepOutcome redo n t j a k to ≡ refused 17 0 0 t [] j
+      → outcome (refusal 17 0 0) t′ [] j ≡ stepOutcome redo n t j a k to
   unfolding refused
-  step-refused redo a k to same e = ap (λ u. outcome (refusal 17 0) u [] j) same ∙ sym e
+  step-refused redo a k to same e = ap (λ u. outcome (refusal 17 0 0) u [] j) same ∙ sym e
 
-  pub undo-refused : {k p : ℕ} → inOrder (stepChecks n t j (undoOk j)) ≡ refuse k p
-      → outcome (refusal k p) t [] j ≡ undoCall n t j
+  pub undo-refused : {k p q : ℕ} → inOrder (stepChecks n t j (undoOk j)) ≡ refuse k p q
+      → outcome (refusal k p q) t [] j ≡ undoCall n t j
   unfolding undoCall refused
   undo-refused e = rw (e, undoCall)
 
@@ -26,8 +26,8 @@ module _ (n : ℕ) (t j : List ℕ) where
   unfolding undoCall
   undo-accepted a k e count start step = step ∙ rw (e, undoCall, start, count)
 
-  pub redo-refused : {k p : ℕ} → inOrder (stepChecks n t j (redoOk j)) ≡ refuse k p
-      → outcome (refusal k p) t [] j ≡ redoCall n t j
+  pub redo-refused : {k p q : ℕ} → inOrder (stepChecks n t j (redoOk j)) ≡ refuse k p q
+      → outcome (refusal k p q) t [] j ≡ redoCall n t j
   unfolding redoCall refused
   redo-refused e = rw (e, redoCall)
 

@@ -2,7 +2,7 @@
 use mathlib.Core.Path.{_≡_}
 use mathlib.Core.List.{List}
 use borrow.Author.Needs.{needs}
-use Rattle.model.specs.Checks.{Check, pass, inOrder, layerChecks}
+use Rattle.model.specs.Checks.{Check, pass, inOrder, layerChecks, mapChecks}
 use Rattle.answers.proofs.Verdicts.{marks-test}
 use Rattle.answers.proofs.Settled.{Opening, handed-on}
 use Rattle.answers.proofs.Given.{room-given, room-small}
@@ -15,8 +15,8 @@ use Rattle.halving.proofs.split.Tie as tie
 abbrev checks : tie.Start → List Check
 checks p = layerChecks (p .args .n) (p .args .table .now) (p .args .marks .now) (p .args .journal .now) (p .args .d)
 
-abbrev opening : tie.After-struct-known → Opening checks 7
-unfolding layerChecks
+abbrev opening : tie.After-struct-known → Opening checks 10
+unfolding layerChecks mapChecks
 opening c = record {
   entry = c .before .before .before .before .before .before .before .before;
   answer = _;
@@ -26,7 +26,7 @@ opening c = record {
 }
 
 passed : (c : tie.Else1) → inOrder (checks (c .before .before .before .before .before .before .before .before .before)) ≡ pass
-unfolding layerChecks
+unfolding layerChecks mapChecks
 passed c = opening (c .before) .settles .passes (c .if1 .left)
 
 journal-fits-requires : tie.Need-journal-fits-requires
@@ -42,7 +42,7 @@ same-length-2 : tie.Need-same-length-2
 same-length-2 c = search needs
 
 returns : tie.Need-returns
-unfolding layerChecks
+unfolding layerChecks mapChecks
 returns c = handed-on (opening (c .before)) (c .if1 .taken) (split-refused _ _ _ _ _)
 
 slice-aggregate-split-in : tie.Need-slice-aggregate-split-in

@@ -3,7 +3,7 @@ use mathlib.Core.Path.{_≡_}
 use mathlib.Core.List.{List}
 use borrow.Author.Needs.{needs}
 use lib.ListN.{take}
-use Rattle.model.specs.Checks.{Check, pass, inOrder, sewChecks, sidesChecks}
+use Rattle.model.specs.Checks.{Check, pass, inOrder, sewChecks, sidesChecks, mapChecks}
 use Rattle.answers.proofs.Ladder.{passed-all}
 use Rattle.answers.proofs.Settled.{Opening, handed-on}
 use Rattle.answers.proofs.Opened.{opened-side}
@@ -15,16 +15,16 @@ use Rattle.joining.proofs.sew.Tie as tie
 abbrev checks : tie.Start → List Check
 checks p = sewChecks (p .args .n) (p .args .table .now) (p .args .journal .now) (p .args .i) (p .args .d) (p .args .e)
 
-abbrev opening : tie.After-struct-known → Opening checks 6
-unfolding sewChecks sidesChecks
+abbrev opening : tie.After-struct-known → Opening checks 9
+unfolding sewChecks sidesChecks mapChecks
 opening c = record {
   entry = c .before .before .before .before .before .before .before;
   answer = _;
   settles = opened-side _ _ _ _ (c .before .before .journal-fits .ensures) _ _ (c .before .opening-side .ensures);
 }
 
-passes : (c : tie.Else1) → inOrder (take 6 (checks (opening (c .before) .entry))) ≡ pass
-unfolding sewChecks sidesChecks
+passes : (c : tie.Else1) → inOrder (take 9 (checks (opening (c .before) .entry))) ≡ pass
+unfolding sewChecks sidesChecks mapChecks
 passes c = opening (c .before) .settles .passes (c .if1 .left)
 
 journal-fits-requires : tie.Need-journal-fits-requires
@@ -40,7 +40,7 @@ same-length-2 : tie.Need-same-length-2
 same-length-2 c = search needs
 
 returns : tie.Need-returns
-unfolding sewChecks sidesChecks
+unfolding sewChecks sidesChecks mapChecks
 returns c = handed-on (opening (c .before)) (c .if1 .taken) (operation-refused (sew-operates _ _ _ _ _ _))
 
 slice-aggregate-sew-in : tie.Need-slice-aggregate-sew-in
@@ -56,7 +56,7 @@ slice-aggregate-sew-in-4 : tie.Need-slice-aggregate-sew-in-4
 slice-aggregate-sew-in-4 c = search needs
 
 sew-in-requires : tie.Need-sew-in-requires
-unfolding sewChecks sidesChecks
+unfolding sewChecks sidesChecks mapChecks
 sew-in-requires c κs =
     let small = c .before .before .before .before .before .before in
     let h = passes (small .before) in
@@ -85,7 +85,7 @@ slice-aggregate-sew-in-8 : tie.Need-slice-aggregate-sew-in-8
 slice-aggregate-sew-in-8 c = search needs
 
 sew-in-requires-2 : tie.Need-sew-in-requires-2
-unfolding sewChecks sidesChecks
+unfolding sewChecks sidesChecks mapChecks
 sew-in-requires-2 c κs =
     let small = c .before .before .before .before .before .before in
     let h = passes (small .before .before) in
@@ -114,7 +114,7 @@ slice-aggregate-sew-in-12 : tie.Need-slice-aggregate-sew-in-12
 slice-aggregate-sew-in-12 c = search needs
 
 sew-in-requires-3 : tie.Need-sew-in-requires-3
-unfolding sewChecks sidesChecks
+unfolding sewChecks sidesChecks mapChecks
 sew-in-requires-3 c κs =
     let h = passes (c .before .before .before .before .before .before .before .before) in
     let room = room-given _ (passed-all _ h .1 .0) in

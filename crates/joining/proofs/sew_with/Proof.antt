@@ -4,7 +4,7 @@ use mathlib.Core.List.{List}
 use native.Mathlib.Omega.{arith}
 use borrow.Author.Needs.{needs}
 use borrow.Author.Tests.{not-true, not-false}
-use Rattle.model.specs.Checks.{Check, sewChecks, sidesChecks}
+use Rattle.model.specs.Checks.{Check, sewChecks, sidesChecks, mapChecks}
 use Rattle.model.proofs.Maps.Tables.{live-below}
 use Rattle.answers.proofs.Ladder.{Rung, rise, up, out, all-passed}
 use Rattle.answers.proofs.Verdicts.{passes, refuses, differ-passes, differ-refuses, dart-test}
@@ -22,15 +22,15 @@ use Rattle.joining.proofs.sew_with.Tie as tie
 abbrev checks : tie.Start → List Check
 checks p = sewChecks (p .args .n) (p .args .table .now) (p .args .journal .now) (p .args .i) (p .args .d) (p .args .e)
 
-abbrev opened : tie.Start → Rung checks 6
-unfolding sewChecks sidesChecks
-opened p = rise 6 p (p .pre .0)
+abbrev opened : tie.Start → Rung checks 9
+unfolding sewChecks sidesChecks mapChecks
+opened p = rise 9 p (p .pre .0)
 
 abbrev start : tie.After-live → tie.Start
 start c = c .before .before .before .before .before .before .before .before
 
-abbrev dart : tie.Else1 → Rung checks 7
-unfolding sewChecks sidesChecks
+abbrev dart : tie.Else1 → Rung checks 10
+unfolding sewChecks sidesChecks mapChecks
 dart c = up (opened (start (c .before))) (passes _ 7 (dart-test _ _ (c .before .live .ensures)) (c .if1 .left))
 
 abbrev lives : tie.After-side → tie.Else1
@@ -39,8 +39,8 @@ lives c = c .before .before .before .before
 abbrev marked : tie.After-slice-known9 → tie.After-side
 marked c = c .before .before .before .before .before
 
-abbrev apart : tie.Else2 → Rung checks 8
-unfolding sewChecks sidesChecks
+abbrev apart : tie.Else2 → Rung checks 11
+unfolding sewChecks sidesChecks mapChecks
 apart c =
     let m = marked (c .before) in
     up (dart (lives m)) (differ-passes _ _ 9 (apart-test _ _ _ _ _ (m .side .ensures .marks)) (c .if2 .left))
@@ -48,8 +48,8 @@ apart c =
 abbrev parted : tie.After-is-free2 → tie.Else2
 parted c = c .before .before .before .before
 
-abbrev free : tie.Else3 → Rung checks 9
-unfolding sewChecks sidesChecks
+abbrev free : tie.Else3 → Rung checks 12
+unfolding sewChecks sidesChecks mapChecks
 free c =
     let second = c .before in
     up (apart (parted second))
@@ -61,8 +61,8 @@ freed c = c .before .before .before .before .before .before
 abbrev tested : tie.After-slice-known12 → tie.After-pair-sides
 tested c = c .before .before .before .before .before .before
 
-abbrev paired : tie.Else4 → Rung checks 10
-unfolding sewChecks sidesChecks
+abbrev paired : tie.Else4 → Rung checks 13
+unfolding sewChecks sidesChecks mapChecks
 paired c =
     let pair = tested (c .before) in
     up (free (freed pair)) (passes _ 12 (pairing-test _ _ _ _ _ (pair .pair-sides .ensures)) (c .if4 .left))
@@ -85,7 +85,7 @@ same-length : tie.Need-same-length
 same-length c = search needs
 
 returns : tie.Need-returns
-unfolding sewChecks sidesChecks
+unfolding sewChecks sidesChecks mapChecks
 returns c =
     operation-refused (sew-operates _ _ _ _ _ _)
     (out (opened (start (c .before))) (refuses _ 7 (dart-test _ _ (c .before .live .ensures)) (c .if1 .taken)))
@@ -96,7 +96,7 @@ side-requires c κs =
     side-given _ _ _ _ _ (p .pre .0) _ _ (p .pre .1 .0 .0) (p .pre .1 .1 .1)
 
 slice-read-if2 : tie.Need-slice-read-if2
-unfolding sewChecks sidesChecks
+unfolding sewChecks sidesChecks mapChecks
 slice-read-if2 c =
     let e = lives (marked c) in
     let s = start (e .before) in
@@ -115,7 +115,7 @@ same-length-4 : tie.Need-same-length-4
 same-length-4 c = search needs
 
 returns-2 : tie.Need-returns-2
-unfolding sewChecks sidesChecks
+unfolding sewChecks sidesChecks mapChecks
 returns-2 c =
     let m = marked (c .before) in
     operation-refused (sew-operates _ _ _ _ _ _)
@@ -137,7 +137,7 @@ same-length-7 : tie.Need-same-length-7
 same-length-7 c = search needs
 
 returns-3 : tie.Need-returns-3
-unfolding sewChecks sidesChecks
+unfolding sewChecks sidesChecks mapChecks
 returns-3 c =
     let second = c .before in
     operation-refused (sew-operates _ _ _ _ _ _)
@@ -151,7 +151,7 @@ side-mask-requires c κs =
     (on .table .dim, on .index)
 
 pair-sides-requires : tie.Need-pair-sides-requires
-unfolding sewChecks sidesChecks
+unfolding sewChecks sidesChecks mapChecks
 pair-sides-requires c κs =
     let f = c .before .before .before .before .before in
     let start = entry f .pre in
@@ -175,14 +175,14 @@ same-length-12 : tie.Need-same-length-12
 same-length-12 c = search needs
 
 returns-4 : tie.Need-returns-4
-unfolding sewChecks sidesChecks
+unfolding sewChecks sidesChecks mapChecks
 returns-4 c =
     let pair = tested (c .before) in
     operation-refused (sew-operates _ _ _ _ _ _)
     (out (free (freed pair)) (refuses _ 12 (pairing-test _ _ _ _ _ (pair .pair-sides .ensures)) (c .if4 .taken)))
 
 commit-requires : tie.Need-commit-requires
-unfolding sewChecks sidesChecks
+unfolding sewChecks sidesChecks mapChecks
 commit-requires c κs =
     let has = c .before .before .before .before .before .before in
     let pair = tested (has .before) in
@@ -217,7 +217,7 @@ same-length-18 c =
     pair .pair-sides .kept .1 .1 .1 .1 .0 ∙ sided (freed pair) .side .kept .1 .1 .1 .0
 
 returns-5 : tie.Need-returns-5
-unfolding sewChecks sidesChecks
+unfolding sewChecks sidesChecks mapChecks
 returns-5 c =
     let committed = c .before .before .before .before .before .before in
     let has = found committed in
@@ -248,7 +248,7 @@ same-length-24 c =
     pair .pair-sides .kept .1 .1 .1 .1 .0 ∙ sided (freed pair) .side .kept .1 .1 .1 .0
 
 returns-6 : tie.Need-returns-6
-unfolding sewChecks sidesChecks
+unfolding sewChecks sidesChecks mapChecks
 returns-6 c =
     let committed = c .before .before .before .before .before .before in
     let has = found committed in

@@ -80,9 +80,12 @@ pub rule-fails : (n : ℕ) (t : List ℕ) (r : MapRule) → Dim n → ((q : MapR
 unfolding ruleOk
 rule-fails n t r dim earlier = mustAt-fails _ (ruleNumber r) _ _ (
   λ h.
-      let (not-map, broken) = or-false (isMap n t) (keepsRule n t (leastBreaking n t) r) h in
-      (_, _, broken-first n t (dim .1) not-map r broken (λ q l.
-      ⊎-elim (λ e. absurd (clash e not-map)) (λ e. e) (or-cases (isMap n t) _ (mustAt-pass _ _ _ _ (earlier q l))))),
+      let (not-map, broken) = or-false (isMap n t) (keepsRule n t (leastBreaking n t) r) h in (
+        _,
+        _,
+        broken-first n t (dim .1) not-map r broken (λ q l.
+            ⊎-elim (λ e. absurd (clash e not-map)) (λ e. e) (or-cases (isMap n t) _ (mustAt-pass _ _ _ _ (earlier q l)))),
+      ),
   λ w. let tested = of-broken n t (dim .1) (w .2) in rw (tested .not-map) (tested .broken),
 )
 

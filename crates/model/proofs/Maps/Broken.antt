@@ -207,6 +207,6 @@ module _ (n : ℕ) (t : List ℕ) (n3 : n ≤ 3) where
       let a = of-broken f in
       let c = of-broken g in
       let number : ruleNumber r ≡ ruleNumber q = if-lt (ruleNumber r) (ruleNumber q) (λ l. absurd (clash (c .earlier r l) (a .broken)))
-          (λ u. if-lt (ruleNumber q) (ruleNumber r) (λ l. absurd (clash (a .earlier q l) (c .broken))) (λ v. omega arith)) in
+      (λ u. if-lt (ruleNumber q) (ruleNumber r) (λ l. absurd (clash (a .earlier q l) (c .broken))) (λ v. omega arith)) in
       let rule : r ≡ q = number-one number in
       (rule, sym (a .place) ∙ c .place, sym (a .link) ∙ ap (breakingLink n t b) rule ∙ c .link)

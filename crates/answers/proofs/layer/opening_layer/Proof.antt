@@ -2,12 +2,11 @@
 use mathlib.Core.List.{List}
 use borrow.Author.Needs.{needs}
 use Rattle.model.specs.Checks.{Check, mapChecks}
-use Rattle.model.proofs.Calls.Pass.{rules-pass}
 use Rattle.answers.specs.Openings.{openingChecks, layerChecks}
 use Rattle.answers.proofs.Ladder.{Rung, rise, up, out, all-passed}
 use Rattle.answers.proofs.Verdicts.{passes, refuses, least-passes, least-refuses, dart-test, block-test}
 use Rattle.answers.proofs.Settled.{settles-refusal, settles-pass, settles-front}
-use Rattle.answers.proofs.Given.{map-given}
+use Rattle.answers.proofs.Given.{rules-given, map-given}
 use Rattle.answers.proofs.layer.opening_layer.Statement.{statement}
 use Rattle.answers.proofs.layer.opening_layer.Tie as tie
 
@@ -50,7 +49,7 @@ least-wrong-requires : tie.Need-least-wrong-requires
 unfolding layerChecks openingChecks mapChecks
 least-wrong-requires c κs =
     let p = dart c .passed in
-    (search, search, map-given _ _ (search) (rules-pass _ _ (search) (search) (search) (search)))
+    (search, search, map-given _ _ (search) (rules-given _ _ (p .1 .1 .1 .1)))
 
 slots-requires : tie.Need-slots-requires
 unfolding layerChecks openingChecks mapChecks

@@ -3,7 +3,7 @@ use mathlib.Core.Path.{_≡_}
 use mathlib.Core.List.{List}
 use borrow.Author.Needs.{needs}
 use lib.ListN.{take}
-use Rattle.model.specs.Checks.{Check, pass, inOrder, addChecks}
+use Rattle.model.specs.Checks.{Check, pass, inOrder, addChecks, mapChecks}
 use Rattle.answers.proofs.Settled.{Opening, handed-on}
 use Rattle.answers.proofs.Opened.{opened-journal}
 use Rattle.answers.proofs.Given.{room-given, room-small}
@@ -15,16 +15,16 @@ use Rattle.building.proofs.adding.add.Tie as tie
 abbrev checks : tie.Start → List Check
 checks p = addChecks (p .args .n) (p .args .table .now) (p .args .journal .now)
 
-abbrev opening : tie.After-struct-known → Opening checks 4
-unfolding addChecks
+abbrev opening : tie.After-struct-known → Opening checks 7
+unfolding addChecks mapChecks
 opening c = record {
   entry = c .before .before .before .before .before .before .before;
   answer = _;
   settles = opened-journal _ _ _ _ (c .before .before .journal-fits .ensures) (c .before .opening .ensures);
 }
 
-passes : (c : tie.Else1) → inOrder (take 4 (checks (opening (c .before) .entry))) ≡ pass
-unfolding addChecks
+passes : (c : tie.Else1) → inOrder (take 7 (checks (opening (c .before) .entry))) ≡ pass
+unfolding addChecks mapChecks
 passes c = opening (c .before) .settles .passes (c .if1 .left)
 
 journal-fits-requires : tie.Need-journal-fits-requires
@@ -40,14 +40,14 @@ same-length-2 : tie.Need-same-length-2
 same-length-2 c = search needs
 
 returns : tie.Need-returns
-unfolding addChecks
+unfolding addChecks mapChecks
 returns c = handed-on (opening (c .before)) (c .if1 .taken) (operation-refused (add-operates _ _ _))
 
 slice-aggregate-add-in : tie.Need-slice-aggregate-add-in
 slice-aggregate-add-in c = search needs
 
 add-in-requires : tie.Need-add-in-requires
-unfolding addChecks
+unfolding addChecks mapChecks
 add-in-requires c κs =
     let small = c .before .before .before in
     let h = passes (small .before) in
@@ -67,7 +67,7 @@ slice-aggregate-add-in-2 : tie.Need-slice-aggregate-add-in-2
 slice-aggregate-add-in-2 c = search needs
 
 add-in-requires-2 : tie.Need-add-in-requires-2
-unfolding addChecks
+unfolding addChecks mapChecks
 add-in-requires-2 c κs =
     let h = passes (c .before .before .before .before) in
     let room = room-given _ (passed-all _ h .1 .0) in

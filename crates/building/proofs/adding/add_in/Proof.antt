@@ -3,7 +3,7 @@ use mathlib.Core.List.{List}
 use native.Mathlib.Omega.{arith}
 use borrow.Author.Needs.{needs}
 use borrow.Author.Tests.{not-true, not-false}
-use Rattle.model.specs.Checks.{Check, addChecks}
+use Rattle.model.specs.Checks.{Check, addChecks, mapChecks}
 use Rattle.model.proofs.Calls.Pass.{dim-pass}
 use Rattle.layers.proofs.Orders.{size-few}
 use Rattle.answers.proofs.Ladder.{Rung, rise, up, out, all-passed}
@@ -20,9 +20,9 @@ use Rattle.building.proofs.adding.add_in.Tie as tie
 abbrev checks : tie.Start → List Check
 checks p = addChecks (p .args .n) (p .args .table .now) (p .args .journal .now)
 
-abbrev map : tie.Start → Rung checks 4
-unfolding addChecks
-map p = rise 4 p (p .pre .0)
+abbrev map : tie.Start → Rung checks 7
+unfolding addChecks mapChecks
+map p = rise 7 p (p .pre .0)
 
 -- the function's entry, from where the size is known
 abbrev start : tie.After-cell-size → tie.Start
@@ -32,8 +32,8 @@ start c = c .before .before .before .before
 abbrev sized : tie.After-list-unused → tie.After-cell-size
 sized c = c .before .before .before .before
 
-abbrev room : tie.Else1 → Rung checks 5
-unfolding addChecks
+abbrev room : tie.Else1 → Rung checks 8
+unfolding addChecks mapChecks
 room c =
     let listed = c .before .before .before .before in
     up (map (start (sized listed)))
@@ -46,7 +46,7 @@ slice-aggregate-list-unused : tie.Need-slice-aggregate-list-unused
 slice-aggregate-list-unused c = search needs
 
 list-unused-requires : tie.Need-list-unused-requires
-unfolding addChecks
+unfolding addChecks mapChecks
 list-unused-requires c κs =
     let size = c .before .before .before in
     let p = map (start size) .passed in
@@ -61,7 +61,7 @@ same-length-2 : tie.Need-same-length-2
 same-length-2 c = search needs
 
 returns : tie.Need-returns
-unfolding addChecks
+unfolding addChecks mapChecks
 returns c =
     let listed = c .before .before .before .before in
     let size = sized listed in
@@ -76,7 +76,7 @@ slice-aggregate-commit-2 : tie.Need-slice-aggregate-commit-2
 slice-aggregate-commit-2 c = search needs
 
 commit-requires : tie.Need-commit-requires
-unfolding addChecks
+unfolding addChecks mapChecks
 commit-requires c κs =
     let passed = c .before .before .before .before .before in
     let listed = passed .before .before .before .before in
@@ -95,7 +95,7 @@ same-length-5 : tie.Need-same-length-5
 same-length-5 c = search needs
 
 returns-2 : tie.Need-returns-2
-unfolding addChecks
+unfolding addChecks mapChecks
 returns-2 c =
     let committed = c .before .before .before .before .before .before in
     let passed = committed .before .before .before .before .before .before in
@@ -119,7 +119,7 @@ same-length-8 : tie.Need-same-length-8
 same-length-8 c = search needs
 
 returns-3 : tie.Need-returns-3
-unfolding addChecks
+unfolding addChecks mapChecks
 returns-3 c =
     let committed = c .before .before .before .before .before .before in
     let passed = committed .before .before .before .before .before .before in

@@ -3,7 +3,7 @@ use mathlib.Core.Path.{_≡_}
 use mathlib.Core.List.{List}
 use borrow.Author.Needs.{needs}
 use lib.ListN.{take}
-use Rattle.model.specs.Checks.{Check, pass, inOrder, unsewChecks}
+use Rattle.model.specs.Checks.{Check, pass, inOrder, unsewChecks, mapChecks}
 use Rattle.answers.proofs.Ladder.{passed-all}
 use Rattle.answers.proofs.Settled.{Opening, handed-on}
 use Rattle.answers.proofs.Opened.{opened-side}
@@ -15,16 +15,16 @@ use Rattle.building.proofs.unsewing.unsew.Tie as tie
 abbrev checks : tie.Start → List Check
 checks p = unsewChecks (p .args .n) (p .args .table .now) (p .args .journal .now) (p .args .i) (p .args .d)
 
-abbrev opening : tie.After-struct-known → Opening checks 6
-unfolding unsewChecks
+abbrev opening : tie.After-struct-known → Opening checks 9
+unfolding unsewChecks mapChecks
 opening c = record {
   entry = c .before .before .before .before .before .before .before;
   answer = _;
   settles = opened-side _ _ _ _ (c .before .before .journal-fits .ensures) _ _ (c .before .opening-side .ensures);
 }
 
-passes : (c : tie.Else1) → inOrder (take 6 (checks (opening (c .before) .entry))) ≡ pass
-unfolding unsewChecks
+passes : (c : tie.Else1) → inOrder (take 9 (checks (opening (c .before) .entry))) ≡ pass
+unfolding unsewChecks mapChecks
 passes c = opening (c .before) .settles .passes (c .if1 .left)
 
 journal-fits-requires : tie.Need-journal-fits-requires
@@ -40,7 +40,7 @@ same-length-2 : tie.Need-same-length-2
 same-length-2 c = search needs
 
 returns : tie.Need-returns
-unfolding unsewChecks
+unfolding unsewChecks mapChecks
 returns c = handed-on (opening (c .before)) (c .if1 .taken) (operation-refused (unsew-operates _ _ _ _ _))
 
 slice-aggregate-unsew-in : tie.Need-slice-aggregate-unsew-in
@@ -50,7 +50,7 @@ slice-aggregate-unsew-in-2 : tie.Need-slice-aggregate-unsew-in-2
 slice-aggregate-unsew-in-2 c = search needs
 
 unsew-in-requires : tie.Need-unsew-in-requires
-unfolding unsewChecks
+unfolding unsewChecks mapChecks
 unsew-in-requires c κs =
     let small = c .before .before .before .before in
     let h = passes (small .before) in
@@ -73,7 +73,7 @@ slice-aggregate-unsew-in-4 : tie.Need-slice-aggregate-unsew-in-4
 slice-aggregate-unsew-in-4 c = search needs
 
 unsew-in-requires-2 : tie.Need-unsew-in-requires-2
-unfolding unsewChecks
+unfolding unsewChecks mapChecks
 unsew-in-requires-2 c κs =
     let h = passes (c .before .before .before .before .before) in
     let room = room-given _ (passed-all _ h .1 .0) in

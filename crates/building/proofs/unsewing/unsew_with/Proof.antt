@@ -3,7 +3,7 @@ use mathlib.Core.Path.{refl}
 use mathlib.Core.List.{List}
 use borrow.Author.Needs.{needs}
 use borrow.Author.Tests.{not-true, not-false}
-use Rattle.model.specs.Checks.{Check, unsewChecks}
+use Rattle.model.specs.Checks.{Check, unsewChecks, mapChecks}
 use Rattle.answers.proofs.Ladder.{Rung, rise, up, out, all-passed}
 use Rattle.edits.proofs.Tables.{edit-unsew}
 use Rattle.edits.proofs.Fitting.{fit-unsew}
@@ -19,16 +19,16 @@ use Rattle.building.proofs.unsewing.unsew_with.Tie as tie
 abbrev checks : tie.Start → List Check
 checks p = unsewChecks (p .args .n) (p .args .table .now) (p .args .journal .now) (p .args .i) (p .args .d)
 
-abbrev opened : tie.Start → Rung checks 6
-unfolding unsewChecks
-opened p = rise 6 p (p .pre .0)
+abbrev opened : tie.Start → Rung checks 9
+unfolding unsewChecks mapChecks
+opened p = rise 9 p (p .pre .0)
 
 -- the function's entry, from where check 11 is tested
 abbrev start : tie.After-is-free → tie.Start
 start c = c .before .before .before .before .before .before
 
-abbrev sewn : tie.Else1 → Rung checks 7
-unfolding unsewChecks
+abbrev sewn : tie.Else1 → Rung checks 10
+unfolding unsewChecks mapChecks
 sewn c =
     up (opened (start (c .before)))
     (clear-passes _ 11 (sewn-test _ _ _ (c .before .is-free .ensures)) (c .if1 .left))
@@ -44,7 +44,7 @@ same-length : tie.Need-same-length
 same-length c = search needs
 
 returns : tie.Need-returns
-unfolding unsewChecks
+unfolding unsewChecks mapChecks
 returns c =
     operation-refused (unsew-operates _ _ _ _ _)
     (out (opened (start (c .before))) (clear-refuses _ 11 (sewn-test _ _ _ (c .before .is-free .ensures)) (c .if1 .taken)))
@@ -73,7 +73,7 @@ same-length-5 : tie.Need-same-length-5
 same-length-5 c = search needs
 
 returns-2 : tie.Need-returns-2
-unfolding unsewChecks
+unfolding unsewChecks mapChecks
 returns-2 c =
     let committed = c .before .before .before .before .before .before in
     let marked = committed .before .before .before .before .before .before .before .before .before in
@@ -94,7 +94,7 @@ same-length-9 : tie.Need-same-length-9
 same-length-9 c = search needs
 
 returns-3 : tie.Need-returns-3
-unfolding unsewChecks
+unfolding unsewChecks mapChecks
 returns-3 c =
     let committed = c .before .before .before .before .before .before in
     let marked = committed .before .before .before .before .before .before .before .before .before in

@@ -1,7 +1,7 @@
 -- `queries::orbit` meets its contract: its opening, the checks 6 and 7, and behind them `orbit_in`.
 use mathlib.Core.List.{List}
 use borrow.Author.Needs.{needs}
-use Rattle.model.specs.Checks.{Check, orbitChecks}
+use Rattle.model.specs.Checks.{Check, orbitChecks, mapChecks}
 use Rattle.answers.proofs.Ladder.{Rung, up, out, all-passed}
 use Rattle.answers.proofs.Verdicts.{passes, refuses, marks-test, dart-test}
 use Rattle.answers.proofs.Settled.{Opening, opened, handed-on}
@@ -16,24 +16,24 @@ use Rattle.queries.proofs.orbits.orbit.Tie as tie
 abbrev checks : tie.Start → List Check
 checks p = orbitChecks (p .args .n) (p .args .table .now) (p .args .marks .now) (p .args .mask) (p .args .d)
 
-abbrev opening : tie.After-struct-known → Opening checks 4
-unfolding orbitChecks
+abbrev opening : tie.After-struct-known → Opening checks 7
+unfolding orbitChecks mapChecks
 opening c = record {
   entry = c .before .before .before .before;
   answer = _;
   settles = opened-marks _ _ _ _ (marks-test _ _) (c .before .opening .ensures);
 }
 
-abbrev map : tie.Else1 → Rung checks 4
-unfolding orbitChecks
+abbrev map : tie.Else1 → Rung checks 7
+unfolding orbitChecks mapChecks
 map c = opened (opening (c .before)) (c .if1 .left)
 
-abbrev mask : tie.Else2 → Rung checks 5
-unfolding orbitChecks
+abbrev mask : tie.Else2 → Rung checks 8
+unfolding orbitChecks mapChecks
 mask c = up (map (c .before .before)) (passes _ 6 (c .before .mask-fits .ensures) (c .if2 .left))
 
-abbrev dart : tie.Else3 → Rung checks 6
-unfolding orbitChecks
+abbrev dart : tie.Else3 → Rung checks 9
+unfolding orbitChecks mapChecks
 dart c = up (mask (c .before .before)) (passes _ 7 (dart-test _ _ (c .before .live .ensures)) (c .if3 .left))
 
 -- ---- the refusals, and what the callees ask
@@ -42,15 +42,15 @@ opening-requires : tie.Need-opening-requires
 opening-requires c κs = search needs
 
 returns : tie.Need-returns
-unfolding orbitChecks
+unfolding orbitChecks mapChecks
 returns c = handed-on (opening (c .before)) (c .if1 .taken) (orbit-refused _ _ _ _ _)
 
 mask-fits-requires : tie.Need-mask-fits-requires
-unfolding orbitChecks
+unfolding orbitChecks mapChecks
 mask-fits-requires c κs = let p = map c .passed in search
 
 returns-2 : tie.Need-returns-2
-unfolding orbitChecks
+unfolding orbitChecks mapChecks
 returns-2 c =
     orbit-refused _ _ _ _ _ (out (map (c .before .before)) (refuses _ 6 (c .before .mask-fits .ensures) (c .if2 .taken)))
 
@@ -58,7 +58,7 @@ live-requires : tie.Need-live-requires
 live-requires c κs = search needs
 
 returns-3 : tie.Need-returns-3
-unfolding orbitChecks
+unfolding orbitChecks mapChecks
 returns-3 c =
     orbit-refused _ _ _ _ _
     (out (mask (c .before .before)) (refuses _ 7 (dart-test _ _ (c .before .live .ensures)) (c .if3 .taken)))
@@ -69,7 +69,7 @@ slice-aggregate-orbit-in : tie.Need-slice-aggregate-orbit-in
 slice-aggregate-orbit-in c = search needs
 
 orbit-in-requires : tie.Need-orbit-in-requires
-unfolding orbitChecks
+unfolding orbitChecks mapChecks
 orbit-in-requires c κs =
     let small = c .before .before in
     let p = dart (small .before) .passed in
@@ -85,7 +85,7 @@ slice-aggregate-orbit-in-2 : tie.Need-slice-aggregate-orbit-in-2
 slice-aggregate-orbit-in-2 c = search needs
 
 orbit-in-requires-2 : tie.Need-orbit-in-requires-2
-unfolding orbitChecks
+unfolding orbitChecks mapChecks
 orbit-in-requires-2 c κs =
     let p = dart (c .before .before .before) .passed in
     (all-passed _ p, room-given _ (search))

@@ -1,22 +1,22 @@
 -- `queries::orbits::orbit_in` meets its contract, by `reach::orbit`.
 use borrow.Author.Needs.{needs}
-use Rattle.model.specs.Checks.{orbitChecks}
+use Rattle.model.specs.Checks.{orbitChecks, mapChecks}
 use Rattle.answers.proofs.Ladder.{passed-all}
-use Rattle.answers.proofs.Given.{flood-given}
+use Rattle.answers.proofs.Given.{rules-given, flood-given}
 use Rattle.queries.proofs.Masks.{mask-bound}
 use Rattle.queries.proofs.Ends.{orbit-accepted}
 use Rattle.queries.proofs.orbits.orbit_in.Statement.{statement}
 use Rattle.queries.proofs.orbits.orbit_in.Tie as tie
 
 orbit-requires : tie.Need-orbit-requires
-unfolding orbitChecks
+unfolding orbitChecks mapChecks
 orbit-requires c κs =
     let given = c .before .before .before .before .before .pre in
     let p = passed-all _ (given .0) in
-    (flood-given _ _ _ _ _ (search) (search) (search) (search) (search) (given .1), mask-bound _ _ (search))
+    (flood-given _ _ _ _ _ (search) (search) (search) (rules-given _ _ (p .1 .1 .1)) (search) (given .1), mask-bound _ _ (search))
 
 orbit-place-requires : tie.Need-orbit-place-requires
-unfolding orbitChecks
+unfolding orbitChecks mapChecks
 orbit-place-requires c κs =
     let p = passed-all _ (c .before .before .before .before .before .before .before .before .before .before .pre .0) in search
 

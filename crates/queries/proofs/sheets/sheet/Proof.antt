@@ -1,7 +1,7 @@
 -- `queries::sheet` meets its contract: its opening, and behind it `sheet_in`.
 use mathlib.Core.List.{List}
 use borrow.Author.Needs.{needs}
-use Rattle.model.specs.Checks.{Check, sheetChecks}
+use Rattle.model.specs.Checks.{Check, sheetChecks, mapChecks}
 use Rattle.answers.proofs.Ladder.{Rung, all-passed}
 use Rattle.answers.proofs.Verdicts.{marks-test}
 use Rattle.answers.proofs.Settled.{Opening, opened, handed-on}
@@ -14,23 +14,23 @@ use Rattle.queries.proofs.sheets.sheet.Tie as tie
 abbrev checks : tie.Start → List Check
 checks p = sheetChecks (p .args .n) (p .args .table .now) (p .args .marks .now) (p .args .d)
 
-abbrev opening : tie.After-struct-known → Opening checks 6
-unfolding sheetChecks
+abbrev opening : tie.After-struct-known → Opening checks 9
+unfolding sheetChecks mapChecks
 opening c = record {
   entry = c .before .before .before .before;
   answer = _;
   settles = opened-sheet _ _ _ _ (marks-test _ _) _ (c .before .opening-layer .ensures);
 }
 
-abbrev block : tie.Else1 → Rung checks 6
-unfolding sheetChecks
+abbrev block : tie.Else1 → Rung checks 9
+unfolding sheetChecks mapChecks
 block c = opened (opening (c .before)) (c .if1 .left)
 
 opening-layer-requires : tie.Need-opening-layer-requires
 opening-layer-requires c κs = search needs
 
 returns : tie.Need-returns
-unfolding sheetChecks
+unfolding sheetChecks mapChecks
 returns c = handed-on (opening (c .before)) (c .if1 .taken) (sheet-refused _ _ _ _)
 
 -- ---- behind the checks
@@ -39,7 +39,7 @@ slice-aggregate-sheet-in : tie.Need-slice-aggregate-sheet-in
 slice-aggregate-sheet-in c = search needs
 
 sheet-in-requires : tie.Need-sheet-in-requires
-unfolding sheetChecks
+unfolding sheetChecks mapChecks
 sheet-in-requires c κs =
     let small = c .before .before in
     let p = block (small .before) .passed in
@@ -55,7 +55,7 @@ slice-aggregate-sheet-in-2 : tie.Need-slice-aggregate-sheet-in-2
 slice-aggregate-sheet-in-2 c = search needs
 
 sheet-in-requires-2 : tie.Need-sheet-in-requires-2
-unfolding sheetChecks
+unfolding sheetChecks mapChecks
 sheet-in-requires-2 c κs =
     let p = block (c .before .before .before) .passed in
     (all-passed _ p, room-given _ (search))

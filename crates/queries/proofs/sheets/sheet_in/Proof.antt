@@ -1,18 +1,18 @@
 -- `queries::sheets::sheet_in` meets its contract, by `reach::sheet`.
 use borrow.Author.Needs.{needs}
-use Rattle.model.specs.Checks.{sheetChecks}
+use Rattle.model.specs.Checks.{sheetChecks, mapChecks}
 use Rattle.answers.proofs.Ladder.{passed-all}
-use Rattle.answers.proofs.Given.{flood-given}
+use Rattle.answers.proofs.Given.{rules-given, flood-given}
 use Rattle.queries.proofs.Ends.{sheet-accepted}
 use Rattle.queries.proofs.sheets.sheet_in.Statement.{statement}
 use Rattle.queries.proofs.sheets.sheet_in.Tie as tie
 
 sheet-requires : tie.Need-sheet-requires
-unfolding sheetChecks
+unfolding sheetChecks mapChecks
 sheet-requires c κs =
     let given = c .before .before .before .before .before .pre in
     let p = passed-all _ (given .0) in
-    flood-given _ _ _ _ _ (search) (search) (search) (search) (search) (given .1)
+    flood-given _ _ _ _ _ (search) (search) (search) (rules-given _ _ (p .1 .1 .1)) (search) (given .1)
 
 same-length : tie.Need-same-length
 same-length c = search needs
