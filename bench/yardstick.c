@@ -1,5 +1,5 @@
-/* yardstick.c - the calls of 01-scope.md and the requests of 02 that have landed (R-4), in C99,
- * tuned: what a careful engineer gets without proofs.
+/* yardstick.c - the calls of 01-scope.md and the requests of 02 that have landed (R-3, R-4), in
+ * C99, tuned: what a careful engineer gets without proofs.
  *
  * Every call validates its whole input in one pass over the table and takes
  * time linear in slots plus entries written. Nothing is kept between calls but the lent buffers;
@@ -117,7 +117,7 @@ static int journal_fits(const uint32_t *journal, size_t len)
     return 2 <= journal[0] && journal[0] <= journal[1] && journal[1] <= len;
 }
 
-/* ---------------------------------------------------------------- map check (5) */
+/* ---------------------------------------------------------------- map check (5, 24 to 26) */
 
 /* Whether the links of slot d are in range; for n = 2, link 3 need not be. */
 INLINE int links_in_range(int n, const uint32_t *table, uint32_t slots, uint32_t d)
@@ -180,7 +180,7 @@ static int map_ok(uint32_t n, const uint32_t *table, uint32_t slots)
 }
 
 /* Whether going i, j, i, j from d returns to d; link i of d is in range. */
-INLINE int returns(const uint32_t *table, uint32_t slots, uint32_t d, int i, int j)
+INLINE int returns(const uint32_t *table, uint32_t slots, uint32_t d, uint32_t i, uint32_t j)
 {
     uint32_t x = ROW(table, ROW(table, d)[i])[j];
     if (x >= slots)
@@ -211,10 +211,23 @@ INLINE uint32_t first_fault(int n, const uint32_t *table, uint32_t slots)
     return d;
 }
 
-/* Only on the way to a refusal: the least slot that breaks a rule. */
+/* Only on the way to a refusal: the least slot that breaks a rule, the first rule that it breaks,
+ * and the least link that breaks it; a pair goes by its lower link. */
 COLD answer not_a_map(uint32_t n, const uint32_t *table, uint32_t slots)
 {
-    return refuse_at(5, n == 3 ? first_fault(3, table, slots) : first_fault(2, table, slots));
+    uint32_t d = n == 3 ? first_fault(3, table, slots) : first_fault(2, table, slots);
+    const uint32_t *r = ROW(table, d);
+    for (uint32_t i = 0; i < 4; i++)
+        if (r[i] >= slots || unused(table, r[i]))
+            return (answer){5, d, i};
+    for (uint32_t i = 0; i < 4; i++)
+        if (ROW(table, r[i])[i] != d)
+            return (answer){24, d, i};
+    for (uint32_t i = 0; i + 2 <= n; i++)
+        for (uint32_t j = i + 2; j <= n; j++)
+            if (!returns(table, slots, d, i, j))
+                return (answer){25, d, i};
+    return (answer){26, d, 3};
 }
 
 /* ---------------------------------------------------------------- cells */

@@ -17,8 +17,9 @@
  * pointer is null, also where its length is 0; each is aligned to its elements; no two of the
  * buffers of one call overlap, place and count included.
  *
- * A refusal has count 0, and place 0 but for PHL_NO_MAP and PHL_NO_BLOCK_MAP. It changes no
- * buffer, but that phl_remove and phl_split refused by 13, 14 or 15 leave the sheet's marks.
+ * A refusal has place 0 but for 5, 24, 25, 26 and 8, and count 0 but for 5, 24, 25 and 26. It
+ * changes no buffer, but that phl_remove and phl_split refused by 13, 14 or 15 leave the sheet's
+ * marks.
  *
  * A call takes less than 1 MiB of stack (bench/README.md has the measured figures). There is no
  * global state: calls on different buffers may run on different threads.
@@ -36,14 +37,23 @@ extern "C" {
 /* Each entry of an unused slot. */
 #define PHL_UNUSED UINT32_C(4294967295)
 
-/* The numbers, in the order of the checks: the first that applies is given. */
+/* The numbers, in the order of the checks: the first that applies is given.
+ *
+ * 5, 24, 25 and 26 say that the table is not a map. Place is the least slot that breaks a rule, and
+ * the number is of the first rule that this slot breaks; count is the index of the least link that
+ * breaks it. A map that only these calls write never gives them. */
 enum phl_number {
     PHL_ACCEPTED = 0,
     PHL_WRONG_DIMENSION = 1,     /* n is not 2 or 3 */
     PHL_WRONG_TABLE_LENGTH = 2,  /* table_len is no multiple of 4, or above 262,144 */
     PHL_WRONG_MARKS_LENGTH = 3,  /* marks_len differs from the number of slots */
     PHL_WRONG_JOURNAL = 4,       /* the journal's length or its first two words are out of rule */
-    PHL_NO_MAP = 5,              /* not a map; place: the least slot that breaks a rule */
+    PHL_LINK_NOT_LIVE = 5,       /* a link leads to no live slot; so does PHL_UNUSED in a slot that
+                                    is half used */
+    PHL_LINK_NOT_RETURNED = 24,  /* link i leads to a dart whose link i leads elsewhere */
+    PHL_PAIR_NOT_RETURNING = 25, /* i, j, i, j with i + 2 <= j <= n leads elsewhere, or meets a slot
+                                    that is not live; count: i */
+    PHL_LINK_3_NOT_FREE = 26,    /* n is 2, and link 3 leaves its dart; count: 3 */
     PHL_OUT_OF_RANGE = 6,        /* i above n, or mask above 2^(n+1) - 1 */
     PHL_NOT_LIVE = 7,            /* d or e is not a live slot */
     PHL_NO_BLOCK_MAP = 8,        /* not a block map; place: the least slot in a wrong cell */
@@ -59,62 +69,62 @@ enum phl_number {
 };
 
 /* Whether the table is a map. Count: 1 for a map, 2 for a block map: each cell is a quad (n = 2) or
- * a hexahedron (n = 3), and no side of it is sewn onto itself. Numbers: 1 2 5. */
+ * a hexahedron (n = 3), and no side of it is sewn onto itself. Numbers: 1 2 5 24 25 26. */
 uint32_t phl_check(uint32_t n, const uint32_t *table, size_t table_len,
                    uint32_t *place, uint32_t *count);
 
 /* What is reached from d by the links whose bit the mask has. Marks: 1 reached, 0 otherwise.
  * Count: darts reached. Place: 1 + the missing index if the mask has exactly n ones, else 0.
- * Numbers: 1 2 3 5 6 7. */
+ * Numbers: 1 2 3 5 24 25 26 6 7. */
 uint32_t phl_orbit(uint32_t n, const uint32_t *table, size_t table_len,
                    uint8_t *marks, size_t marks_len, uint32_t mask, uint32_t d,
                    uint32_t *place, uint32_t *count);
 
 /* The sheet of d, and the cells that it goes through. Marks: 1 in the sheet, 2 at the other darts
- * of these cells, 0 elsewhere. Count: size of the sheet. Numbers: 1 2 3 5 7 8. */
+ * of these cells, 0 elsewhere. Count: size of the sheet. Numbers: 1 2 3 5 24 25 26 7 8. */
 uint32_t phl_sheet(uint32_t n, const uint32_t *table, size_t table_len,
                    uint8_t *marks, size_t marks_len, uint32_t d,
                    uint32_t *place, uint32_t *count);
 
 /* Adds one free cell in the lowest unused slots. Place: its first slot. Count: 8 or 48.
- * Numbers: 1 2 4 5 14 15. */
+ * Numbers: 1 2 4 5 24 25 26 14 15. */
 uint32_t phl_add(uint32_t n, uint32_t *table, size_t table_len,
                  uint32_t *journal, size_t journal_len,
                  uint32_t *place, uint32_t *count);
 
 /* Sews the side of d to the side of e by link i. Count: entries changed.
- * Numbers: 1 2 4 5 6 7 9 10 12 15. */
+ * Numbers: 1 2 4 5 24 25 26 6 7 9 10 12 15. */
 uint32_t phl_sew(uint32_t n, uint32_t *table, size_t table_len,
                  uint32_t *journal, size_t journal_len, uint32_t i, uint32_t d, uint32_t e,
                  uint32_t *place, uint32_t *count);
 
 /* Makes each dart of d's side and its partner i-free. Count: entries changed.
- * Numbers: 1 2 4 5 6 7 11 15. */
+ * Numbers: 1 2 4 5 24 25 26 6 7 11 15. */
 uint32_t phl_unsew(uint32_t n, uint32_t *table, size_t table_len,
                    uint32_t *journal, size_t journal_len, uint32_t i, uint32_t d,
                    uint32_t *place, uint32_t *count);
 
 /* Removes the layer of cells that the sheet of d goes through, and links what lay on either side
  * of it. Marks: as phl_sheet gives them before the change. Count: darts removed.
- * Numbers: 1 2 3 4 5 7 8 15. */
+ * Numbers: 1 2 3 4 5 24 25 26 7 8 15. */
 uint32_t phl_remove(uint32_t n, uint32_t *table, size_t table_len,
                     uint8_t *marks, size_t marks_len, uint32_t *journal, size_t journal_len,
                     uint32_t d, uint32_t *place, uint32_t *count);
 
 /* Splits each cell of the layer of d in two. Marks: as phl_sheet gives them before the change.
- * Place: the first new slot. Count: darts added. Numbers: 1 2 3 4 5 7 8 13 14 15. */
+ * Place: the first new slot. Count: darts added. Numbers: 1 2 3 4 5 24 25 26 7 8 13 14 15. */
 uint32_t phl_split(uint32_t n, uint32_t *table, size_t table_len,
                    uint8_t *marks, size_t marks_len, uint32_t *journal, size_t journal_len,
                    uint32_t d, uint32_t *place, uint32_t *count);
 
 /* Puts back the old values of the record before the cursor. Count: entries changed.
- * Numbers: 1 2 4 5 16 17. */
+ * Numbers: 1 2 4 5 24 25 26 16 17. */
 uint32_t phl_undo(uint32_t n, uint32_t *table, size_t table_len,
                   uint32_t *journal, size_t journal_len,
                   uint32_t *place, uint32_t *count);
 
 /* Puts back the new values of the record at the cursor. Count: entries changed.
- * Numbers: 1 2 4 5 16 17. */
+ * Numbers: 1 2 4 5 24 25 26 16 17. */
 uint32_t phl_redo(uint32_t n, uint32_t *table, size_t table_len,
                   uint32_t *journal, size_t journal_len,
                   uint32_t *place, uint32_t *count);

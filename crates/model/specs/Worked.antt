@@ -1,10 +1,12 @@
 -- The small maps that document 01 has worked, 1 to 14, and some of 02's requests: each fact of them, as one table with one
 -- statement.
 -- The lengths of case 14, too long to compute with, follow from the check.
-use Prim.Native.Nat.{ℕ}
+use Prim.Native.Nat.{ℕ, _+_, _*_}
 use mathlib.Core.Path.{_≡_, refl}
 use mathlib.Core.List.{List, [], _∷_, _++_}
-use lib.ListN.{length, replicate}
+use lib.ListN.{length, set, replicate}
+use Rattle.model.specs.Table.{unused}
+use Rattle.model.specs.Add.{addTable}
 use Rattle.model.specs.Checks.{pass, refuse, tableOk, must}
 use Rattle.model.specs.Runs.{Call, doCall, keeping}
 use Rattle.model.specs.Everything.{everything}
@@ -31,6 +33,17 @@ bent = Call.add ∷ Call.sew 2 5 2 ∷ []
 -- Q with link 0 between 0 and 1 undone
 unlinked : List Call
 unlinked = Call.add ∷ Call.unsew 0 0 ∷ []
+
+-- R-3: a quad, and a hexahedron, that fill their table
+quadTable : List ℕ
+quadTable = addTable 2 (replicate 32 unused)
+
+hexahedronTable : List ℕ
+hexahedronTable = addTable 3 (replicate 192 unused)
+
+-- R-3: d.i leads to e
+damaged : ℕ → ℕ → ℕ → List ℕ → List ℕ
+damaged d i e t = set t (4 * d + i) e
 
 -- R-4: a quad whose edge of 5 and 7 is sewn onto itself
 foldedEdge : List ℕ
@@ -79,6 +92,14 @@ cases =
     ∷ row 1401 2 8 2 [] Call.undo (gives 16 0 0 ∷ [])
     ∷ row 1402 2 24 600 three (Call.orbit 6 5) (gives 0 1 4 ∷ [])
     ∷ row 1403 2 0 2 [] Call.check (gives 0 0 2 ∷ [])
+    ∷ rowOn 10301 2 (damaged 7 3 8 quadTable) 200 Call.check (gives 5 7 3 ∷ [])
+    ∷ rowOn 10302 2 (damaged 5 0 5 quadTable) 200 Call.check (gives 24 7 0 ∷ [])
+    ∷ rowOn 10303 2 (damaged 1 2 unused quadTable) 200 Call.check (gives 25 0 0 ∷ [])
+    ∷ rowOn 10304 2 (damaged 4 3 6 (damaged 6 3 4 quadTable)) 200 Call.check (gives 26 4 3 ∷ [])
+    ∷ rowOn 10305 2 (damaged 4 3 6 (damaged 6 3 4 quadTable)) 200 (Call.unsew 1 0) (gives 26 4 3 ∷ changes 0 ∷ cursorIs 2 ∷ endIs 2 ∷ [])
+    ∷ rowOn 10306 3 (damaged 31 1 48 hexahedronTable) 200 Call.check (gives 5 31 1 ∷ [])
+    ∷ rowOn 10307 3 (damaged 31 1 31 hexahedronTable) 200 Call.check (gives 24 47 1 ∷ [])
+    ∷ rowOn 10308 3 (damaged 47 3 0 hexahedronTable) 200 Call.check (gives 25 31 1 ∷ [])
     ∷ row 10401 2 8 200 bent Call.check (gives 0 0 2 ∷ [])
     ∷ rowOn 10402 2 foldedEdge 200 Call.check (gives 0 0 1 ∷ [])
     ∷ rowOn 10403 2 foldedEdge 200 (Call.sheet 5) (gives 8 0 0 ∷ marksAre (replicate 8 0) ∷ [])
@@ -87,7 +108,7 @@ cases =
     ∷ []
 
 pub all-hold : failing cases ≡ []
-unfolding everything liveCount cases row rowOn quad three halves bent unlinked foldedEdge foldedFace failing holds holdsFrom seesAll sees begin beginOn doAll doCall keeping equal
+unfolding everything liveCount cases row rowOn quad three halves bent unlinked quadTable hexahedronTable damaged foldedEdge foldedFace failing holds holdsFrom seesAll sees begin beginOn doAll doCall keeping equal
 all-hold = refl
 
 -- 14: "262,144 entries pass check 2, 262,148 don't"

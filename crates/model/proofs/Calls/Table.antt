@@ -109,7 +109,7 @@ module _ (n : ℕ) (o : Outcome) where
       → Meets (dimOk n ∷ others) (mapRows n t ++ rs) (mapChecks n t ++ cs)
   unfolding mapChecks ruleNumber
   then-map others w =
-      (λ h. rule-fails n t links-live (dim-before _ h) (earlier links-live (λ l. absurd (omega arith)) (λ l. absurd (omega arith))
+      (λ h. rule-fails n t links-live (dim-before others h) (earlier links-live (λ l. absurd (omega arith)) (λ l. absurd (omega arith))
       (λ l. absurd (omega arith))))
       next-passed (λ h. rule-fails n t links-return (dim-before _ h) (earlier links-return (λ _. last-passed before-1 _ h .1)
       (λ l. absurd (omega arith)) (λ l. absurd (omega arith))))
