@@ -4,12 +4,12 @@
 use Prim.Native.Nat.{ℕ, _≤_, _<_}
 use mathlib.Core.Path.{_≡_, refl, sym, ap, ap₂, _∙_}
 use mathlib.Core.Logic.{_↔_, ⊎-elim}
-use mathlib.Core.Bool.{Bool, true, false, _||_}
-use mathlib.Core.List.{List, [], _∷_, _++_}
+use mathlib.Core.Bool.{true, false}
+use mathlib.Core.List.{List, [], _++_}
 use native.Mathlib.Omega.{arith}
 use lib.ListN.{length, getD, take}
 use Rattle.model.specs.Lists.{indexOf}
-use Rattle.model.specs.Map.{MapRule, links-live, links-return, pairs-commute, stays-flat, keepsRule, breakingLink}
+use Rattle.model.specs.Map.{MapRule, links-live, links-return, pairs-commute, stays-flat, keepsRule}
 use Rattle.model.specs.Map.{leastBreaking, isMap}
 use Rattle.model.specs.Checks.{Check, pass, refuse, mustAt, andThen, inOrder, dimOk, ruleNumber, ruleOk, mapChecks}
 use Rattle.model.specs.Checks.{checkChecks, orbitChecks, sheetChecks, addChecks, sidesChecks, unsewChecks}

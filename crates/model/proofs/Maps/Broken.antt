@@ -1,90 +1,56 @@
 -- Which rule a table that is no map breaks.
--- Main theorems: `breaks-exactly` (a test and its property); `broken-first` and `of-broken` (the first rule broken, by the tests);
--- `some-broken` (a table that is no map has one); `broken-once` (it has one only).
-use Prim.Native.Nat.{ℕ, suc, _≤_, _<_}
+-- Main theorems: `broken-first` and `of-broken` (the first rule broken, by the tests); `some-broken` (a table that is no map has
+-- one); `broken-once` (it has one only).
+use Prim.Native.Nat.{ℕ, _≤_, _<_}
 use mathlib.Core.Path.{_≡_, refl, sym, ap, _∙_, subst}
-use mathlib.Core.Logic.{_↔_, Iff·rfl}
-use mathlib.Core.Bool.{true, false, not, _&&_}
+use mathlib.Core.Bool.{true, false, not}
 use mathlib.Core.List.{List}
 use native.Mathlib.Omega.{arith}
 use lib.Dec.{eqb}
-use borrow.Author.Tests.{eqb-true, eq-eqb, eqb-false, ne-eqb, not-true, not-false}
+use borrow.Author.Tests.{eqb-false, ne-eqb, not-true, not-false}
 use Rattle.model.specs.Lists.{least}
-use Rattle.model.specs.Table.{slots, link, live, walk}
-use Rattle.model.specs.Map.{MapRule, links-live, links-return, pairs-commute, stays-flat, returns, crossed, keepsAt, keepsRule}
+use Rattle.model.specs.Table.{slots, link}
+use Rattle.model.specs.Map.{MapRule, links-live, links-return, pairs-commute, stays-flat, keepsAt, keepsRule}
 use Rattle.model.specs.Map.{breakingLink, keepsRules, breaksRule, leastBreaking, isMap}
 use Rattle.model.specs.Checks.{ruleNumber}
-use Rattle.model.specs.Meaning.Maps.{Rule, Breaks, BreaksFirst, LeastFailing}
-use Rattle.model.proofs.Lists.Scan.{and-l, and-r, and-i, test, clash, if-eq, if-lt, below-at, below-of, below-not}
+use Rattle.model.specs.Meaning.Maps.{Breaks, BreaksFirst}
+use Rattle.model.proofs.Lists.Scan.{test, clash, if-lt}
 use Rattle.model.proofs.Lists.Scan.{First, least-is, least-by}
 use Rattle.model.proofs.Maps.Failing.{failing, fails-of}
-use Rattle.model.proofs.Maps.Rules.{crossed-far, crossed-near, keep-all, of-rule}
+use Rattle.model.proofs.Maps.Rules.{breaks-exactly, keeps-at, keeps-rule, kept-by, keep-all}
 use Rattle.model.proofs.Maps.Exact.{least-breaking}
 
 -- ---- one rule at one slot
 
-module _ (n : ℕ) (t : List ℕ) (d : ℕ) where
-  pub breaks-exactly : (r : MapRule) (i : ℕ) → (keepsAt n t d r i ≡ false) ↔ Breaks n t d r i
-  unfolding keepsAt returns walk
-  breaks-exactly links-live i = Iff·rfl
-  breaks-exactly links-return i = (eqb-false _ _, ne-eqb _ _)
-  breaks-exactly pairs-commute i = (
-    λ h.
-        let (j, l, f) = below-not (crossed t d i) (suc n) h in
-        if-lt j (suc (suc i)) (λ u. absurd (clash (crossed-near n t d i j (omega arith)) f)) (λ u.
-        (j, omega arith, omega arith, eqb-false _ _ (sym (crossed-far n t d i j (omega arith)) ∙ f))),
-    λ w.
-        let (j, u, l, e) = w in
-        test _ (λ h. absurd (clash (below-at (crossed t d i) (suc n) h j (omega arith)) (crossed-far n t d i j u ∙ ne-eqb _ _ e)))
-        (λ h. h),
-  )
-  breaks-exactly stays-flat i = (
-    λ h. test (eqb n 2 && eqb i 3)
-        (λ e. (eqb-true n 2 (and-l (eqb n 2) _ e), eqb-true i 3 (and-r (eqb n 2) _ e), eqb-false _ _ (rw (e, keepsAt) at h)))
-        (λ e. absurd (clash (rw (e, keepsAt)) h)),
-    λ w. let (flat, third, e) = w in rw (and-i (eq-eqb n 2 flat) (eq-eqb i 3 third), keepsAt) (ne-eqb _ _ e),
-  )
+module _ (n : ℕ) (t : List ℕ) (d : ℕ) (r : MapRule) where
+  -- the least link that breaks the rule
+  abbrev i : ℕ
+  i = breakingLink n t d r
 
-  module _ (r : MapRule) where
-    keeps-at : (i : ℕ) → (Breaks n t d r i → ⊥) → keepsAt n t d r i ≡ true
-    keeps-at i h = test (keepsAt n t d r i) (λ e. e) (λ e. absurd (h (breaks-exactly r i .0 e)))
+  first : First (λ i. not (keepsAt n t d r i)) 0 4 i
+  unfolding breakingLink
+  first = least-is (λ i. not (keepsAt n t d r i)) 4
 
-    pub keeps-rule : ((i : ℕ) → i < 4 → Breaks n t d r i → ⊥) → keepsRule n t d r ≡ true
-    unfolding keepsRule
-    keeps-rule h = below-of (keepsAt n t d r) 4 (λ i l. keeps-at i (h i l))
+  pub link-lower : (k : ℕ) → k < i → Breaks n t d r k → ⊥
+  link-lower k l b = clash (not-false _ (first .before k (omega arith) l)) (breaks-exactly n t d r k .1 b)
 
-    pub kept-by : keepsRule n t d r ≡ true → (i : ℕ) → i < 4 → Breaks n t d r i → ⊥
-    unfolding keepsRule
-    kept-by h i l b = clash (below-at (keepsAt n t d r) 4 h i l) (breaks-exactly r i .1 b)
+  pub link-below : keepsRule n t d r ≡ false → i < 4
+  link-below h = if-lt i 4 (λ l. l) (λ u. absurd (clash (keeps-rule n t d r (λ k l. link-lower k (omega arith))) h))
 
-    -- the least link that breaks the rule
-    abbrev i : ℕ
-    i = breakingLink n t d r
+  pub link-found : i < 4 → keepsRule n t d r ≡ false
+  link-found l = test (keepsRule n t d r) (λ h. absurd (kept-by n t d r h i l (breaks-exactly n t d r i .0 (not-true _ (first .passes l))))) (λ h. h)
 
-    first : First (λ i. not (keepsAt n t d r i)) 0 4 i
-    unfolding breakingLink
-    first = least-is (λ i. not (keepsAt n t d r i)) 4
+  pub link-breaks : keepsRule n t d r ≡ false → Breaks n t d r i
+  link-breaks h = breaks-exactly n t d r i .0 (not-true _ (first .passes (link-below h)))
 
-    pub link-lower : (k : ℕ) → k < i → Breaks n t d r k → ⊥
-    link-lower k l b = clash (not-false _ (first .before k (omega arith) l)) (breaks-exactly r k .1 b)
-
-    pub link-below : keepsRule n t d r ≡ false → i < 4
-    link-below h = if-lt i 4 (λ l. l) (λ u. absurd (clash (keeps-rule (λ k l. link-lower k (omega arith))) h))
-
-    pub link-found : i < 4 → keepsRule n t d r ≡ false
-    link-found l = test (keepsRule n t d r) (λ h. absurd (kept-by h i l (breaks-exactly r i .0 (not-true _ (first .passes l))))) (λ h. h)
-
-    pub link-breaks : keepsRule n t d r ≡ false → Breaks n t d r i
-    link-breaks h = breaks-exactly r i .0 (not-true _ (first .passes (link-below h)))
-
-    pub link-is : (k : ℕ) → k < 4 → Breaks n t d r k → ((x : ℕ) → x < k → Breaks n t d r x → ⊥) → i ≡ k
-    unfolding breakingLink
-    link-is k l b lower = least-by (λ i. not (keepsAt n t d r i)) 4 k (record {
-      low = omega arith;
-      high = omega arith;
-      passes = λ _. ap not (breaks-exactly r k .1 b);
-      before = λ x _ u. ap not (keeps-at x (lower x u));
-    })
+  pub link-is : (k : ℕ) → k < 4 → Breaks n t d r k → ((x : ℕ) → x < k → Breaks n t d r x → ⊥) → i ≡ k
+  unfolding breakingLink
+  link-is k l b lower = least-by (λ i. not (keepsAt n t d r i)) 4 k (record {
+    low = omega arith;
+    high = omega arith;
+    passes = λ _. ap not (breaks-exactly n t d r k .1 b);
+    before = λ x _ u. ap not (keeps-at n t d r x (lower x u));
+  })
 
 -- ---- the order of the rules
 

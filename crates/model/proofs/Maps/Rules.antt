@@ -1,20 +1,20 @@
 -- The map test says what a map is; live slots; and a change of the links of one index that keeps a map.
--- Main theorems: `rule-of` and `of-rule`, `map-of` and `of-map`; `live-in`; `link-retable`; `relink-table`.
+-- Main theorems: `breaks-exactly` (the test of a rule at a link), `rule-of` and `of-rule`, `map-of` and `of-map`; `live-in`; `link-retable`; `relink-table`.
 use Prim.Native.Nat.{ℕ, zero, suc, _+_, _*_, _/_, _%_, _≤_, _<_}
 use mathlib.Core.Path.{_≡_, refl, sym, ap, ap₂, _∙_}
-use mathlib.Core.Logic.{inl, inr, _≢_}
+use mathlib.Core.Logic.{inl, inr, _≢_, _↔_, Iff·rfl}
 use mathlib.Core.Bool.{Bool, true, false, _&&_}
 use mathlib.Core.List.{List}
 use native.Mathlib.Omega.{arith}
 use lib.ListN.{length, List·getD-eq-default}
 use lib.Dec.{eqb}
-use borrow.Author.Tests.{eqb-true, eq-eqb, ne-eqb, le-leb, lt-leb, not-false}
+use borrow.Author.Tests.{eqb-true, eq-eqb, eqb-false, ne-eqb, le-leb, lt-leb, not-false}
 use Rattle.model.specs.Table.{unused, slots, link, walk, live, retable, relinkAt, relink}
 use Rattle.model.specs.Map.{MapRule, links-live, links-return, pairs-commute, stays-flat, returns, crossed, keepsAt}
 use Rattle.model.specs.Map.{keepsRule, keepsRules, breaksRule, leastBreaking, isMap}
-use Rattle.model.specs.Meaning.Maps.{Map, MapTable, Rule}
+use Rattle.model.specs.Meaning.Maps.{Map, MapTable, Rule, Breaks}
 use Rattle.model.specs.Meaning.Pairings.{Far}
-use Rattle.model.proofs.Lists.Scan.{and-l, and-r, and-i, test, if-eq, if-lt, clash, below-at, below-of}
+use Rattle.model.proofs.Lists.Scan.{and-l, and-r, and-i, test, if-eq, if-lt, clash, below-at, below-of, below-not}
 use Rattle.model.proofs.Lists.Scan.{length-tab, getD-tab}
 use Rattle.model.proofs.Maps.Failing.{failing, none-failing}
 
@@ -28,6 +28,39 @@ module _ (n : ℕ) (t : List ℕ) (d : ℕ) where
   pub crossed-near : (i j : ℕ) → j < i + 2 → crossed t d i j ≡ true
   unfolding crossed
   crossed-near i j h = rw (lt-leb _ _ h, crossed)
+
+  pub breaks-exactly : (r : MapRule) (i : ℕ) → (keepsAt n t d r i ≡ false) ↔ Breaks n t d r i
+  unfolding keepsAt returns walk
+  breaks-exactly links-live i = Iff·rfl
+  breaks-exactly links-return i = (eqb-false _ _, ne-eqb _ _)
+  breaks-exactly pairs-commute i = (
+    λ h.
+        let (j, l, f) = below-not (crossed t d i) (suc n) h in
+        if-lt j (suc (suc i)) (λ u. absurd (clash (crossed-near i j (omega arith)) f)) (λ u.
+        (j, omega arith, omega arith, eqb-false _ _ (sym (crossed-far i j (omega arith)) ∙ f))),
+    λ w.
+        let (j, u, l, e) = w in
+        test _ (λ h. absurd (clash (below-at (crossed t d i) (suc n) h j (omega arith)) (crossed-far i j u ∙ ne-eqb _ _ e)))
+        (λ h. h),
+  )
+  breaks-exactly stays-flat i = (
+    λ h. test (eqb n 2 && eqb i 3)
+        (λ e. (eqb-true n 2 (and-l (eqb n 2) _ e), eqb-true i 3 (and-r (eqb n 2) _ e), eqb-false _ _ (rw (e, keepsAt) at h)))
+        (λ e. absurd (clash (rw (e, keepsAt)) h)),
+    λ w. let (flat, third, e) = w in rw (and-i (eq-eqb n 2 flat) (eq-eqb i 3 third), keepsAt) (ne-eqb _ _ e),
+  )
+
+  module _ (r : MapRule) where
+    pub keeps-at : (i : ℕ) → (Breaks n t d r i → ⊥) → keepsAt n t d r i ≡ true
+    keeps-at i h = test (keepsAt n t d r i) (λ e. e) (λ e. absurd (h (breaks-exactly r i .0 e)))
+
+    pub keeps-rule : ((i : ℕ) → i < 4 → Breaks n t d r i → ⊥) → keepsRule n t d r ≡ true
+    unfolding keepsRule
+    keeps-rule h = below-of (keepsAt n t d r) 4 (λ i l. keeps-at i (h i l))
+
+    pub kept-by : keepsRule n t d r ≡ true → (i : ℕ) → i < 4 → Breaks n t d r i → ⊥
+    unfolding keepsRule
+    kept-by h i l b = clash (below-at (keepsAt n t d r) 4 h i l) (breaks-exactly r i .1 b)
 
   -- the four parts of the test
   abbrev liveLinks : Bool
@@ -46,7 +79,7 @@ module _ (n : ℕ) (t : List ℕ) (d : ℕ) where
   unfolding keepsRules
   keep-all h = and-i (and-i (and-i (h links-live) (h links-return)) (h pairs-commute)) (h stays-flat)
 
-  pub keep-each : keepsRules n t d ≡ true → (r : MapRule) → keepsRule n t d r ≡ true
+  keep-each : keepsRules n t d ≡ true → (r : MapRule) → keepsRule n t d r ≡ true
   unfolding keepsRules
   keep-each h = each
     where
@@ -63,36 +96,27 @@ module _ (n : ℕ) (t : List ℕ) (d : ℕ) where
       each stays-flat = and-r (liveLinks && returned && commuting) flat h
 
   pub rule-of : n ≤ 3 → keepsRules n t d ≡ true → Rule n t d
-  unfolding keepsAt keepsRule returns walk
   rule-of n3 h = record {
-    goes = λ i l. at links-live i l;
-    comes = λ i l. eqb-true _ _ (at links-return i l);
-    cross = λ i j u l.
-        eqb-true _ _ (sym (crossed-far i j u) ∙ below-at (crossed t d i) (suc n) (at pairs-commute i (omega arith)) j (omega arith));
-    plane = λ e. eqb-true _ _ (rw (eq-eqb n 2 e, keepsAt) at (at stays-flat 3 (omega arith)));
+    goes = λ i l. test (live t (link t i d)) (λ e. e) (λ e. absurd (kept links-live i l e));
+    comes = λ i l. equal (kept links-return i l);
+    cross = λ i j u l. equal (λ e. kept pairs-commute i (omega arith) (j, u, l, e));
+    plane = λ e. equal (λ k. kept stays-flat 3 (omega arith) (e, refl, k));
   }
     where
-      at : (r : MapRule) (i : ℕ) → i < 4 → keepsAt n t d r i ≡ true
-      at r i l = below-at (keepsAt n t d r) 4 (keep-each h r) i l
+      kept : (r : MapRule) (i : ℕ) → i < 4 → Breaks n t d r i → ⊥
+      kept r = kept-by r (keep-each h r)
+
+      equal : {x y : ℕ} → (x ≢ y → ⊥) → x ≡ y
+      equal {x} {y} k = if-eq x y (λ e. e) (λ e. absurd (k e))
 
   pub of-rule : Rule n t d → keepsRules n t d ≡ true
-  unfolding keepsAt keepsRule returns walk
-  of-rule q = keep-all (λ r. below-of (keepsAt n t d r) 4 (at r))
+  of-rule q = keep-all (λ r. keeps-rule r (unbroken r))
     where
-      pair : (i j : ℕ) → j < suc n → crossed t d i j ≡ true
-      pair i j l = if-lt j (i + 2) (crossed-near i j) (λ u. crossed-far i j u ∙ eq-eqb _ _ (q .cross i j u (omega arith)))
-
-      at : (r : MapRule) (i : ℕ) → i < 4 → keepsAt n t d r i ≡ true
-      at links-live i l = q .goes i l
-      at links-return i l = eq-eqb _ _ (q .comes i l)
-      at pairs-commute i l = below-of _ (suc n) (pair i)
-      at stays-flat i l =
-          test (eqb n 2 && eqb i 3) (λ e. rw (e, keepsAt) (eq-eqb _ _ (flat-link e))) (λ e. rw (e, keepsAt))
-        where
-          flat-link : (eqb n 2 && eqb i 3) ≡ true → link t i d ≡ d
-          flat-link e =
-              let is-3 : i ≡ 3 = eqb-true i 3 (and-r (eqb n 2) _ e) in
-              rw is-3 (q .plane (eqb-true n 2 (and-l (eqb n 2) _ e)))
+      unbroken : (r : MapRule) (i : ℕ) → i < 4 → Breaks n t d r i → ⊥
+      unbroken links-live i l b = clash (q .goes i l) b
+      unbroken links-return i l b = b (q .comes i l)
+      unbroken pairs-commute i l b = let (j, u, v, e) = b in e (q .cross i j u v)
+      unbroken stays-flat i l b = let (two, third, e) = b in e (rw third (q .plane two))
 
 module _ (n : ℕ) (t : List ℕ) where
   pub map-of : n ≤ 3 → isMap n t ≡ true → Map n t
