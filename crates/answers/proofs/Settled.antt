@@ -1,5 +1,5 @@
--- Answers that settle checks: `settles-refusal`, `settles-pass`, `settles-front` and `settles-behind` for a function that makes them,
--- `opened` and `handed-on` for a call that begins with such a function.
+-- Answers that settle checks: `settles-refusal`, `settles-pass`, `settles-front` and `settles-behind` for a function that makes
+-- them, `opened` and `handed-on` for a call that begins with such a function.
 use Prim.Native.Nat.{ℕ, suc}
 use mathlib.Core.Path.{_≡_, refl, sym, subst}
 use mathlib.Core.Logic.{_≢_}
@@ -44,6 +44,7 @@ module _ {S : Type 0} {checks : S → List Check} {k : ℕ} (o : Opening checks 
 
   -- it refuses, and the call hands it on
   pub handed-on : {t m j : List ℕ} {x : Outcome} → o .answer .number ≢ 0
-      → (inOrder (checks (o .entry)) ≡ refuse (o .answer .number) (o .answer .place) (o .answer .count) → outcome (o .answer) t m j ≡ x)
+      → (inOrder (checks (o .entry)) ≡ refuse (o .answer .number) (o .answer .place) (o .answer .count)
+      → outcome (o .answer) t m j ≡ x)
       → outcome (o .answer) t m j ≡ x
   handed-on h ends = ends (front-refusal (checks (o .entry)) k (o .settles .refuses h))

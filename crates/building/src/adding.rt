@@ -20,7 +20,7 @@ fn cell_size(n: u32) -> u32
     if n == 3 { 48 } else { 8 }
 }
 
-// add, where the checks 1 to 5 have passed, with a rank for each slot.
+// add, where the checks up to those of a map have passed, with a rank for each slot.
 fn add_in(n: u32, table: &mut [u32], journal: &mut [u32], rank: &mut [u32]) -> Answer
     requires { ⌜ inOrder (openedChecks n (now table) (now journal)) ≡ pass ⌝ }
     requires { ⌜ slots (now table) ≤ length (now rank) ⌝ }

@@ -13,7 +13,7 @@ ghost use Rattle.model.specs.Calls.{unsewCall};
 ghost use Rattle.answers.specs.Answers.{outcome};
 ghost use Rattle.building.specs.Opened.{sideChecks};
 
-// unsew, where the checks 1 to 7 have passed, with a mark and a word of the queue for each slot.
+// unsew, where the checks up to 7 have passed, with a mark and a word of the queue for each slot.
 fn unsew_with(
     n: u32,
     table: &mut [u32],

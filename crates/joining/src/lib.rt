@@ -14,7 +14,7 @@ ghost use Rattle.model.specs.Calls.{sewCall};
 ghost use Rattle.answers.specs.Answers.{outcome};
 ghost use Rattle.building.specs.Opened.{sideChecks};
 
-// sew, where the checks 1 to 7 have passed for d, with a mark, two partners and a word of the queue for each slot.
+// sew, where the checks up to 7 have passed for d, with a mark, two partners and a word of the queue for each slot.
 fn sew_with(
     n: u32,
     table: &mut [u32],

@@ -1,5 +1,5 @@
--- Numbers a call gives back: for each number the check that refuses by it, and for each call its checks,
--- which "run in the order of the numbers". 15 and 17 ask what a call would write or put back: they stand with the calls.
+-- Numbers a call gives back: for each number the check that refuses by it, and for each call its checks, which "run in the
+-- order of the numbers", 24 to 26 in 5's place. 15 and 17 ask what a call would write or put back: they stand with the calls.
 use Prim.Native.Nat.{ℕ, _+_, _*_, _%_, _^_}
 use mathlib.Core.Bool.{Bool, true, false, not, _&&_, _||_}
 use mathlib.Core.List.{List, [], _∷_, _++_}
@@ -56,8 +56,8 @@ unfoldable pub journalOk : List ℕ → Check
 journalOk j =
     must (leb 2 (length j) && leb (length j) 1048576 && leb 2 (cursor j) && leb (cursor j) (end j) && leb (end j) (length j)) 4
 
--- 5: "half-used slot or link to no live slot stays 5; a link that isn't returned; a distant pair that doesn't commute;
--- in 2D, a link 3 that leaves its dart .. 24, 25, 26 in that order" (02, R-3)
+-- the numbers of the rules (02, R-3): "link to no live slot stays 5; a link that isn't returned; a distant pair that doesn't
+-- commute; in 2D, a link 3 that leaves its dart .. 24, 25, 26 in that order"
 unfoldable pub ruleNumber : MapRule → ℕ
 ruleNumber links-live = 5
 ruleNumber links-return = 24

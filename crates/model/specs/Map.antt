@@ -17,10 +17,10 @@ crossed t d i j = elim (leb (i + 2) j) [ true ↦ returns t (i ∷ j ∷ i ∷ j
 
 -- the rules at a live slot, in their order
 pub data MapRule : Type 0 where
-  links-live : MapRule
-  links-return : MapRule
-  pairs-commute : MapRule
-  stays-flat : MapRule
+  links-live : MapRule  -- every link is a live slot
+  links-return : MapRule  -- d.i.i = d
+  pairs-commute : MapRule  -- going i, j, i, j returns
+  stays-flat : MapRule  -- for n = 2, d.3 = d
 
 -- link i of d keeps the rule; a pair goes by its lower index
 unfoldable pub keepsAt : ℕ → List ℕ → ℕ → MapRule → ℕ → Bool
@@ -36,7 +36,6 @@ keepsRule n t d r = allBelow 4 (keepsAt n t d r)
 unfoldable pub breakingLink : ℕ → List ℕ → ℕ → MapRule → ℕ
 breakingLink n t d r = least 4 (λ i. not (keepsAt n t d r i))
 
--- all rules
 unfoldable pub keepsRules : ℕ → List ℕ → ℕ → Bool
 keepsRules n t d =
     keepsRule n t d links-live && keepsRule n t d links-return && keepsRule n t d pairs-commute && keepsRule n t d stays-flat

@@ -96,7 +96,7 @@ cases =
     ∷ rowOn 10302 2 (damaged 5 0 5 quadTable) 200 Call.check (gives 24 7 0 ∷ [])
     ∷ rowOn 10303 2 (damaged 1 2 unused quadTable) 200 Call.check (gives 25 0 0 ∷ [])
     ∷ rowOn 10304 2 (damaged 4 3 6 (damaged 6 3 4 quadTable)) 200 Call.check (gives 26 4 3 ∷ [])
-    ∷ rowOn 10305 2 (damaged 4 3 6 (damaged 6 3 4 quadTable)) 200 (Call.unsew 1 0) (gives 26 4 3 ∷ changes 0 ∷ cursorIs 2 ∷ endIs 2 ∷ [])
+    ∷ rowOn 10305 2 (damaged 4 3 6 (damaged 6 3 4 quadTable)) 200 (Call.unsew 1 0) (gives 26 4 3 ∷ changes 0 ∷ cursorIs 2 ∷ [])
     ∷ rowOn 10306 3 (damaged 31 1 48 hexahedronTable) 200 Call.check (gives 5 31 1 ∷ [])
     ∷ rowOn 10307 3 (damaged 31 1 31 hexahedronTable) 200 Call.check (gives 24 47 1 ∷ [])
     ∷ rowOn 10308 3 (damaged 47 3 0 hexahedronTable) 200 Call.check (gives 25 31 1 ∷ [])

@@ -33,7 +33,8 @@ module _ (n : ℕ) (t : List ℕ) where
     orbit-accepted e place reached = rw (e, orbitCall, place, reached .0, reached .1)
 
   module _ (m : List ℕ) (d : ℕ) where
-    pub sheet-refused : {k p q : ℕ} → inOrder (sheetChecks n t m d) ≡ refuse k p q → outcome (refusal k p q) t m [] ≡ sheetCall n t m d
+    pub sheet-refused : {k p q : ℕ} → inOrder (sheetChecks n t m d) ≡ refuse k p q
+        → outcome (refusal k p q) t m [] ≡ sheetCall n t m d
     unfolding sheetCall refused
     sheet-refused e = rw (e, sheetCall)
 

@@ -12,7 +12,8 @@ use borrow.Author.Tests.{ne-eqb, not-true}
 use Rattle.model.specs.Lists.{indexOf}
 use Rattle.model.specs.Map.{MapRule, links-live, links-return, pairs-commute, stays-flat, breakingLink, leastBreaking, isMap}
 use Rattle.model.specs.Checks.{Check, pass, refuse, andThen, must, mustAt, inOrder}
-use Rattle.model.specs.Checks.{dimOk, tableOk, marksOk, journalOk, ruleNumber, ruleOk, mapChecks, indexOk, maskOk, dartOk, blockOk, apartOk, freeOk}
+use Rattle.model.specs.Checks.{dimOk, tableOk, marksOk, journalOk, ruleNumber, ruleOk, mapChecks, indexOk, maskOk, dartOk}
+use Rattle.model.specs.Checks.{blockOk, apartOk, freeOk}
 use Rattle.model.specs.Checks.{sewnOk, pairingOk, crossingOk, addRoomOk, splitRoomOk, undoOk, redoOk}
 use Rattle.model.specs.Checks.{checkChecks, orbitChecks, sheetChecks, addChecks, sidesChecks, unsewChecks}
 use Rattle.model.specs.Checks.{layerChecks, splitChecks, stepChecks}
@@ -208,7 +209,8 @@ module _ {n : ℕ} {t j : List ℕ} where
 
   block-8 : Numbered n t j 8 (blockOk n t)
   unfolding blockOk refusalPlace refusalCount byRule member indexOf
-  block-8 = numbered (blockOk n t) 8 (λ q. omega arith) (mustAt-is _) (λ q. absurd (omega arith)) (λ r q. absurd (none-of 8 refl r q))
+  block-8 =
+      numbered (blockOk n t) 8 (λ q. omega arith) (mustAt-is _) (λ q. absurd (omega arith)) (λ r q. absurd (none-of 8 refl r q))
 
   rule-numbered : (r : MapRule) → Numbered n t j (ruleNumber r) (ruleOk n t r)
   rule-numbered r =

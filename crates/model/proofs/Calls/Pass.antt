@@ -18,7 +18,8 @@ use Rattle.model.specs.Add.{addSlots}
 use Rattle.model.specs.Sew.{side, isPaired}
 use Rattle.model.specs.Split.{crosses, splitSlots}
 use Rattle.model.specs.Checks.{pass, must, mustAt, inOrder}
-use Rattle.model.specs.Checks.{dimOk, tableOk, journalOk, ruleNumber, ruleOk, mapChecks, indexOk, dartOk, blockOk, apartOk, freeOk}
+use Rattle.model.specs.Checks.{dimOk, tableOk, journalOk, ruleNumber, ruleOk, mapChecks, indexOk, dartOk, blockOk}
+use Rattle.model.specs.Checks.{apartOk, freeOk}
 use Rattle.model.specs.Checks.{sewnOk, pairingOk, crossingOk, addRoomOk, splitRoomOk}
 use Rattle.model.specs.Checks.{addChecks, sidesChecks, sewChecks, unsewChecks, layerChecks, splitChecks}
 use Rattle.model.specs.Runs.{Call}
@@ -176,7 +177,10 @@ module _ (n : ℕ) (t j : List ℕ) where
   unfolding addChecks mapChecks addRoomOk indexOf
   add-passed a =
       let q = passed-number (numbers Call.add) (addChecks n t j) a in
-      record { table = table-of n t (q 1) (q 2) (rules-pass n t (q 5) (q 24) (q 25) (q 26)); room = eqb-true _ _ (must-pass _ 14 (q 14)) }
+      record {
+        table = table-of n t (q 1) (q 2) (rules-pass n t (q 5) (q 24) (q 25) (q 26));
+        room = eqb-true _ _ (must-pass _ 14 (q 14));
+      }
 
   pub unsew-passed : (i d : ℕ) → inOrder (unsewChecks n t j i d) ≡ pass → UnsewPassed n t i d
   unfolding unsewChecks mapChecks sewnOk indexOf

@@ -68,8 +68,8 @@ module _ (n : ℕ) (t : List ℕ) (n3 : n ≤ 3) where
       own = rw (tested .not-map, tested .broken) (ap₂ (refuse (ruleNumber r)) (tested .place) (tested .link))
 
   -- where the other rules pass, and the table is no map, it is the last rule, by link 3
-  pub last-refused : isMap n t ≡ false → ruleOk n t links-live ≡ pass → ruleOk n t links-return ≡ pass → ruleOk n t pairs-commute ≡ pass
-      → inOrder (mapChecks n t) ≡ refuse 26 b 3
+  pub last-refused : isMap n t ≡ false → ruleOk n t links-live ≡ pass → ruleOk n t links-return ≡ pass
+      → ruleOk n t pairs-commute ≡ pass → inOrder (mapChecks n t) ≡ refuse 26 b 3
   unfolding ruleNumber
   last-refused e lives back pairs = go (some-broken n t n3 e)
     where
@@ -121,7 +121,8 @@ module _ (n : ℕ) (o : Outcome) where
     answers {r} {d} {i} first f =
         let w = begins c in
         let refuses = append-refused (mapChecks n t) (w .behind) (broken-refused n t (first-dim first) f) in
-        let is = call-ends n o c .refuses (ruleNumber r) d i (ap inOrder (w .is) ∙ append-passed (firstChecks n o c) _ first ∙ refuses) in
+        let all = ap inOrder (w .is) ∙ append-passed (firstChecks n o c) _ first ∙ refuses in
+        let is = call-ends n o c .refuses (ruleNumber r) d i all in
         (ap (λ (x : Outcome). x .number) is, ap (λ (x : Outcome). x .place) is, ap (λ (x : Outcome). x .count) is)
 
     -- a refusal by the number of a rule comes behind the first checks

@@ -9,7 +9,8 @@ use Rattle.model.specs.Lists.{ones, indexOf}
 use Rattle.model.specs.Map.{MapRule, links-live, links-return, pairs-commute, stays-flat}
 use Rattle.model.specs.Sheet.{sheet}
 use Rattle.model.specs.Checks.{Check, pass, refuse, andThen, inOrder, dimOk, tableOk, marksOk, journalOk}
-use Rattle.model.specs.Checks.{ruleNumber, ruleOk, mapChecks, checkChecks, orbitChecks, sheetChecks, addChecks, sidesChecks, unsewChecks}
+use Rattle.model.specs.Checks.{ruleNumber, ruleOk, mapChecks, checkChecks, orbitChecks, sheetChecks, addChecks, sidesChecks}
+use Rattle.model.specs.Checks.{unsewChecks}
 use Rattle.model.specs.Checks.{layerChecks, splitChecks, stepChecks}
 use Rattle.model.specs.Calls.{Outcome, refused}
 use Rattle.model.specs.Runs.{Call, doCall}
@@ -18,12 +19,15 @@ use Rattle.model.specs.Meaning.Maps.{Dim}
 use Rattle.model.specs.Meaning.Numbers.{NumberRow, First, dimRow, tableRow, marksRow, journalRow, mapRows, dartRow}
 use Rattle.model.specs.Meaning.Numbers.{blockRow, stepRow, numberRows}
 use Rattle.model.proofs.Maps.Broken.{each-earlier}
-use Rattle.model.proofs.Calls.Checks.{not-pass, passed-at, passed-number, passed-append, append-passed, Numbered, Numbers, _then_}
+use Rattle.model.proofs.Calls.Checks.{not-pass, passed-at, passed-number, passed-append, append-passed, Numbered, Numbers}
+use Rattle.model.proofs.Calls.Checks.{_then_}
 use Rattle.model.proofs.Calls.Checks.{call-numbers}
 use Rattle.model.proofs.Calls.Pass.{dim-pass, rules-pass, table-of, sides-passed}
-use Rattle.model.proofs.Calls.Fails.{dim-fails, table-fails, marks-fails, journal-fails, rule-fails, index-fails, mask-fails}
+use Rattle.model.proofs.Calls.Fails.{dim-fails, table-fails, marks-fails, journal-fails, rule-fails, index-fails}
+use Rattle.model.proofs.Calls.Fails.{mask-fails}
 use Rattle.model.proofs.Calls.Fails.{dart-fails, block-fails, apart-fails, free-fails, sewn-fails, pairing-fails}
-use Rattle.model.proofs.Calls.Fails.{crossing-fails, add-room-fails, split-room-fails, record-fails, undo-fails, redo-fails}
+use Rattle.model.proofs.Calls.Fails.{crossing-fails, add-room-fails, split-room-fails, record-fails, undo-fails}
+use Rattle.model.proofs.Calls.Fails.{redo-fails}
 use Rattle.model.proofs.Calls.Fails.{step-fails}
 use Rattle.model.proofs.Calls.Ends.{call-ends, done-number}
 
@@ -109,8 +113,8 @@ module _ (n : ℕ) (o : Outcome) where
       → Meets (dimOk n ∷ others) (mapRows n t ++ rs) (mapChecks n t ++ cs)
   unfolding mapChecks ruleNumber
   then-map others w =
-      (λ h. rule-fails n t links-live (dim-before others h) (earlier links-live (λ l. absurd (omega arith)) (λ l. absurd (omega arith))
-      (λ l. absurd (omega arith))))
+      (λ h. rule-fails n t links-live (dim-before others h)
+      (earlier links-live (λ l. absurd (omega arith)) (λ l. absurd (omega arith)) (λ l. absurd (omega arith))))
       next-passed (λ h. rule-fails n t links-return (dim-before _ h) (earlier links-return (λ _. last-passed before-1 _ h .1)
       (λ l. absurd (omega arith)) (λ l. absurd (omega arith))))
       next-passed (λ h. let p = last-passed before-2 _ h in
@@ -118,7 +122,8 @@ module _ (n : ℕ) (o : Outcome) where
       (λ l. absurd (omega arith))))
       next-passed (λ h. let p = last-passed before-3 _ h in
       let q = last-passed before-2 _ (p .0) in
-      rule-fails n t stays-flat (dim-before _ h) (earlier stays-flat (λ _. last-passed before-1 _ (q .0) .1) (λ _. q .1) (λ _. p .1)))
+      rule-fails n t stays-flat (dim-before _ h)
+      (earlier stays-flat (λ _. last-passed before-1 _ (q .0) .1) (λ _. q .1) (λ _. p .1)))
       next-passed w
     where
       before-1 : List Check
@@ -130,17 +135,22 @@ module _ (n : ℕ) (o : Outcome) where
       before-3 : List Check
       before-3 = with-rule before-2 links-return
 
-      earlier : (r : MapRule) → (5 < ruleNumber r → ruleOk n t links-live ≡ pass) → (24 < ruleNumber r → ruleOk n t links-return ≡ pass)
-          → (25 < ruleNumber r → ruleOk n t pairs-commute ≡ pass) → (q : MapRule) → ruleNumber q < ruleNumber r → ruleOk n t q ≡ pass
-      earlier = each-earlier (λ r. ruleOk n t r ≡ pass)
+      Passes : MapRule → Type 0
+      Passes r = ruleOk n t r ≡ pass
+
+      earlier : (r : MapRule) → (5 < ruleNumber r → Passes links-live) → (24 < ruleNumber r → Passes links-return)
+          → (25 < ruleNumber r → Passes pairs-commute) → (q : MapRule) → ruleNumber q < ruleNumber r → Passes q
+      earlier = each-earlier Passes
 
   -- the first rows of the calls with marks, with a journal, and with both
   with-marks : {rs : List NumberRow} {cs : List Check} → Meets (with-rules (dimOk n ∷ tableOk t ∷ marksOk t m ∷ [])) rs cs
-      → Meets [] (dimRow n ∷ tableRow t ∷ marksRow t m ∷ (mapRows n t ++ rs)) (dimOk n ∷ tableOk t ∷ marksOk t m ∷ (mapChecks n t ++ cs))
+      → Meets [] (dimRow n ∷ tableRow t ∷ marksRow t m ∷ (mapRows n t ++ rs))
+      (dimOk n ∷ tableOk t ∷ marksOk t m ∷ (mapChecks n t ++ cs))
   with-marks w = dim-fails n next table-fails t next marks-fails t m next then-map _ w
 
   with-journal : {rs : List NumberRow} {cs : List Check} → Meets (with-rules (dimOk n ∷ tableOk t ∷ journalOk j ∷ [])) rs cs
-      → Meets [] (dimRow n ∷ tableRow t ∷ journalRow j ∷ (mapRows n t ++ rs)) (dimOk n ∷ tableOk t ∷ journalOk j ∷ (mapChecks n t ++ cs))
+      → Meets [] (dimRow n ∷ tableRow t ∷ journalRow j ∷ (mapRows n t ++ rs))
+      (dimOk n ∷ tableOk t ∷ journalOk j ∷ (mapChecks n t ++ cs))
   with-journal w = dim-fails n next table-fails t next journal-fails j next then-map _ w
 
   with-layer : (d : ℕ) {rs : List NumberRow} {cs : List Check} → Meets (layerChecks n t m j d) rs cs

@@ -35,7 +35,8 @@ module _ (n : ℕ) (o : Outcome) (c : Call) where
   place-of-8 h = rw h at (call-untouched (λ q. omega arith) .place)
 
   -- .. and of the others; 5 and 24 to 26 stand in Rules.antt
-  pub place-of-others : doCall n o c .number ≢ 0 → NoRule (doCall n o c .number) → doCall n o c .number ≢ 8 → doCall n o c .place ≡ 0
+  pub place-of-others : doCall n o c .number ≢ 0 → NoRule (doCall n o c .number) → doCall n o c .number ≢ 8
+      → doCall n o c .place ≡ 0
   place-of-others h none b = call-untouched h .place ∙ place-other n (o .table) _ none b
 
   pub count-of-others : doCall n o c .number ≢ 0 → NoRule (doCall n o c .number) → doCall n o c .count ≡ 0

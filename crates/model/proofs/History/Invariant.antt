@@ -66,7 +66,7 @@ pub record Invariant (n : ℕ) (first : List ℕ) (h : History) (t j : List ℕ)
   pub table : t ≡ replay n first (h .standing)
   -- the journal holds the records of what stands, then of what was undone, then the rest
   pub journal : j ≡ historyWords n first h rest
-  -- the table passes the checks 1, 2 and 5
+  -- the table passes the checks 1, 2, 5 and 24 to 26
   pub rule : InRule n (replay n first (h .standing))
   -- the journal is not too long
   pub few : length (historyWords n first h rest) ≤ 1048576

@@ -37,11 +37,11 @@ module _ (n : ℕ) (t : List ℕ) (d : ℕ) (r : MapRule) where
   pub link-below : keepsRule n t d r ≡ false → i < 4
   link-below h = if-lt i 4 (λ l. l) (λ u. absurd (clash (keeps-rule n t d r (λ k l. link-lower k (omega arith))) h))
 
-  pub link-found : i < 4 → keepsRule n t d r ≡ false
-  link-found l = test (keepsRule n t d r) (λ h. absurd (kept-by n t d r h i l (breaks-exactly n t d r i .0 (not-true _ (first .passes l))))) (λ h. h)
+  pub link-breaks : i < 4 → Breaks n t d r i
+  link-breaks l = breaks-exactly n t d r i .0 (not-true _ (first .passes l))
 
-  pub link-breaks : keepsRule n t d r ≡ false → Breaks n t d r i
-  link-breaks h = breaks-exactly n t d r i .0 (not-true _ (first .passes (link-below h)))
+  pub link-found : i < 4 → keepsRule n t d r ≡ false
+  link-found l = test (keepsRule n t d r) (λ h. absurd (kept-by n t d r h i l (link-breaks l))) (λ h. h)
 
   pub link-is : (k : ℕ) → k < 4 → Breaks n t d r k → ((x : ℕ) → x < k → Breaks n t d r x → ⊥) → i ≡ k
   unfolding breakingLink
@@ -116,7 +116,7 @@ module _ (n : ℕ) (t : List ℕ) (n3 : n ≤ 3) where
       slot = slot;
       least = least-breaking n t n3 b slot .0 refl;
       index = link-below n t b r h;
-      breaks = link-breaks n t b r h;
+      breaks = link-breaks n t b r (link-below n t b r h);
       lower = link-lower n t b r;
       earlier = λ q l. kept-by n t b q (earlier q l);
     }
@@ -125,7 +125,8 @@ module _ (n : ℕ) (t : List ℕ) (n3 : n ≤ 3) where
     unfolding ruleNumber
     some-broken =
         test (keepsRule n t b links-live) (λ lives. test (keepsRule n t b links-return) (λ back.
-        test (keepsRule n t b pairs-commute) (λ pairs. test (keepsRule n t b stays-flat) (λ flat. absurd (all-kept lives back pairs flat))
+        test (keepsRule n t b pairs-commute) (λ pairs. test (keepsRule n t b stays-flat)
+        (λ flat. absurd (all-kept lives back pairs flat))
         (λ h. found stays-flat h (λ _. lives) (λ _. back) (λ _. pairs)))
         (λ h. found pairs-commute h (λ _. lives) (λ _. back) (λ l. absurd (omega arith))))
         (λ h. found links-return h (λ _. lives) (λ l. absurd (omega arith)) (λ l. absurd (omega arith))))

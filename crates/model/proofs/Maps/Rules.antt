@@ -1,5 +1,6 @@
 -- The map test says what a map is; live slots; and a change of the links of one index that keeps a map.
--- Main theorems: `breaks-exactly` (the test of a rule at a link), `rule-of` and `of-rule`, `map-of` and `of-map`; `live-in`; `link-retable`; `relink-table`.
+-- Main theorems: `breaks-exactly` (the test of a rule at a link), `rule-of` and `of-rule`, `map-of` and `of-map`; `live-in`;
+-- `link-retable`; `relink-table`.
 use Prim.Native.Nat.{ℕ, zero, suc, _+_, _*_, _/_, _%_, _≤_, _<_}
 use mathlib.Core.Path.{_≡_, refl, sym, ap, ap₂, _∙_}
 use mathlib.Core.Logic.{inl, inr, _≢_, _↔_, Iff·rfl}

@@ -9,7 +9,8 @@ use lib.ListN.{length, getD, set}
 use lib.Dec.{leb, eqb}
 use Rattle.model.specs.Lists.{count, ones}
 use Rattle.model.specs.Table.{slots}
-use Rattle.model.specs.Map.{MapRule, links-live, links-return, pairs-commute, stays-flat, breakingLink, isMap, leastBreaking}
+use Rattle.model.specs.Map.{MapRule, links-live, links-return, pairs-commute, stays-flat, breakingLink, isMap}
+use Rattle.model.specs.Map.{leastBreaking}
 use Rattle.model.specs.Cell.{cellSize, isBlock, leastWrong}
 use Rattle.model.specs.Orbit.{orbit, orbitPlace}
 use Rattle.model.specs.Sheet.{sheet, sheetMarks}
@@ -18,7 +19,8 @@ use Rattle.model.specs.Sew.{sewTable, unsewTable}
 use Rattle.model.specs.Remove.{removeTable}
 use Rattle.model.specs.Split.{splitSlots, splitTable}
 use Rattle.model.specs.Journal.{cursor, end, changesFrom, recordOf, written, changesAt, put, unbroken}
-use Rattle.model.specs.Checks.{Check, pass, refuse, must, inOrder, dimOk, tableOk, marksOk, journalOk, pairingOk, undoOk, redoOk}
+use Rattle.model.specs.Checks.{Check, pass, refuse, must, inOrder, dimOk, tableOk, marksOk, journalOk, pairingOk, undoOk}
+use Rattle.model.specs.Checks.{redoOk}
 use Rattle.model.specs.Checks.{checkChecks, orbitChecks, sheetChecks}
 use Rattle.model.specs.Checks.{addChecks, sidesChecks, sewChecks, unsewChecks, layerChecks, splitChecks, stepChecks}
 use Rattle.model.specs.Calls.{Outcome, refused}

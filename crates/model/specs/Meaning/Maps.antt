@@ -1,6 +1,6 @@
 -- Maps and block maps, as properties and not as tests.
--- Main definitions: `Rule` and `Map`, `BreaksFirst`; `Straight`, `GoodCell` and `Block`; `MapTable` and `BlockTable`, what the passed
--- checks of a call say.
+-- Main definitions: `Rule` and `Map`, `BreaksFirst`; `Straight`, `GoodCell` and `Block`; `MapTable` and `BlockTable`, what the
+-- passed checks of a call say.
 use Prim.Native.Nat.{ℕ, _+_, _*_, _≤_, _<_}
 use mathlib.Core.Path.{_≡_}
 use mathlib.Core.Logic.{_≢_}

@@ -1,5 +1,5 @@
--- "Numbers a call gives back": 01's table, with the numbers of 02, as rows, a number and when it is given, and for each call its rows in the order
--- of the numbers. A call gives the number of the first row that is given, or 0 (`First`).
+-- "Numbers a call gives back": 01's table, with the numbers of 02, as rows, a number and when it is given, and for each call
+-- its rows in the order of the numbers. A call gives the number of the first row that is given, or 0 (`First`).
 use Prim.Native.Nat.{ℕ, _+_, _*_, _-_, _%_, _^_, _≤_, _<_}
 use mathlib.Core.Path.{_≡_}
 use mathlib.Core.Logic.{_⊎_, _≢_}

@@ -13,7 +13,7 @@ use Rattle.model.specs.Meaning.Sets.{Marked}
 abbrev pub Far : ℕ → ℕ → Type 0
 Far i j = (i + 2 ≤ j) ⊎ (j + 2 ≤ i)
 
--- d has a side for link i: what the checks 1 to 7 of sew and unsew say
+-- d has a side for link i: what the checks up to 7 of sew and unsew say
 pub record OnSide (n : ℕ) (t : List ℕ) (i d : ℕ) : Type 0 where
   pub table : MapTable n t
   pub index : i ≤ n

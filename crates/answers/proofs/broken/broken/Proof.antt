@@ -42,8 +42,9 @@ returns : tie.Need-returns
 unfolding mapChecks ruleNumber
 returns c =
     let s = start (c .before .before) in
+    let q = s .entry .pre in
     settles-refusal 4
-    (out s (rule-refuses _ _ links-live _ (s .entry .pre .2) (c .before .breaking-link .ensures) (s .entry .pre .1) (c .if1 .taken)))
+    (out s (rule-refuses _ _ links-live _ (q .2) (c .before .breaking-link .ensures) (q .1) (c .if1 .taken)))
 
 breaking-link-requires-2 : tie.Need-breaking-link-requires-2
 breaking-link-requires-2 c κs = search needs
@@ -52,8 +53,9 @@ returns-2 : tie.Need-returns-2
 unfolding mapChecks ruleNumber
 returns-2 c =
     let s = lives (c .before .before) in
+    let q = s .entry .pre in
     settles-refusal 23
-    (out s (rule-refuses _ _ links-return _ (s .entry .pre .2) (c .before .breaking-link2 .ensures) (s .entry .pre .1) (c .if2 .taken)))
+    (out s (rule-refuses _ _ links-return _ (q .2) (c .before .breaking-link2 .ensures) (q .1) (c .if2 .taken)))
 
 breaking-link-requires-3 : tie.Need-breaking-link-requires-3
 breaking-link-requires-3 c κs = search needs
@@ -62,15 +64,17 @@ returns-3 : tie.Need-returns-3
 unfolding mapChecks ruleNumber
 returns-3 c =
     let s = returned (c .before .before) in
+    let q = s .entry .pre in
     settles-refusal 24
-    (out s (rule-refuses _ _ pairs-commute _ (s .entry .pre .2) (c .before .breaking-link3 .ensures) (s .entry .pre .1) (c .if3 .taken)))
+    (out s (rule-refuses _ _ pairs-commute _ (q .2) (c .before .breaking-link3 .ensures) (q .1) (c .if3 .taken)))
 
 returns-4 : tie.Need-returns-4
 unfolding mapChecks
 returns-4 c =
     let s = commuting c in
-    let n3 = dim-pass _ (s .entry .pre .0) .1 in
-    settles-refusal 25 (rw (s .entry .pre .2) (last-refused _ _ n3 (s .entry .pre .1) (s .passed .0) (s .passed .1 .0) (s .passed .1 .1 .0)))
+    let q = s .entry .pre in
+    let p = s .passed in
+    settles-refusal 25 (rw (q .2) (last-refused _ _ (dim-pass _ (q .0) .1) (q .1) (p .0) (p .1 .0) (p .1 .1 .0)))
 
 pub broken-spec : {M : Type 1} → statement M
 broken-spec =
