@@ -1,8 +1,7 @@
 -- To unfold `everything` is to unfold each definition that a call cites, file by file: for proofs that compute.
 use Rattle.model.specs.Lists.{tabulateFrom, tabulate, count, onesFrom, indexOf, leastFrom, least, allFrom, allBelow}
 use Rattle.model.specs.Table.{slots, link, live, walk, unusedSlots, retable, relinkAt, relink}
-use Rattle.model.specs.Map.{returns, crossed, keepsAt, keepsRule, breakingLink, keepsRules, breaksRule, leastBreaking}
-use Rattle.model.specs.Map.{isMap}
+use Rattle.model.specs.Map.{returns, crossed, keepsAt, keepsRule, breakingLink, keepsRules, breaksRule, leastBreaking, isMap}
 use Rattle.model.specs.Reach.{flood, steps, closure, linksFrom, links, inSet}
 use Rattle.model.specs.Cell.{cellWords, cellOf, cellSize, turns, folded, goodDart, allGood, goodCell, inWrongCell}
 use Rattle.model.specs.Cell.{leastWrong, isBlock}
@@ -16,9 +15,8 @@ use Rattle.model.specs.Sew.{sideWords, side, coupleSteps, pairUp, partne
 use Rattle.model.specs.Sew.{unsewnLink, unsewn, unsewTable}
 use Rattle.model.specs.Remove.{opposite, marked, outside, removedLink, removed, removeTable}
 use Rattle.model.specs.Split.{crosses, newDart, newDartLink, halvedLink, halved, splitSlots, splitTable}
-use Rattle.model.specs.Checks.{must, mustAt, andThen, inOrder, dimOk, tableOk, marksOk, journalOk, ruleNumber, ruleOk}
-use Rattle.model.specs.Checks.{mapChecks, indexOk}
-use Rattle.model.specs.Checks.{maskOk, dartOk, blockOk, apartOk, freeOk, sewnOk, pairingOk, crossingOk, addRoomOk}
+use Rattle.model.specs.Checks.{must, mustAt, andThen, inOrder, dimOk, tableOk, marksOk, journalOk, ruleNumber, ruleOk, mapChecks}
+use Rattle.model.specs.Checks.{indexOk, maskOk, dartOk, blockOk, apartOk, freeOk, sewnOk, pairingOk, crossingOk, addRoomOk}
 use Rattle.model.specs.Checks.{splitRoomOk, undoOk, redoOk, checkChecks, orbitChecks, sheetChecks, addChecks}
 use Rattle.model.specs.Checks.{sidesChecks, sewChecks, unsewChecks, layerChecks, splitChecks, stepChecks}
 use Rattle.model.specs.Calls.{refused, commit, checkCall, orbitCall, sheetCall, addCall, sewCall, unsewCall}

@@ -19,10 +19,12 @@ use Rattle.model.specs.Checks.{checkChecks, orbitChecks, sheetChecks, ad
 use Rattle.model.specs.Checks.{layerChecks, splitChecks, stepChecks}
 use Rattle.model.specs.Calls.{Outcome}
 use Rattle.model.specs.Runs.{Call}
+use Rattle.model.specs.Meaning.Maps.{byRule}
 use Rattle.model.specs.Meaning.Sizes.{member}
-use Rattle.model.specs.Meaning.Ends.{recordOk, stepOk, checks, numbers, byRule, refusalPlace, refusalCount, checksOf}
+use Rattle.model.specs.Meaning.Ends.{recordOk, stepOk, checks, numbers, refusalPlace, refusalCount, checksOf}
 use Rattle.model.proofs.Lists.Ones.{in-member}
 use Rattle.model.proofs.Lists.Scan.{clash, test, or-false}
+use Rattle.model.proofs.Maps.Broken.{by-rule}
 
 -- ---- checks in order
 
@@ -122,13 +124,6 @@ must-is b {z} k p q e = mustAt-is b k p q (sym (must-at-0 b z) ∙ e)
 abbrev pub NoRule : ℕ → Type 0
 NoRule k = (r : MapRule) → k ≢ ruleNumber r
 
-by-rule : (f : MapRule → ℕ) (z : ℕ) (r : MapRule) → byRule f z (ruleNumber r) ≡ f r
-unfolding byRule ruleNumber
-by-rule f z links-live = refl
-by-rule f z links-return = refl
-by-rule f z pairs-commute = refl
-by-rule f z stays-flat = refl
-
 by-none : (f : MapRule → ℕ) (z k : ℕ) → NoRule k → byRule f z k ≡ z
 unfolding byRule ruleNumber
 by-none f z k h =
@@ -193,15 +188,23 @@ module _ {n : ℕ} {t j : List ℕ} where
         },
       )
 
-  -- any but 4, 8 and those of the rules
-  plain : (b : Bool) (z : ℕ) → member (0 ∷ 4 ∷ 8 ∷ []) z ≡ false → noRules (z ∷ []) ≡ true → Numbered n t j z (must b z)
-  plain b z h none =
-      let other : (y : ℕ) → In y (0 ∷ 4 ∷ 8 ∷ []) → z ≢ y = λ y i q. not-in (0 ∷ 4 ∷ 8 ∷ []) z h y i (sym q) in
-      let no-rule = none-of z none in
+  -- any but 0, 4, 8 and those of the rules
+  plain : (b : Bool) (z : ℕ) → member (0 ∷ 4 ∷ 8 ∷ 5 ∷ 24 ∷ 25 ∷ 26 ∷ []) z ≡ false → Numbered n t j z (must b z)
+  unfolding ruleNumber
+  plain b z h =
       let place = place-other n t z no-rule (other 8 (there (there (here refl)))) in
       let count = count-other n t z no-rule in
       numbered (must b z) z (other 0 (here refl)) (rw (place, count) (must-is b)) (λ q. absurd (other 4 (there (here refl)) q))
       (λ r q. absurd (no-rule r q))
+    where
+      other : (y : ℕ) → In y (0 ∷ 4 ∷ 8 ∷ 5 ∷ 24 ∷ 25 ∷ 26 ∷ []) → z ≢ y
+      other y i q = not-in (0 ∷ 4 ∷ 8 ∷ 5 ∷ 24 ∷ 25 ∷ 26 ∷ []) z h y i (sym q)
+
+      no-rule : NoRule z
+      no-rule links-live = other 5 (there (there (there (here refl))))
+      no-rule links-return = other 24 (there (there (there (there (here refl)))))
+      no-rule pairs-commute = other 25 (there (there (there (there (there (here refl))))))
+      no-rule stays-flat = other 26 (there (there (there (there (there (there (here refl)))))))
 
   journal-4 : Numbered n t j 4 (journalOk j)
   unfolding journalOk refusalPlace refusalCount byRule member indexOf
@@ -253,33 +256,26 @@ module _ (n : ℕ) (o : Outcome) where
 
   pub call-numbers : (c : Call) → Has (numbers c) (checks n o c)
   unfolding checksOf mapChecks checkChecks orbitChecks sheetChecks addChecks sidesChecks unsewChecks layerChecks splitChecks stepChecks dimOk tableOk marksOk indexOk maskOk dartOk apartOk freeOk sewnOk pairingOk crossingOk addRoomOk splitRoomOk undoOk redoOk recordOk stepOk member indexOf
-  call-numbers Call.check = plain _ 1 refl refl then plain _ 2 refl refl then map-then last
+  call-numbers Call.check = plain _ 1 refl then plain _ 2 refl then map-then last
   call-numbers (Call.orbit mask d) =
-      plain _ 1 refl refl then plain _ 2 refl refl then plain _ 3 refl refl
-      then map-then (plain _ 6 refl refl then plain _ 7 refl refl then last)
+      plain _ 1 refl then plain _ 2 refl then plain _ 3 refl then map-then (plain _ 6 refl then plain _ 7 refl then last)
   call-numbers (Call.sheet d) =
-      plain _ 1 refl refl then plain _ 2 refl refl then plain _ 3 refl refl
-      then map-then (plain _ 7 refl refl then block-8 then last)
+      plain _ 1 refl then plain _ 2 refl then plain _ 3 refl then map-then (plain _ 7 refl then block-8 then last)
   call-numbers Call.add =
-      plain _ 1 refl refl then plain _ 2 refl refl then journal-4
-      then map-then (plain _ 14 refl refl then plain _ 15 refl refl then last)
+      plain _ 1 refl then plain _ 2 refl then journal-4 then map-then (plain _ 14 refl then plain _ 15 refl then last)
   call-numbers (Call.sew i d e) =
-      plain _ 1 refl refl then plain _ 2 refl refl then journal-4
-      then map-then (plain _ 6 refl refl then plain _ 7 refl refl then plain _ 7 refl refl then plain _ 9 refl refl
-      then plain _ 10 refl refl then plain _ 12 refl refl then plain _ 15 refl refl then last)
+      plain _ 1 refl then plain _ 2 refl then journal-4 then map-then (plain _ 6 refl then plain _ 7 refl then plain _ 7 refl
+      then plain _ 9 refl then plain _ 10 refl then plain _ 12 refl then plain _ 15 refl then last)
   call-numbers (Call.unsew i d) =
-      plain _ 1 refl refl then plain _ 2 refl refl then journal-4
-      then map-then (plain _ 6 refl refl then plain _ 7 refl refl then plain _ 11 refl refl then plain _ 15 refl refl then last)
+      plain _ 1 refl then plain _ 2 refl then journal-4 then map-then (plain _ 6 refl then plain _ 7 refl then plain _ 11 refl
+      then plain _ 15 refl then last)
   call-numbers (Call.remove d) =
-      plain _ 1 refl refl then plain _ 2 refl refl then plain _ 3 refl refl then journal-4
-      then map-then (plain _ 7 refl refl then block-8 then plain _ 15 refl refl then last)
+      plain _ 1 refl then plain _ 2 refl then plain _ 3 refl then journal-4 then map-then (plain _ 7 refl then block-8
+      then plain _ 15 refl then last)
   call-numbers (Call.split d) =
-      plain _ 1 refl refl then plain _ 2 refl refl then plain _ 3 refl refl then journal-4
-      then map-then (plain _ 7 refl refl then block-8 then plain _ 13 refl refl then plain _ 14 refl refl
-      then plain _ 15 refl refl then last)
+      plain _ 1 refl then plain _ 2 refl then plain _ 3 refl then journal-4 then map-then (plain _ 7 refl then block-8
+      then plain _ 13 refl then plain _ 14 refl then plain _ 15 refl then last)
   call-numbers Call.undo =
-      plain _ 1 refl refl then plain _ 2 refl refl then journal-4
-      then map-then (plain _ 16 refl refl then plain _ 17 refl refl then last)
+      plain _ 1 refl then plain _ 2 refl then journal-4 then map-then (plain _ 16 refl then plain _ 17 refl then last)
   call-numbers Call.redo =
-      plain _ 1 refl refl then plain _ 2 refl refl then journal-4
-      then map-then (plain _ 16 refl refl then plain _ 17 refl refl then last)
+      plain _ 1 refl then plain _ 2 refl then journal-4 then map-then (plain _ 16 refl then plain _ 17 refl then last)

@@ -1,7 +1,7 @@
 -- When each check fails, in the words of 01's table: `dim-fails` (1) to `step-fails` (17).
 use Prim.Native.Nat.{ℕ, _+_, _*_, _-_, _%_, _^_, _≤_, _<_}
 use mathlib.Core.Path.{_≡_, refl}
-use mathlib.Core.Logic.{_⊎_, _≢_, _↔_, ⊎-elim, Iff·rfl, Iff·trans, Iff·and}
+use mathlib.Core.Logic.{_⊎_, _≢_, _↔_, Iff·rfl, Iff·trans, Iff·and}
 use mathlib.Core.Bool.{Bool, true, false}
 use mathlib.Core.List.{List}
 use native.Mathlib.Omega.{arith}
@@ -26,7 +26,7 @@ use Rattle.model.specs.Meaning.Numbers.{JournalRule, StepFails}
 use Rattle.model.specs.Meaning.Pairings.{Pairing}
 use Rattle.model.specs.Meaning.Sets.{Marked}
 use Rattle.model.specs.Meaning.Sheets.{Crossing}
-use Rattle.model.proofs.Lists.Scan.{clash, or-cases, or-false}
+use Rattle.model.proofs.Lists.Scan.{clash, or-false}
 use Rattle.model.proofs.Maps.Rules.{map-of, of-map}
 use Rattle.model.proofs.Maps.Broken.{broken-first, of-broken}
 use Rattle.model.proofs.Cells.Exact.{block-exactly}
@@ -35,7 +35,7 @@ use Rattle.model.proofs.Layers.Sheet.{crosses-some}
 use Rattle.model.proofs.Calls.Tests.{not-fails, and-fails, or-fails, leb-fails, ltb-fails, eqb-fails, eqb-holds}
 use Rattle.model.proofs.Calls.Tests.{test-fails, one-of}
 use Rattle.model.proofs.Calls.Checks.{must-at-0, not-pass}
-use Rattle.model.proofs.Calls.Pass.{mustAt-pass, journal-pass, SidesPassed, left-side, right-side}
+use Rattle.model.proofs.Calls.Pass.{passed-keeps, journal-pass, SidesPassed, left-side, right-side}
 
 -- ---- a check that is a test
 
@@ -80,12 +80,8 @@ pub rule-fails : (n : ℕ) (t : List ℕ) (r : MapRule) → Dim n → ((q : MapR
 unfolding ruleOk
 rule-fails n t r dim earlier = mustAt-fails _ (ruleNumber r) _ _ (
   λ h.
-      let (not-map, broken) = or-false (isMap n t) (keepsRule n t (leastBreaking n t) r) h in (
-        _,
-        _,
-        broken-first n t (dim .1) not-map r broken (λ q l.
-            ⊎-elim (λ e. absurd (clash e not-map)) (λ e. e) (or-cases (isMap n t) _ (mustAt-pass _ _ _ _ (earlier q l)))),
-      ),
+      let (not-map, broken) = or-false (isMap n t) (keepsRule n t (leastBreaking n t) r) h in
+      (_, _, broken-first n t (dim .1) not-map r broken (λ q l. passed-keeps n t not-map q (earlier q l))),
   λ w. let tested = of-broken n t (dim .1) (w .2) in rw (tested .not-map) (tested .broken),
 )
 

@@ -10,7 +10,7 @@ use lib.Dec.{eqb, leb}
 use borrow.Author.Tests.{eqb-true, eqb-false, eq-eqb, leb-true, not-true}
 use Rattle.model.specs.Lists.{indexOf}
 use Rattle.model.specs.Table.{slots, link, live}
-use Rattle.model.specs.Map.{MapRule, links-live, links-return, pairs-commute, stays-flat, breakingLink, leastBreaking, isMap}
+use Rattle.model.specs.Map.{MapRule, links-live, links-return, pairs-commute, stays-flat, keepsRule, leastBreaking, isMap}
 use Rattle.model.specs.Reach.{inSet}
 use Rattle.model.specs.Cell.{cellSize, isBlock, leastWrong}
 use Rattle.model.specs.Journal.{cursor, end, changesFrom, recordOf, changesAt, put, unbroken}
@@ -18,7 +18,7 @@ use Rattle.model.specs.Add.{addSlots}
 use Rattle.model.specs.Sew.{side, isPaired}
 use Rattle.model.specs.Split.{crosses, splitSlots}
 use Rattle.model.specs.Checks.{pass, must, mustAt, inOrder}
-use Rattle.model.specs.Checks.{dimOk, tableOk, journalOk, ruleNumber, ruleOk, mapChecks, indexOk, dartOk, blockOk}
+use Rattle.model.specs.Checks.{dimOk, tableOk, journalOk, ruleOk, mapChecks, indexOk, dartOk, blockOk}
 use Rattle.model.specs.Checks.{apartOk, freeOk}
 use Rattle.model.specs.Checks.{sewnOk, pairingOk, crossingOk, addRoomOk, splitRoomOk}
 use Rattle.model.specs.Checks.{addChecks, sidesChecks, sewChecks, unsewChecks, layerChecks, splitChecks}
@@ -71,12 +71,16 @@ rules-pass n t a b c d links-return = b
 rules-pass n t a b c d pairs-commute = c
 rules-pass n t a b c d stays-flat = d
 
-pub map-pass : (n : ℕ) (t : List ℕ) → n ≤ 3 → RulesPass n t → isMap n t ≡ true
+-- the least slot that breaks a rule keeps one that passes
+pub passed-keeps : (n : ℕ) (t : List ℕ) → isMap n t ≡ false → (r : MapRule) → ruleOk n t r ≡ pass
+    → keepsRule n t (leastBreaking n t) r ≡ true
 unfolding ruleOk
+passed-keeps n t e r h = ⊎-elim (λ q. absurd (clash q e)) (λ q. q) (or-cases (isMap n t) _ (mustAt-pass _ _ _ _ h))
+
+pub map-pass : (n : ℕ) (t : List ℕ) → n ≤ 3 → RulesPass n t → isMap n t ≡ true
 map-pass n t n3 h = test (isMap n t) (λ e. e) (λ e.
     let (r, d, i, broken) = some-broken n t n3 e in
-    let kept = mustAt-pass _ (ruleNumber r) (leastBreaking n t) (breakingLink n t (leastBreaking n t) r) (h r) in
-    absurd (⊎-elim (λ q. clash q e) (λ q. clash q (of-broken n t n3 broken .broken)) (or-cases (isMap n t) _ kept)))
+    absurd (clash (passed-keeps n t e r (h r)) (of-broken n t n3 broken .broken)))
 
 pub block-pass : (n : ℕ) (t : List ℕ) → blockOk n t ≡ pass → isBlock n t ≡ true
 unfolding blockOk isBlock

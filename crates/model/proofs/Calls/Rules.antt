@@ -5,7 +5,7 @@ use Prim.Native.Nat.{ℕ, _≤_, _<_}
 use mathlib.Core.Path.{_≡_, refl, sym, ap, ap₂, _∙_}
 use mathlib.Core.Logic.{_↔_, ⊎-elim}
 use mathlib.Core.Bool.{true, false}
-use mathlib.Core.List.{List, [], _++_}
+use mathlib.Core.List.{List, _++_}
 use native.Mathlib.Omega.{arith}
 use lib.ListN.{length, getD, take}
 use Rattle.model.specs.Lists.{indexOf}
@@ -19,12 +19,12 @@ use Rattle.model.specs.Runs.{Call, doCall}
 use Rattle.model.specs.Meaning.Sizes.{member}
 use Rattle.model.specs.Meaning.Ends.{checksOf, checks, firstChecks, numbers}
 use Rattle.model.specs.Meaning.Maps.{Map, BreaksFirst}
-use Rattle.model.proofs.Lists.Scan.{test, clash, or-cases}
+use Rattle.model.proofs.Lists.Scan.{test, clash}
 use Rattle.model.proofs.Maps.Rules.{map-of, of-map}
 use Rattle.model.proofs.Maps.Broken.{number-one, some-broken, Tested, of-broken}
 use Rattle.model.proofs.Calls.Checks.{passed-at, append-passed, append-refused, passed-or-refused}
 use Rattle.model.proofs.Calls.Checks.{not-in, noRules, rule-not-in, rule-not-0, numbers-before, refusal-says, call-numbers}
-use Rattle.model.proofs.Calls.Pass.{mustAt-pass, dim-pass}
+use Rattle.model.proofs.Calls.Pass.{passed-keeps, dim-pass}
 use Rattle.model.proofs.Calls.Ends.{call-ends, call-says, call-refused}
 
 -- ---- the checks of a map
@@ -42,10 +42,6 @@ module _ (n : ℕ) (t : List ℕ) (n3 : n ≤ 3) where
   kept-passes : (r : MapRule) → keepsRule n t b r ≡ true → ruleOk n t r ≡ pass
   unfolding ruleOk mustAt
   kept-passes r h = test (isMap n t) (λ e. rw e) (λ e. rw (e, h))
-
-  passed-keeps : isMap n t ≡ false → (r : MapRule) → ruleOk n t r ≡ pass → keepsRule n t b r ≡ true
-  unfolding ruleOk
-  passed-keeps e r h = ⊎-elim (λ q. absurd (clash q e)) (λ q. q) (or-cases (isMap n t) _ (mustAt-pass _ _ _ _ h))
 
   -- behind the rules that pass, one that refuses
   first-refused : (r : MapRule) {k p q : ℕ} → ((s : MapRule) → ruleNumber s < ruleNumber r → ruleOk n t s ≡ pass)
@@ -74,7 +70,7 @@ module _ (n : ℕ) (t : List ℕ) (n3 : n ≤ 3) where
   last-refused e lives back pairs = go (some-broken n t n3 e)
     where
       kept : (r : MapRule) {d i : ℕ} → ruleOk n t r ≡ pass → BreaksFirst n t r d i → ⊥
-      kept r h f = clash (passed-keeps e r h) (of-broken n t n3 f .broken)
+      kept r h f = clash (passed-keeps n t e r h) (of-broken n t n3 f .broken)
 
       go : (r : MapRule) × (d : ℕ) × (i : ℕ) × BreaksFirst n t r d i → inOrder (mapChecks n t) ≡ refuse 26 b 3
       go (links-live, d, i, f) = absurd (kept links-live lives f)
@@ -97,7 +93,7 @@ module _ (n : ℕ) (o : Outcome) where
 
   begins : (c : Call) → Begins c
   unfolding checksOf mapChecks checkChecks orbitChecks sheetChecks addChecks sidesChecks unsewChecks layerChecks stepChecks member indexOf
-  begins Call.check = record { behind = []; is = refl; dim = refl; clear = refl }
+  begins Call.check = record { behind = _; is = refl; dim = refl; clear = refl }
   begins (Call.orbit mask d) = record { behind = _; is = refl; dim = refl; clear = refl }
   begins (Call.sheet d) = record { behind = _; is = refl; dim = refl; clear = refl }
   begins Call.add = record { behind = _; is = refl; dim = refl; clear = refl }

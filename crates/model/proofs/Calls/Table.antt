@@ -8,26 +8,22 @@ use native.Mathlib.Omega.{arith}
 use Rattle.model.specs.Lists.{ones, indexOf}
 use Rattle.model.specs.Map.{MapRule, links-live, links-return, pairs-commute, stays-flat}
 use Rattle.model.specs.Sheet.{sheet}
-use Rattle.model.specs.Checks.{Check, pass, refuse, andThen, inOrder, dimOk, tableOk, marksOk, journalOk}
-use Rattle.model.specs.Checks.{ruleNumber, ruleOk, mapChecks, checkChecks, orbitChecks, sheetChecks, addChecks, sidesChecks}
-use Rattle.model.specs.Checks.{unsewChecks}
+use Rattle.model.specs.Checks.{Check, pass, refuse, andThen, inOrder, dimOk, tableOk, marksOk, journalOk, ruleNumber, ruleOk}
+use Rattle.model.specs.Checks.{mapChecks, checkChecks, orbitChecks, sheetChecks, addChecks, sidesChecks, unsewChecks}
 use Rattle.model.specs.Checks.{layerChecks, splitChecks, stepChecks}
 use Rattle.model.specs.Calls.{Outcome, refused}
 use Rattle.model.specs.Runs.{Call, doCall}
 use Rattle.model.specs.Meaning.Ends.{stepOk, checksOf, checks, numbers}
 use Rattle.model.specs.Meaning.Maps.{Dim}
-use Rattle.model.specs.Meaning.Numbers.{NumberRow, First, dimRow, tableRow, marksRow, journalRow, mapRows, dartRow}
-use Rattle.model.specs.Meaning.Numbers.{blockRow, stepRow, numberRows}
+use Rattle.model.specs.Meaning.Numbers.{NumberRow, First, dimRow, tableRow, marksRow, journalRow, mapRows, dartRow, blockRow}
+use Rattle.model.specs.Meaning.Numbers.{stepRow, numberRows}
 use Rattle.model.proofs.Maps.Broken.{each-earlier}
 use Rattle.model.proofs.Calls.Checks.{not-pass, passed-at, passed-number, passed-append, append-passed, Numbered, Numbers}
-use Rattle.model.proofs.Calls.Checks.{_then_}
-use Rattle.model.proofs.Calls.Checks.{call-numbers}
+use Rattle.model.proofs.Calls.Checks.{_then_, call-numbers}
 use Rattle.model.proofs.Calls.Pass.{dim-pass, rules-pass, table-of, sides-passed}
-use Rattle.model.proofs.Calls.Fails.{dim-fails, table-fails, marks-fails, journal-fails, rule-fails, index-fails}
-use Rattle.model.proofs.Calls.Fails.{mask-fails}
+use Rattle.model.proofs.Calls.Fails.{dim-fails, table-fails, marks-fails, journal-fails, rule-fails, index-fails, mask-fails}
 use Rattle.model.proofs.Calls.Fails.{dart-fails, block-fails, apart-fails, free-fails, sewn-fails, pairing-fails}
-use Rattle.model.proofs.Calls.Fails.{crossing-fails, add-room-fails, split-room-fails, record-fails, undo-fails}
-use Rattle.model.proofs.Calls.Fails.{redo-fails}
+use Rattle.model.proofs.Calls.Fails.{crossing-fails, add-room-fails, split-room-fails, record-fails, undo-fails, redo-fails}
 use Rattle.model.proofs.Calls.Fails.{step-fails}
 use Rattle.model.proofs.Calls.Ends.{call-ends, done-number}
 

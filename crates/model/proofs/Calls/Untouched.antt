@@ -9,8 +9,9 @@ use native.Mathlib.Omega.{arith}
 use Rattle.model.specs.Cell.{leastWrong}
 use Rattle.model.specs.Calls.{Outcome, refused}
 use Rattle.model.specs.Runs.{Call, doCall}
-use Rattle.model.specs.Meaning.Ends.{Untouched, done, byRule, refusalPlace, doneOf}
+use Rattle.model.specs.Meaning.Ends.{Untouched, done, refusalPlace, doneOf}
 use Rattle.model.specs.Meaning.Ends.{Reading, reads-check, reads-orbit, reads-sheet}
+use Rattle.model.specs.Meaning.Maps.{byRule}
 use Rattle.model.proofs.Lists.Scan.{if-eq}
 use Rattle.model.proofs.Calls.Checks.{NoRule, place-other, count-other}
 use Rattle.model.proofs.Calls.Ends.{call-says, call-done, call-refused}

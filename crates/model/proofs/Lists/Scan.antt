@@ -1,6 +1,6 @@
 -- Laws of tests and of scans: the outcomes of a test, every number below k, the least number that passes, how often a number
 -- stands in a list, a list by its rule.
--- Main laws: `below-at` and `below-of`; `least-is` and `least-by`; `count-change`; `getD-tab`, `in-tab` and `tab-in`.
+-- Main laws: `below-at` and `below-of`; `least-is`, `least-by` and `searched`; `count-change`; `getD-tab`, `in-tab` and `tab-in`.
 use Prim.Native.Nat.{ℕ, zero, suc, _+_, _≤_, _<_}
 use mathlib.Core.Path.{_≡_, refl, sym, ap, _∙_, subst}
 use mathlib.Core.Logic.{_⊎_, inl, inr, _≢_, ⊎-elim}
@@ -179,6 +179,11 @@ module _ (p : ℕ → Bool) where
   pub least-by : (k d : ℕ) → First 0 k d → least k p ≡ d
   unfolding least
   least-by k d r = from-by k 0 d (subst (λ (b : ℕ). First 0 b d) (omega arith) r)
+
+  -- where a search has come to d: none before it passes, and d does, or d is the end
+  pub searched : (k d : ℕ) → d ≤ k → ((i : ℕ) → i < d → p i ≡ false) → (d < k → p d ≡ true) → d ≡ least k p
+  searched k d high before passes =
+      sym (least-by k d (record { low = omega arith; high = high; passes = passes; before = λ i _. before i }))
 
 -- every pair of numbers
 pub below-both : (p : ℕ → ℕ → Bool) (k l : ℕ) → allBelow k (λ a. allBelow l (p a)) ≡ true

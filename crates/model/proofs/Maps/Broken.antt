@@ -6,16 +6,15 @@ use mathlib.Core.Path.{_≡_, refl, sym, ap, _∙_, subst}
 use mathlib.Core.Bool.{true, false, not}
 use mathlib.Core.List.{List}
 use native.Mathlib.Omega.{arith}
-use lib.Dec.{eqb}
 use borrow.Author.Tests.{eqb-false, ne-eqb, not-true, not-false}
 use Rattle.model.specs.Lists.{least}
 use Rattle.model.specs.Table.{slots, link}
 use Rattle.model.specs.Map.{MapRule, links-live, links-return, pairs-commute, stays-flat, keepsAt, keepsRule}
 use Rattle.model.specs.Map.{breakingLink, keepsRules, breaksRule, leastBreaking, isMap}
 use Rattle.model.specs.Checks.{ruleNumber}
-use Rattle.model.specs.Meaning.Maps.{Breaks, BreaksFirst}
+use Rattle.model.specs.Meaning.Maps.{Breaks, byRule, BreaksFirst}
 use Rattle.model.proofs.Lists.Scan.{test, clash, if-lt}
-use Rattle.model.proofs.Lists.Scan.{First, least-is, least-by}
+use Rattle.model.proofs.Lists.Scan.{First, least-is, searched}
 use Rattle.model.proofs.Maps.Failing.{failing, fails-of}
 use Rattle.model.proofs.Maps.Rules.{breaks-exactly, keeps-at, keeps-rule, kept-by, keep-all}
 use Rattle.model.proofs.Maps.Exact.{least-breaking}
@@ -45,34 +44,23 @@ module _ (n : ℕ) (t : List ℕ) (d : ℕ) (r : MapRule) where
 
   pub link-is : (k : ℕ) → k < 4 → Breaks n t d r k → ((x : ℕ) → x < k → Breaks n t d r x → ⊥) → i ≡ k
   unfolding breakingLink
-  link-is k l b lower = least-by (λ i. not (keepsAt n t d r i)) 4 k (record {
-    low = omega arith;
-    high = omega arith;
-    passes = λ _. ap not (breaks-exactly n t d r k .1 b);
-    before = λ x _ u. ap not (keeps-at n t d r x (lower x u));
-  })
+  link-is k l b lower = sym (searched (λ i. not (keepsAt n t d r i)) 4 k (omega arith)
+      (λ x u. ap not (keeps-at n t d r x (lower x u))) (λ _. ap not (breaks-exactly n t d r k .1 b)))
 
 -- ---- the order of the rules
 
--- the rule that has the number
-ruleAt : ℕ → MapRule
-ruleAt k = elim (eqb k 5) [
-  | true ↦ links-live
-  | false ↦ (elim (eqb k 24) [
-    | true ↦ links-return
-    | false ↦ (elim (eqb k 25) [ true ↦ pairs-commute | false ↦ stays-flat ])
-  ])
-]
+pub by-rule : {A : Type 0} (f : MapRule → A) (z : A) (r : MapRule) → byRule f z (ruleNumber r) ≡ f r
+unfolding byRule ruleNumber
+by-rule f z links-live = refl
+by-rule f z links-return = refl
+by-rule f z pairs-commute = refl
+by-rule f z stays-flat = refl
 
-rule-at : (r : MapRule) → ruleAt (ruleNumber r) ≡ r
-unfolding ruleNumber ruleAt
-rule-at links-live = refl
-rule-at links-return = refl
-rule-at pairs-commute = refl
-rule-at stays-flat = refl
-
+-- each has a number of its own
 pub number-one : {r q : MapRule} → ruleNumber r ≡ ruleNumber q → r ≡ q
-number-one {r} {q} e = sym (rule-at r) ∙ ap ruleAt e ∙ rule-at q
+number-one {r} {q} e =
+    let rule = by-rule (λ r. r) links-live in
+    sym (rule r) ∙ ap (byRule (λ r. r) links-live) e ∙ rule q
 
 number-most : (r : MapRule) → ruleNumber r ≤ 26
 unfolding ruleNumber
@@ -173,7 +161,7 @@ module _ (n : ℕ) (t : List ℕ) (n3 : n ≤ 3) where
   broken-once {r} {q} {d} {e} {i} {k} f g =
       let a = of-broken f in
       let c = of-broken g in
-      let number : ruleNumber r ≡ ruleNumber q = if-lt (ruleNumber r) (ruleNumber q) (λ l. absurd (clash (c .earlier r l) (a .broken)))
-      (λ u. if-lt (ruleNumber q) (ruleNumber r) (λ l. absurd (clash (a .earlier q l) (c .broken))) (λ v. omega arith)) in
-      let rule : r ≡ q = number-one number in
+      let low : ruleNumber q ≤ ruleNumber r = if-lt _ _ (λ l. absurd (clash (c .earlier r l) (a .broken))) (λ l. l) in
+      let high : ruleNumber r ≤ ruleNumber q = if-lt _ _ (λ l. absurd (clash (a .earlier q l) (c .broken))) (λ l. l) in
+      let rule : r ≡ q = number-one (omega arith) in
       (rule, sym (a .place) ∙ c .place, sym (a .link) ∙ ap (breakingLink n t b) rule ∙ c .link)

@@ -9,8 +9,7 @@ use lib.ListN.{length, getD, set}
 use lib.Dec.{leb, eqb}
 use Rattle.model.specs.Lists.{count, ones}
 use Rattle.model.specs.Table.{slots}
-use Rattle.model.specs.Map.{MapRule, links-live, links-return, pairs-commute, stays-flat, breakingLink, isMap}
-use Rattle.model.specs.Map.{leastBreaking}
+use Rattle.model.specs.Map.{breakingLink, leastBreaking, isMap}
 use Rattle.model.specs.Cell.{cellSize, isBlock, leastWrong}
 use Rattle.model.specs.Orbit.{orbit, orbitPlace}
 use Rattle.model.specs.Sheet.{sheet, sheetMarks}
@@ -19,12 +18,13 @@ use Rattle.model.specs.Sew.{sewTable, unsewTable}
 use Rattle.model.specs.Remove.{removeTable}
 use Rattle.model.specs.Split.{splitSlots, splitTable}
 use Rattle.model.specs.Journal.{cursor, end, changesFrom, recordOf, written, changesAt, put, unbroken}
-use Rattle.model.specs.Checks.{Check, pass, refuse, must, inOrder, dimOk, tableOk, marksOk, journalOk, pairingOk, undoOk}
-use Rattle.model.specs.Checks.{redoOk}
+use Rattle.model.specs.Checks.{Check, pass, refuse, must, inOrder}
+use Rattle.model.specs.Checks.{dimOk, tableOk, marksOk, journalOk, pairingOk, undoOk, redoOk}
 use Rattle.model.specs.Checks.{checkChecks, orbitChecks, sheetChecks}
 use Rattle.model.specs.Checks.{addChecks, sidesChecks, sewChecks, unsewChecks, layerChecks, splitChecks, stepChecks}
 use Rattle.model.specs.Calls.{Outcome, refused}
 use Rattle.model.specs.Runs.{Call, doCall, Op, effect}
+use Rattle.model.specs.Meaning.Maps.{byRule}
 use Rattle.model.specs.Meaning.Sizes.{member}
 
 -- a table, marks and a journal that are lent to a call
@@ -107,19 +107,6 @@ Passed n t m j (Op.split d) =
     (inOrder (layerChecks n t m j d) ≡ pass) × (inOrder (splitChecks n t (sheet n t d) (ones (sheet n t d))) ≡ pass)
 
 -- ---- a refusal by the number k
-
--- what f gives for the rule that has the number k; where none has it, z
-unfoldable pub byRule : (MapRule → ℕ) → ℕ → ℕ → ℕ
-byRule f z k = elim (eqb k 5) [
-  | true ↦ f links-live
-  | false ↦ (elim (eqb k 24) [
-    | true ↦ f links-return
-    | false ↦ (elim (eqb k 25) [
-      | true ↦ f pairs-commute
-      | false ↦ (elim (eqb k 26) [ true ↦ f stays-flat | false ↦ z ])
-    ])
-  ])
-]
 
 -- "place is 0 but for 5 and 8", and 24 to 26, whose "place stays that slot"
 unfoldable pub refusalPlace : ℕ → List ℕ → ℕ → ℕ

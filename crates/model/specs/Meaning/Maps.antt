@@ -7,6 +7,7 @@ use mathlib.Core.Logic.{_≢_}
 use mathlib.Core.Bool.{true, false}
 use mathlib.Core.List.{List, [], _∷_}
 use lib.ListN.{length}
+use lib.Dec.{eqb}
 use Rattle.model.specs.Lists.{count}
 use Rattle.model.specs.Table.{slots, link, live, walk}
 use Rattle.model.specs.Map.{MapRule, links-live, links-return, pairs-commute, stays-flat, isMap}
@@ -32,6 +33,19 @@ Breaks n t d links-live i = live t (link t i d) ≡ false
 Breaks n t d links-return i = link t i (link t i d) ≢ d
 Breaks n t d pairs-commute i = (j : ℕ) × (i + 2 ≤ j) × (j ≤ n) × (link t j (link t i (link t j (link t i d))) ≢ d)
 Breaks n t d stays-flat i = (n ≡ 2) × (i ≡ 3) × (link t i d ≢ d)
+
+-- what f gives for the rule that has the number k; where none has it, z
+unfoldable pub byRule : {A : Type 0} → (MapRule → A) → A → ℕ → A
+byRule f z k = elim (eqb k 5) [
+  | true ↦ f links-live
+  | false ↦ (elim (eqb k 24) [
+    | true ↦ f links-return
+    | false ↦ (elim (eqb k 25) [
+      | true ↦ f pairs-commute
+      | false ↦ (elim (eqb k 26) [ true ↦ f stays-flat | false ↦ z ])
+    ])
+  ])
+]
 
 pub record Map (n : ℕ) (t : List ℕ) : Type 0 where
   pub rule : (d : ℕ) → d < slots t → live t d ≡ true → Rule n t d

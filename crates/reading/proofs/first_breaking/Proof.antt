@@ -6,7 +6,7 @@ use native.Mathlib.Omega.{arith}
 use borrow.Author.Count.{below-none, below-more}
 use Rattle.model.specs.Table.{slots}
 use Rattle.model.specs.Map.{breaksRule, leastBreaking}
-use Rattle.model.proofs.Lists.Scan.{least-by}
+use Rattle.model.proofs.Lists.Scan.{searched}
 use Rattle.reading.proofs.Passed.{table-passed}
 use Rattle.reading.proofs.first_breaking.Statement.{statement}
 use Rattle.reading.proofs.first_breaking.Tie as tie
@@ -32,12 +32,8 @@ returns c =
     let l = c .before .before .before in
     let a = l .before .before .before .args in
     let e = l .before .slots .ensures in
-    sym (least-by (breaksRule (a .n) (a .table .now)) (slots (a .table .now)) (l .loop .d) (record {
-      low = omega arith;
-      high = omega arith;
-      passes = λ _. sym (c .before .breaks-rule .ensures) ∙ c .if1 .taken;
-      before = λ k _ h. l .loop .inv .1 k h;
-    }))
+    searched (breaksRule (a .n) (a .table .now)) (slots (a .table .now)) _ (omega arith) (l .loop .inv .1)
+    (λ _. sym (c .before .breaks-rule .ensures) ∙ c .if1 .taken)
 
 add-d : tie.Need-add-d Inv-loop μ-loop
 add-d c =
@@ -60,12 +56,8 @@ returns-2 c =
     let l = c .before in
     let a = l .before .before .before .args in
     let e = l .before .slots .ensures in
-    sym (least-by (breaksRule (a .n) (a .table .now)) (slots (a .table .now)) (l .loop .d) (record {
-      low = omega arith;
-      high = omega arith;
-      passes = λ h. absurd (omega arith);
-      before = λ k _ h. l .loop .inv .1 k h;
-    }))
+    searched (breaksRule (a .n) (a .table .now)) (slots (a .table .now)) _ (omega arith) (l .loop .inv .1)
+    (λ h. absurd (omega arith))
 
 pub first-breaking-spec : {M : Type 1} → statement M
 first-breaking-spec =

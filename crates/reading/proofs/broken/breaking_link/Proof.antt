@@ -5,7 +5,7 @@ use mathlib.Core.Bool.{false, not}
 use native.Mathlib.Omega.{arith}
 use borrow.Author.Count.{below-none, below-more}
 use Rattle.model.specs.Map.{keepsAt, breakingLink}
-use Rattle.model.proofs.Lists.Scan.{least-by}
+use Rattle.model.proofs.Lists.Scan.{searched}
 use Rattle.reading.specs.RuleOf.{ruleOf}
 use Rattle.reading.proofs.broken.breaking_link.Statement.{statement}
 use Rattle.reading.proofs.broken.breaking_link.Tie as tie
@@ -30,12 +30,8 @@ unfolding breakingLink
 returns c =
     let l = c .before .before .before in
     let a = l .before .before .args in
-    sym (least-by (λ i. not (keepsAt (a .n) (a .table .now) (a .d) (ruleOf (a .rule)) i)) 4 (l .loop .i) (record {
-      low = omega arith;
-      high = omega arith;
-      passes = λ _. ap not (sym (c .before .keeps-at .ensures)) ∙ c .if1 .taken;
-      before = λ k _ h. l .loop .inv .1 k h;
-    }))
+    searched (λ i. not (keepsAt (a .n) (a .table .now) (a .d) (ruleOf (a .rule)) i)) 4 _ (l .loop .inv .0) (l .loop .inv .1)
+    (λ _. ap not (sym (c .before .keeps-at .ensures)) ∙ c .if1 .taken)
 
 add-i : tie.Need-add-i Inv-loop μ-loop
 add-i c = omega arith
@@ -53,12 +49,8 @@ unfolding breakingLink
 returns-2 c =
     let l = c .before in
     let a = l .before .before .args in
-    sym (least-by (λ i. not (keepsAt (a .n) (a .table .now) (a .d) (ruleOf (a .rule)) i)) 4 (l .loop .i) (record {
-      low = omega arith;
-      high = omega arith;
-      passes = λ h. absurd (omega arith);
-      before = λ k _ h. l .loop .inv .1 k h;
-    }))
+    searched (λ i. not (keepsAt (a .n) (a .table .now) (a .d) (ruleOf (a .rule)) i)) 4 _ (l .loop .inv .0) (l .loop .inv .1)
+    (λ h. absurd (omega arith))
 
 pub breaking-link-spec : {M : Type 1} → statement M
 breaking-link-spec =
