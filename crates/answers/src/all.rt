@@ -2,7 +2,7 @@
 ghost use Rattle.model.specs.Checks.{inOrder};
 ghost use Rattle.answers.specs.Openings.{openingChecks, Settles};
 use crate::Answer;
-use crate::broken::broken;
+use crate::broken::broken_rule;
 use crate::numbers;
 
 // Number 0 where these checks pass, else the refusal. Whether 3 and 4 pass the caller says: true, if it has no marks or no
@@ -24,7 +24,7 @@ pub fn opening(n: u32, table: &[u32], marks: bool, journal: bool) -> Answer
     }
     let least = reading::least_breaking(n, table);
     if least != reading::slots(table) {
-        return broken(n, table, least);
+        return broken_rule(n, table, least);
     }
     numbers::PASSED
 }

@@ -8,7 +8,7 @@ use crate::Answer;
 use reading::Rule;
 
 // The first rule that d breaks, with the least link that breaks it, where d is the least slot that breaks a rule.
-pub fn broken(n: u32, table: &[u32], d: u32) -> Answer
+pub fn broken_rule(n: u32, table: &[u32], d: u32) -> Answer
     requires { ⌜ (dimOk n ≡ pass) × (isMap n (now table) ≡ false) × (d ≡ leastBreaking n (now table)) ⌝ }
     ensures { λ r. ⌜ Settles r (inOrder (mapChecks n (now (table .entry)))) ⌝ }
 {
@@ -36,6 +36,7 @@ pub fn broken(n: u32, table: &[u32], d: u32) -> Answer
             count: lower,
         };
     }
+    // n is 2, and link 3 leaves d
     Answer {
         number: 26,
         place: d,

@@ -6,12 +6,11 @@ ghost use Rattle.model.specs.Map.{crossed, keepsAt, breakingLink};
 ghost use Rattle.model.specs.Checks.{pass, dimOk};
 ghost use Rattle.reading.specs.RuleOf.{ruleOf};
 
-// The rules of a map at a slot, in their order.
+// The rules of a map at a slot, in their order, but for the last: where no other is broken, it is that one, by link 3.
 pub enum Rule {
     LinksLive,
     LinksReturn,
     PairsCommute,
-    StaysFlat,
 }
 
 // Whether the pairs of link i with higher links commute at d.
@@ -38,7 +37,6 @@ fn keeps_at(n: u32, table: &[u32], d: u32, rule: Rule, i: usize) -> bool
         Rule::LinksLive => crate::live(table, crate::link(table, i, d)),
         Rule::LinksReturn => crate::turned(table, d, i),
         Rule::PairsCommute => pairs_commute(n, table, d, i),
-        Rule::StaysFlat => (n != 2) | (i != 3) | (crate::link(table, i, d) == d),
     }
 }
 

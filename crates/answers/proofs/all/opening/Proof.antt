@@ -76,9 +76,9 @@ slots-requires : tie.Need-slots-requires
 unfolding openingChecks
 slots-requires c κs = let p = journal (c .before) .passed in search
 
-broken-requires : tie.Need-broken-requires
+broken-rule-requires : tie.Need-broken-rule-requires
 unfolding openingChecks isMap
-broken-requires c κs =
+broken-rule-requires c κs =
     let end = c .before in
     let least = end .before in
     let p = journal (least .before) .passed in
@@ -89,7 +89,7 @@ returns-5 : tie.Need-returns-5
 unfolding openingChecks
 returns-5 c =
     let tested = journal (c .before .before .before .before) in
-    settles-behind (take 4 (checks (tested .entry))) _ (all-passed _ (tested .passed)) (c .broken .ensures)
+    settles-behind (take 4 (checks (tested .entry))) _ (all-passed _ (tested .passed)) (c .broken-rule .ensures)
 
 returns-6 : tie.Need-returns-6
 unfolding openingChecks mapChecks isMap
@@ -107,6 +107,6 @@ opening-spec =
     returns-4
     least-breaking-requires
     slots-requires
-    broken-requires
+    broken-rule-requires
     returns-5
     returns-6)

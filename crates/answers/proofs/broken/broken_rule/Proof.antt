@@ -1,4 +1,4 @@
--- `answers::broken::broken` meets its contract: the ladder of the rules of a map, of which one is broken.
+-- `answers::broken::broken_rule` meets its contract: the ladder of the rules of a map, of which one is broken.
 use mathlib.Core.List.{List}
 use borrow.Author.Needs.{needs}
 use Rattle.model.specs.Map.{links-live, links-return, pairs-commute}
@@ -8,8 +8,8 @@ use Rattle.model.proofs.Calls.Rules.{last-refused}
 use Rattle.answers.proofs.Ladder.{Rung, ground, up, out}
 use Rattle.answers.proofs.Verdicts.{rule-passes, rule-refuses}
 use Rattle.answers.proofs.Settled.{settles-refusal}
-use Rattle.answers.proofs.broken.broken.Statement.{statement}
-use Rattle.answers.proofs.broken.broken.Tie as tie
+use Rattle.answers.proofs.broken.broken_rule.Statement.{statement}
+use Rattle.answers.proofs.broken.broken_rule.Tie as tie
 
 abbrev checks : tie.Start → List Check
 checks p = mapChecks (p .args .n) (p .args .table .now)
@@ -76,8 +76,8 @@ returns-4 c =
     let p = s .passed in
     settles-refusal 25 (rw (q .2) (last-refused _ _ (dim-pass _ (q .0) .1) (q .1) (p .0) (p .1 .0) (p .1 .1 .0)))
 
-pub broken-spec : {M : Type 1} → statement M
-broken-spec =
+pub broken-rule-spec : {M : Type 1} → statement M
+broken-rule-spec =
     tie.close
     (tie.spec
     breaking-link-requires
