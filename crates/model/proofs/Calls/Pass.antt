@@ -31,7 +31,7 @@ use Rattle.model.specs.Meaning.Sets.{Marked}
 use Rattle.model.specs.Meaning.Sheets.{BlockDart}
 use Rattle.model.proofs.Lists.Scan.{clash, test, and-l, and-r, or-cases}
 use Rattle.model.proofs.Maps.Rules.{map-of}
-use Rattle.model.proofs.Maps.Broken.{some-broken, of-broken}
+use Rattle.model.proofs.Maps.Broken.{each-rule, some-broken, of-broken}
 use Rattle.model.proofs.Cells.Exact.{block-of}
 use Rattle.model.proofs.Calls.Tests.{or-holds}
 use Rattle.model.proofs.Calls.Checks.{must-at-0, not-pass, passed-at, passed-number, passed-append}
@@ -66,10 +66,7 @@ RulesPass n t = (r : MapRule) → ruleOk n t r ≡ pass
 
 pub rules-pass : (n : ℕ) (t : List ℕ) → ruleOk n t links-live ≡ pass → ruleOk n t links-return ≡ pass
     → ruleOk n t pairs-commute ≡ pass → ruleOk n t stays-flat ≡ pass → RulesPass n t
-rules-pass n t a b c d links-live = a
-rules-pass n t a b c d links-return = b
-rules-pass n t a b c d pairs-commute = c
-rules-pass n t a b c d stays-flat = d
+rules-pass n t = each-rule (λ r. ruleOk n t r ≡ pass)
 
 -- the least slot that breaks a rule keeps one that passes
 pub passed-keeps : (n : ℕ) (t : List ℕ) → isMap n t ≡ false → (r : MapRule) → ruleOk n t r ≡ pass

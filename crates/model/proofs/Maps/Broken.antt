@@ -7,14 +7,12 @@ use mathlib.Core.Bool.{true, false, not}
 use mathlib.Core.List.{List}
 use native.Mathlib.Omega.{arith}
 use borrow.Author.Tests.{eqb-false, ne-eqb, not-true, not-false}
-use Rattle.model.specs.Lists.{least}
-use Rattle.model.specs.Table.{slots, link}
+use Rattle.model.specs.Table.{slots}
 use Rattle.model.specs.Map.{MapRule, links-live, links-return, pairs-commute, stays-flat, keepsAt, keepsRule}
 use Rattle.model.specs.Map.{breakingLink, keepsRules, breaksRule, leastBreaking, isMap}
 use Rattle.model.specs.Checks.{ruleNumber}
 use Rattle.model.specs.Meaning.Maps.{Breaks, byRule, BreaksFirst}
-use Rattle.model.proofs.Lists.Scan.{test, clash, if-lt}
-use Rattle.model.proofs.Lists.Scan.{First, least-is, searched}
+use Rattle.model.proofs.Lists.Scan.{test, clash, if-lt, First, least-is, searched}
 use Rattle.model.proofs.Maps.Failing.{failing, fails-of}
 use Rattle.model.proofs.Maps.Rules.{breaks-exactly, keeps-at, keeps-rule, kept-by, keep-all}
 use Rattle.model.proofs.Maps.Exact.{least-breaking}
@@ -47,7 +45,13 @@ module _ (n : ℕ) (t : List ℕ) (d : ℕ) (r : MapRule) where
   link-is k l b lower = sym (searched (λ i. not (keepsAt n t d r i)) 4 k (omega arith)
       (λ x u. ap not (keeps-at n t d r x (lower x u))) (λ _. ap not (breaks-exactly n t d r k .1 b)))
 
--- ---- the order of the rules
+-- ---- the rules and their order
+
+pub each-rule : (P : MapRule → Type 0) → P links-live → P links-return → P pairs-commute → P stays-flat → (r : MapRule) → P r
+each-rule P a b c d links-live = a
+each-rule P a b c d links-return = b
+each-rule P a b c d pairs-commute = c
+each-rule P a b c d stays-flat = d
 
 pub by-rule : {A : Type 0} (f : MapRule → A) (z : A) (r : MapRule) → byRule f z (ruleNumber r) ≡ f r
 unfolding byRule ruleNumber
@@ -64,10 +68,7 @@ number-one {r} {q} e =
 
 number-most : (r : MapRule) → ruleNumber r ≤ 26
 unfolding ruleNumber
-number-most links-live = omega arith
-number-most links-return = omega arith
-number-most pairs-commute = omega arith
-number-most stays-flat = omega arith
+number-most = each-rule (λ r. ruleNumber r ≤ 26) (omega arith) (omega arith) (omega arith) (omega arith)
 
 -- what holds of every rule before r
 pub each-earlier : (P : MapRule → Type 0) (r : MapRule) → (5 < ruleNumber r → P links-live) → (24 < ruleNumber r → P links-return)
@@ -125,15 +126,10 @@ module _ (n : ℕ) (t : List ℕ) (n3 : n ≤ 3) where
             → (r : MapRule) × (d : ℕ) × (i : ℕ) × BreaksFirst n t r d i
         found r h lives back pairs = (r, b, breakingLink n t b r, broken-first r h (each-earlier Kept r lives back pairs))
 
-        every : Kept links-live → Kept links-return → Kept pairs-commute → Kept stays-flat → (r : MapRule) → Kept r
-        every lives back pairs flat links-live = lives
-        every lives back pairs flat links-return = back
-        every lives back pairs flat pairs-commute = pairs
-        every lives back pairs flat stays-flat = flat
-
         all-kept : Kept links-live → Kept links-return → Kept pairs-commute → Kept stays-flat → ⊥
         all-kept lives back pairs flat =
-            clash (keep-all n t b (every lives back pairs flat)) (fails-of t (keepsRules n t) b (breaking .passes slot) .1)
+            clash (keep-all n t b (each-rule Kept lives back pairs flat))
+            (fails-of t (keepsRules n t) b (breaking .passes slot) .1)
 
   -- what the tests say of it
   pub record Tested (r : MapRule) (d i : ℕ) : Type 0 where
