@@ -6,14 +6,13 @@ use mathlib.Core.List.{List, []}
 use lib.ListN.{length, getD, set}
 use lib.Dec.{leb}
 use Rattle.model.specs.Lists.{count, ones}
-use Rattle.model.specs.Table.{slots}
 use Rattle.model.specs.Map.{isMap}
 use Rattle.model.specs.Cell.{cellSize, isBlock}
 use Rattle.model.specs.Orbit.{orbit, orbitPlace}
 use Rattle.model.specs.Sheet.{sheet, sheetMarks}
 use Rattle.model.specs.Add.{addSlots, addTable}
 use Rattle.model.specs.Sew.{sewTable, unsewTable}
-use Rattle.model.specs.Remove.{removeTable}
+use Rattle.model.specs.Remove.{countMarked, removeTable}
 use Rattle.model.specs.Split.{splitSlots, splitTable}
 use Rattle.model.specs.Journal.{Change, cursor, changesFrom, recordOf, written, changesAt, put, unbroken}
 use Rattle.model.specs.Checks.{pass, refuse, inOrder, checkChecks, orbitChecks, sheetChecks, addChecks, sewChecks, unsewChecks}
@@ -111,7 +110,7 @@ removeCall n t m j d =
     elim (inOrder (layerChecks n t m j d)) [
       | pass ↦ (
           let marks = sheetMarks n t (sheet n t d) in
-          commit t (removeTable n t d) marks j 0 (λ cs. slots t - count 0 marks))
+          commit t (removeTable n t d) marks j 0 (λ cs. countMarked marks))
       | refuse k p q ↦ refused k p q t m j
     ]
 

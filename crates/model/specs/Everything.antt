@@ -8,12 +8,12 @@ use Rattle.model.specs.Cell.{leastWrong, isBlock}
 use Rattle.model.specs.Journal.{cursor, end, changesFrom, triples, recordOf, written, readChanges, changesAt, putNew}
 use Rattle.model.specs.Journal.{putOld, put, sound, unbroken}
 use Rattle.model.specs.Orbit.{bit, orbitWords, orbit, orbitPlace}
-use Rattle.model.specs.Sheet.{sheetWords, sheet, overlay, sheetMarks}
+use Rattle.model.specs.Sheet.{sheetWords, sheet, markOf, markAt, sheetMarks}
 use Rattle.model.specs.Add.{addSlots, addedLink, added, addTable}
 use Rattle.model.specs.Numbering.{corners, flip, firstBit, swapFirst, swapLast, cellLink}
 use Rattle.model.specs.Sew.{sideWords, side, coupleSteps, pairUp, partners, isPaired, sewnLink, sewn, sewTable, unsews}
 use Rattle.model.specs.Sew.{unsewnLink, unsewn, unsewTable}
-use Rattle.model.specs.Remove.{opposite, marked, outside, removedLink, removed, removeTable}
+use Rattle.model.specs.Remove.{opposite, marked, countMarked, outside, removedLink, removed, removeTable}
 use Rattle.model.specs.Split.{crosses, newDart, newDartLink, halvedLink, halved, splitSlots, splitTable}
 use Rattle.model.specs.Checks.{must, mustAt, andThen, inOrder, dimOk, tableOk, marksOk, journalOk, ruleNumber, ruleOk, mapChecks}
 use Rattle.model.specs.Checks.{indexOk, maskOk, dartOk, blockOk, apartOk, freeOk, sewnOk, pairingOk, crossingOk, addRoomOk}
@@ -51,7 +51,7 @@ unfolding bit orbitWords orbit orbitPlace
 openOrbit = tt
 
 unfoldable pub openSheet : Unit {0}
-unfolding sheetWords sheet overlay sheetMarks
+unfolding sheetWords sheet markOf markAt sheetMarks
 openSheet = tt
 
 unfoldable pub openAdd : Unit {0}
@@ -67,7 +67,7 @@ unfolding sideWords side coupleSteps pairUp partners isPaired sewnLink sewn sewT
 openSew = tt
 
 unfoldable pub openRemove : Unit {0}
-unfolding opposite marked outside removedLink removed removeTable
+unfolding opposite marked countMarked outside removedLink removed removeTable
 openRemove = tt
 
 unfoldable pub openSplit : Unit {0}

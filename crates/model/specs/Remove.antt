@@ -1,20 +1,25 @@
 -- remove d: "cells with marks 1 or 2 become unused. A remaining dart whose link n led into them gets the first dart
 -- outside on the walk: link n, then (opposite side, link n) again and again. Opposite side is 1.0.1 for n = 2 and
 -- 2.1.0.1.2 for n = 3. All else stays."
-use Prim.Native.Nat.{ℕ, zero, suc}
-use mathlib.Core.Bool.{Bool, true, false, not}
+use Prim.Native.Nat.{ℕ, zero, suc, _+_}
+use mathlib.Core.Bool.{Bool, true, false, _||_}
 use mathlib.Core.List.{List, [], _∷_}
 use lib.ListN.{getD}
 use lib.Dec.{eqb}
+use Rattle.model.specs.Lists.{count}
 use Rattle.model.specs.Table.{unused, slots, link, walk, retable}
 use Rattle.model.specs.Sheet.{sheet, sheetMarks}
 
 unfoldable pub opposite : ℕ → List ℕ
 opposite n = elim (eqb n 3) [ true ↦ 2 ∷ 1 ∷ 0 ∷ 1 ∷ 2 ∷ [] | false ↦ 1 ∷ 0 ∷ 1 ∷ [] ]
 
--- x has the mark 1 or 2
+-- x has the mark 1 or 2; 02's R-10: "3 counts as outside"
 unfoldable pub marked : List ℕ → ℕ → Bool
-marked m x = not (eqb (getD m x 0) 0)
+marked m x = eqb (getD m x 0) 1 || eqb (getD m x 0) 2
+
+-- how many marks are 1 or 2
+unfoldable pub countMarked : List ℕ → ℕ
+countMarked m = count 1 m + count 2 m
 
 -- the first dart outside from y on, by opposite side and link n
 unfoldable pub outside : ℕ → List ℕ → List ℕ → ℕ → ℕ → ℕ

@@ -56,6 +56,15 @@ foldedEdge =
 foldedFace : List Call
 foldedFace = Call.add ∷ Call.unsew 1 0 ∷ Call.unsew 1 19 ∷ Call.sew 3 0 3 ∷ Call.sew 1 0 16 ∷ []
 
+-- R-10: the marks of T's middle layer: 3 on 5, 7, 20 and 22
+middle : List ℕ
+middle =
+    0 ∷ 0 ∷ 0 ∷ 0 ∷ 0 ∷ 3 ∷ 0 ∷ 3 ∷ 1 ∷ 1 ∷ 1 ∷ 1 ∷ 2 ∷ 2 ∷ 2 ∷ 2 ∷ 0 ∷ 0 ∷ 0 ∷ 0 ∷ 3 ∷ 0 ∷ 3 ∷ 0 ∷ []
+
+-- R-10: Q's edge of 5 sewn to the edge that it faces, so that the layer of 0 touches itself
+ring : List Call
+ring = Call.add ∷ Call.sew 2 5 4 ∷ []
+
 -- label, dimension, slots, words of the journal, the calls before, the call, what is seen
 row : ℕ → ℕ → ℕ → ℕ → List Call → Call → List Seen → Case
 row l n s w before c ss = record { label = l; dim = n; start = begin s w; before = before; call = c; seen = ss }
@@ -105,10 +114,14 @@ cases =
     ∷ rowOn 10403 2 foldedEdge 200 (Call.sheet 5) (gives 8 0 0 ∷ marksAre (replicate 8 0) ∷ [])
     ∷ row 10404 3 48 2000 foldedFace Call.check (gives 0 0 1 ∷ goes 0 3 3 ∷ [])
     ∷ row 10405 3 48 2000 foldedFace (Call.sheet 47) (gives 8 0 0 ∷ [])
+    ∷ row 11001 2 24 600 three (Call.sheet 8) (gives 0 0 4 ∷ marksAre middle ∷ [])
+    ∷ row 11002 2 24 600 three (Call.remove 8) (gives 0 0 8 ∷ marksAre middle ∷ changes 36 ∷ [])
+    ∷ row 11003 2 24 600 three (Call.split 8) (gives 14 0 0 ∷ marksAre middle ∷ changes 0 ∷ [])
+    ∷ row 11004 2 8 200 ring (Call.sheet 0) (gives 0 0 4 ∷ marksAre (replicate 4 1 ++ replicate 4 2) ∷ [])
     ∷ []
 
 pub all-hold : failing cases ≡ []
-unfolding everything liveCount cases row rowOn quad three halves bent unlinked quadTable hexahedronTable damaged foldedEdge foldedFace failing holds holdsFrom seesAll sees begin beginOn doAll doCall keeping equal
+unfolding everything liveCount cases row rowOn quad three halves bent unlinked quadTable hexahedronTable damaged foldedEdge foldedFace middle ring failing holds holdsFrom seesAll sees begin beginOn doAll doCall keeping equal
 all-hold = refl
 
 -- 14: "262,144 entries pass check 2, 262,148 don't"

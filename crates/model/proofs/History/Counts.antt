@@ -1,28 +1,26 @@
 -- Counts are sizes. Of sew, unsew, undo and redo: the entries that changed, one at least (`sew-count`, ..). Of orbit and
 -- sheet: the darts of the set. Of add, remove and split: the darts of the new cell, of the removed cells, the new darts.
 -- `op-changes-some`: an accepted operation changes an entry.
-use Prim.Native.Nat.{ℕ, zero, suc, _+_, _*_, _-_, _<_}
+use Prim.Native.Nat.{ℕ, zero, suc, _+_, _*_, _<_}
 use mathlib.Core.Path.{_≡_, refl, sym, ap, _∙_}
 use mathlib.Core.Bool.{Bool, true, false, not, _&&_}
-use mathlib.Core.List.{List, [], _∷_}
-use native.Mathlib.Nat.{suc-inj}
+use mathlib.Core.List.{List}
 use native.Mathlib.Omega.{arith}
 use lib.ListN.{length, getD, drop}
 use lib.Dec.{eqb, leb}
 use borrow.Author.Tests.{eqb-false, not-true}
-use Rattle.model.specs.Lists.{count, onesFrom, ones}
-use Rattle.model.specs.Table.{slots}
-use Rattle.model.specs.Cell.{cellSize, cellWords, isBlock}
-use Rattle.model.specs.Reach.{closure}
+use Rattle.model.specs.Lists.{count}
+use Rattle.model.specs.Cell.{cellSize, isBlock}
 use Rattle.model.specs.Orbit.{orbit}
-use Rattle.model.specs.Sheet.{sheet, overlay, sheetMarks, sheetWords}
+use Rattle.model.specs.Sheet.{sheet}
+use Rattle.model.specs.Remove.{countMarked}
 use Rattle.model.specs.Journal.{end, changesFrom, changesAt, readChanges, put, sound, unbroken}
 use Rattle.model.specs.Checks.{stepChecks, undoOk, redoOk}
 use Rattle.model.specs.Calls.{Outcome}
 use Rattle.model.specs.Runs.{Call, doCall, Op, callOf, effect}
 use Rattle.model.specs.Meaning.Ends.{Passed, done, CountsChanges, checksOf, doneOf}
 use Rattle.model.proofs.Lists.Scan.{and-l, and-r}
-use Rattle.model.proofs.Sets.Closure.{closure-least}
+use Rattle.model.proofs.Sets.Sizes.{length-ones}
 use Rattle.model.proofs.Calls.Checks.{passed-at, passed-append}
 use Rattle.model.proofs.Calls.Pass.{step-pass}
 use Rattle.model.proofs.Calls.Ends.{call-passed, call-done, op-accepted}
@@ -119,44 +117,6 @@ module _ (n : ℕ) (o : Outcome) where
 
 -- ---- sets of darts
 
-length-ones : (l : List ℕ) (a : ℕ) → length (onesFrom a l) ≡ count 1 l
-unfolding onesFrom count
-length-ones [] a = refl
-length-ones (x ∷ l) a = go (eqb x 1) (length-ones l (suc a))
-  where
-    go : (b : Bool) → length (onesFrom (suc a) l) ≡ count 1 l
-        → length {A = ℕ} (elim b [ true ↦ a ∷ onesFrom (suc a) l | false ↦ onesFrom (suc a) l ])
-        ≡ elim b as (λ _. ℕ) [ true ↦ suc (count 1 l) | false ↦ count 1 l ]
-    go true e = ap suc e
-    go false e = e
-
--- marks are 0, 1 or 2
-marks-counts : (a b : List ℕ) → length a ≡ length b
-    → count 0 (overlay a b) + count 1 (overlay a b) + count 2 (overlay a b) ≡ length a
-unfolding overlay count
-marks-counts [] [] l = refl
-marks-counts [] (y ∷ b) l = absurd (omega arith)
-marks-counts (x ∷ a) [] l = absurd (omega arith)
-marks-counts (x ∷ a) (y ∷ b) l = go (eqb x 1) (eqb y 1) (marks-counts a b (suc-inj l))
-  where
-    mark : Bool → Bool → ℕ
-    mark p q = elim p [ true ↦ 1 | false ↦ (elim q [ true ↦ 2 | false ↦ 0 ]) ]
-
-    go : (p q : Bool) → count 0 (overlay a b) + count 1 (overlay a b) + count 2 (overlay a b) ≡ length a
-        → count 0 (mark p q ∷ overlay a b) + count 1 (mark p q ∷ overlay a b) + count 2 (mark p q ∷ overlay a b) ≡ suc (length a)
-    go true q e = omega arith
-    go false true e = omega arith
-    go false false e = omega arith
-
-removed-count : (n : ℕ) (t : List ℕ) (d : ℕ) → slots t - count 0 (sheetMarks n t (sheet n t d))
-    ≡ count 1 (sheetMarks n t (sheet n t d)) + count 2 (sheetMarks n t (sheet n t d))
-unfolding sheetMarks sheet
-removed-count n t d =
-    let s = closure-least t (sheetWords n) (d ∷ []) .long in
-    let c = closure-least t (cellWords n) (ones (sheet n t d)) .long in
-    let all = marks-counts (sheet n t d) (closure t (cellWords n) (ones (sheet n t d))) (s ∙ sym c) in
-    omega arith
-
 module _ (n : ℕ) (o : Outcome) where
   -- "count 1 for a map, 2 for a block map"
   pub check-count : doCall n o Call.check .number ≡ 0
@@ -188,8 +148,8 @@ module _ (n : ℕ) (o : Outcome) where
   pub remove-count : (d : ℕ) → doCall n o (Call.remove d) .number ≡ 0
       → doCall n o (Call.remove d) .count
       ≡ count 1 (doCall n o (Call.remove d) .marks) + count 2 (doCall n o (Call.remove d) .marks)
-  unfolding doneOf
-  remove-count d h = rw (call-done n o (Call.remove d) h) (removed-count n (o .table) d)
+  unfolding doneOf countMarked
+  remove-count d h = rw (call-done n o (Call.remove d) h)
 
   -- "Count: darts added": n for each dart of S
   pub split-count : (d : ℕ) → doCall n o (Call.split d) .number ≡ 0

@@ -93,6 +93,9 @@ pub howMany-total : (k : ℕ) (p : ℕ → Bool) → howMany k p ≡ total k 0 (
 unfolding howMany tabulate
 howMany-total k p = count-total p k 0
 
+pub howMany-same : (k : ℕ) (p q : ℕ → Bool) → ((x : ℕ) → x < k → p x ≡ q x) → howMany k p ≡ howMany k q
+howMany-same k p q h = rw (howMany-total k p, howMany-total k q) (total-same k 0 _ _ (λ x _ b. ap bit (h x (omega arith))))
+
 -- where f x is c for each x that p passes, and 1 more for each that q passes
 pub total-howMany : (c k : ℕ) (f : ℕ → ℕ) (p q : ℕ → Bool) → ((x : ℕ) → x < k → f x ≡ c * bit (p x) + bit (q x))
     → total k 0 f ≡ c * howMany k p + howMany k q

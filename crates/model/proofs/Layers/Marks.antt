@@ -1,71 +1,66 @@
--- The marks of a sheet S: "1 in S, 2 for other darts of cells that hold a dart of S, 0 elsewhere" (marks-one, marks-two,
--- marks-zero). They mark whole cells (sheet-layer).
-use Prim.Native.Nat.{ℕ, zero, suc, _<_}
-use mathlib.Core.Path.{_≡_, refl, sym, ap, _∙_, subst}
-use mathlib.Core.Logic.{_≢_, _↔_}
+-- The marks of a sheet S: "1 in S, 2 for other darts of cells that hold a dart of S", 3 for what touches these cells, "0
+-- elsewhere" (marks-one, marks-two, marks-three, marks-zero). 1 and 2 mark whole cells (sheet-layer).
+use Prim.Native.Nat.{ℕ, _≤_, _<_}
+use mathlib.Core.Path.{_≡_, sym, _∙_, subst}
+use mathlib.Core.Logic.{_⊎_, inl, inr, ⊎-elim, _≢_, _↔_}
 use mathlib.Core.Bool.{true, false}
 use mathlib.Core.List.{List, [], _∷_, List·Memᴰ as In, List·Memᴰ·eq-of-singleton as sole}
 use native.Mathlib.Omega.{arith}
-use lib.ListN.{length, getD}
+use lib.ListN.{length, getD, List·getD-eq-default}
 use lib.Dec.{eqb}
 use borrow.Author.Tests.{eq-eqb, ne-eqb}
 use Rattle.model.specs.Lists.{ones}
-use Rattle.model.specs.Table.{slots, link}
-use Rattle.model.specs.Reach.{steps, closure}
+use Rattle.model.specs.Table.{slots, link, live}
+use Rattle.model.specs.Reach.{steps, closure, inSet}
 use Rattle.model.specs.Cell.{cellWords, cellOf}
-use Rattle.model.specs.Sheet.{sheet, overlay, sheetMarks}
+use Rattle.model.specs.Sheet.{sheet, markOf, markAt, sheetMarks}
 use Rattle.model.specs.Remove.{marked}
 use Rattle.model.specs.Meaning.Maps.{MapTable}
 use Rattle.model.specs.Meaning.Sets.{Least, Marked}
-use Rattle.model.specs.Meaning.Sheets.{BlockDart, marksOf, InCells}
+use Rattle.model.specs.Meaning.Sheets.{BlockDart, marksOf, InCells, Touches}
 use Rattle.model.specs.Meaning.Walks.{Layer}
-use Rattle.model.proofs.Lists.Scan.{if-eq, clash}
+use Rattle.model.proofs.Lists.Scan.{or-i, test, if-eq, if-lt, clash, length-tab, getD-tab}
 use Rattle.model.proofs.Lists.Ones.{ones-of, ones-in}
-use Rattle.model.proofs.Sets.Closure.{closure-least}
-use Rattle.model.proofs.Maps.Tables.{mapTable}
+use Rattle.model.proofs.Sets.Closure.{closure-least, marked-in}
+use Rattle.model.proofs.Maps.Tables.{mapTable, live-below}
 use Rattle.model.proofs.Cells.Cell.{cell-own, cell-live, cell-goes}
+use Rattle.model.proofs.Sewing.Side.{live-before}
 use Rattle.model.proofs.Layers.Sheet.{sheet-least, sheet-own, sheet-live}
 
--- ---- two sets laid one over the other
+-- ---- the mark by what holds of a dart
 
-over : ℕ → ℕ → ℕ
-over x y = elim (eqb x 1) [ true ↦ 1 | false ↦ (elim (eqb y 1) [ true ↦ 2 | false ↦ 0 ]) ]
+module _ (n : ℕ) (t s c : List ℕ) (x : ℕ) where
+  pub mark-within : Marked s x → markAt n t s c x ≡ 1
+  unfolding markAt markOf inSet
+  mark-within h = rw (eq-eqb (getD s x 0) 1 h, markOf)
 
-over-one : (x y : ℕ) → x ≡ 1 → over x y ≡ 1
-unfolding over
-over-one x y e = rw (eq-eqb x 1 e, over)
+  module _ (out : Marked s x → ⊥) where
+    pub mark-beside : Marked c x → markAt n t s c x ≡ 2
+    unfolding markAt markOf inSet
+    mark-beside h = rw (ne-eqb (getD s x 0) 1 out, eq-eqb (getD c x 0) 1 h, markOf)
 
-over-two : (x y : ℕ) → x ≢ 1 → y ≡ 1 → over x y ≡ 2
-unfolding over
-over-two x y e f = rw (ne-eqb x 1 e, eq-eqb y 1 f, over)
+    module _ (off : Marked c x → ⊥) where
+      pub mark-touching : live t x ≡ true → Marked c (link t n x) → markAt n t s c x ≡ 3
+      unfolding markAt markOf inSet
+      mark-touching l h =
+          rw (ne-eqb (getD s x 0) 1 out, ne-eqb (getD c x 0) 1 off, l, eq-eqb (getD c (link t n x) 0) 1 h, markOf)
 
-over-zero : (x y : ℕ) → x ≢ 1 → y ≢ 1 → over x y ≡ 0
-unfolding over
-over-zero x y e f = rw (ne-eqb x 1 e, ne-eqb y 1 f, over)
+      pub mark-none : (live t x ≡ true → Marked c (link t n x) → ⊥) → markAt n t s c x ≡ 0
+      unfolding markAt markOf inSet
+      mark-none no-lead = test (live t x)
+          (λ l. rw (ne-eqb (getD s x 0) 1 out, ne-eqb (getD c x 0) 1 off, l, ne-eqb (getD c (link t n x) 0) 1 (no-lead l), markOf))
+          (λ l. rw (ne-eqb (getD s x 0) 1 out, ne-eqb (getD c x 0) 1 off, l, markOf))
 
-overlay-at : (r s : List ℕ) (x : ℕ) → length r ≡ length s → getD (overlay r s) x 0 ≡ over (getD r x 0) (getD s x 0)
-unfolding overlay over
-overlay-at [] [] x l = refl
-overlay-at [] (z ∷ s) x l = absurd (omega arith)
-overlay-at (y ∷ r) [] x l = absurd (omega arith)
-overlay-at (y ∷ r) (z ∷ s) zero l = refl
-overlay-at (y ∷ r) (z ∷ s) (suc x) l = overlay-at r s x (omega arith)
+-- ---- 1 or 2, and neither
 
-overlay-long : (r s : List ℕ) → length r ≡ length s → length (overlay r s) ≡ length r
-unfolding overlay
-overlay-long [] s l = refl
-overlay-long (y ∷ r) [] l = absurd (omega arith)
-overlay-long (y ∷ r) (z ∷ s) l = ap suc (overlay-long r s (omega arith))
-
--- ---- a mark that is not 0
-
-marked-of : (m : List ℕ) (x : ℕ) → getD m x 0 ≢ 0 → marked m x ≡ true
+pub marked-of : (m : List ℕ) (x : ℕ) → (getD m x 0 ≡ 1) ⊎ (getD m x 0 ≡ 2) → marked m x ≡ true
 unfolding marked
-marked-of m x h = rw (ne-eqb (getD m x 0) 0 h)
+marked-of m x h =
+    or-i (eqb (getD m x 0) 1) (eqb (getD m x 0) 2) (⊎-elim (λ e. inl (eq-eqb _ 1 e)) (λ e. inr (eq-eqb _ 2 e)) h)
 
-of-marked : (m : List ℕ) (x : ℕ) → marked m x ≡ true → getD m x 0 ≢ 0
+pub unmarked-of : (m : List ℕ) (x : ℕ) → getD m x 0 ≢ 1 → getD m x 0 ≢ 2 → marked m x ≡ false
 unfolding marked
-of-marked m x h e = clash h (rw (eq-eqb (getD m x 0) 0 e))
+unmarked-of m x one two = rw (ne-eqb (getD m x 0) 1 one, ne-eqb (getD m x 0) 2 two)
 
 -- ---- the marks of a sheet
 
@@ -75,6 +70,9 @@ module _ {n : ℕ} {t : List ℕ} {d : ℕ} (D : BlockDart n t d) where
 
   abbrev T : MapTable n t
   T = mapTable (D .table)
+
+  abbrev m : List ℕ
+  m = marksOf n t d
 
   abbrev cells : List ℕ
   cells = closure t (cellWords n) (ones S)
@@ -100,23 +98,40 @@ module _ {n : ℕ} {t : List ℕ} {d : ℕ} (D : BlockDart n t d) where
       (λ y i low. cells-least .holds y (ones-in S y (subst (Marked S) (sym (sole i)) h)) low)
       (λ y z _ p i low. cells-least .closed y z p i low) x c
 
-  -- the three cases of a dart, and its mark
+  -- the four cases of a dart, and its mark
   data Mark (x : ℕ) : Type 0 where
     within : Marked S x → getD (marksOf n t d) x 0 ≡ 1 → Mark x
     beside : (Marked S x → ⊥) → InCells n t S x → getD (marksOf n t d) x 0 ≡ 2 → Mark x
-    elsewhere : (Marked S x → ⊥) → (InCells n t S x → ⊥) → getD (marksOf n t d) x 0 ≡ 0 → Mark x
+    touching : Touches n t S x → getD (marksOf n t d) x 0 ≡ 3 → Mark x
+    elsewhere : (InCells n t S x → ⊥) → (Touches n t S x → ⊥) → getD (marksOf n t d) x 0 ≡ 0 → Mark x
 
-  same-long : length S ≡ length cells
-  same-long = sheet-least D .long ∙ sym (cells-least .long)
-
-  mark-at : (x : ℕ) → getD (marksOf n t d) x 0 ≡ over (getD S x 0) (getD cells x 0)
+  marks-long : length (marksOf n t d) ≡ slots t
   unfolding sheetMarks
-  mark-at x = overlay-at S cells x same-long
+  marks-long = length-tab (markAt n t S cells) (slots t)
+
+  mark-at : (x : ℕ) → getD (marksOf n t d) x 0 ≡ markAt n t S cells x
+  unfolding sheetMarks
+  mark-at x = if-lt x (slots t) (getD-tab (markAt n t S cells) (slots t) x 0) (λ high.
+      List·getD-eq-default (marksOf n t d) 0 (rw marks-long high)
+      ∙ sym (mark-none n t S cells x (past S (sheet-least D .long) high) (past cells (cells-least .long) high)
+      (λ l. absurd (let low = live-below T x l in omega arith))))
+    where
+      past : (s : List ℕ) → length s ≡ slots t → slots t ≤ x → Marked s x → ⊥
+      past s long high h = let low = marked-in s x h in omega arith
 
   mark-of : (x : ℕ) → Mark x
-  mark-of x = if-eq (getD S x 0) 1 (λ h. within h (mark-at x ∙ over-one _ _ h)) (λ h. if-eq (getD cells x 0) 1
-      (λ c. beside h (cells-of x c) (mark-at x ∙ over-two _ _ h c))
-      (λ c. elsewhere h (λ i. c (of-cells x i)) (mark-at x ∙ over-zero _ _ h c)))
+  mark-of x = if-eq (getD S x 0) 1 (λ h. within h (mark-at x ∙ mark-within n t S cells x h)) (λ h. if-eq (getD cells x 0) 1
+      (λ c. beside h (cells-of x c) (mark-at x ∙ mark-beside n t S cells x h c))
+      (λ c. test (live t x)
+      (λ l. if-eq (getD cells (link t n x) 0) 1
+      (λ e. touching (l, (λ i. c (of-cells x i)), cells-of (link t n x) e) (mark-at x ∙ mark-touching n t S cells x h c l e))
+      (λ e. elsewhere (λ i. c (of-cells x i)) (λ k. e (of-cells (link t n x) (k .2)))
+      (mark-at x ∙ mark-none n t S cells x h c (λ _. e))))
+      (λ l. elsewhere (λ i. c (of-cells x i)) (λ k. clash (k .0) l)
+      (mark-at x ∙ mark-none n t S cells x h c (λ k. absurd (clash k l))))))
+
+  own-cell : (x : ℕ) → Marked S x → InCells n t S x
+  own-cell x h = (x, h, sheet-cell x h)
 
   pub marks-one : (x : ℕ) → (getD (marksOf n t d) x 0 ≡ 1) ↔ Marked (sheet n t d) x
   marks-one x = go (mark-of x)
@@ -124,7 +139,8 @@ module _ {n : ℕ} {t : List ℕ} {d : ℕ} (D : BlockDart n t d) where
       go : Mark x → (getD (marksOf n t d) x 0 ≡ 1) ↔ Marked S x
       go (within h e) = (λ _. h, λ _. e)
       go (beside h c e) = (λ f. absurd (omega arith), λ k. absurd (h k))
-      go (elsewhere h c e) = (λ f. absurd (omega arith), λ k. absurd (h k))
+      go (touching p e) = (λ f. absurd (omega arith), λ k. absurd (p .1 (own-cell x k)))
+      go (elsewhere c p e) = (λ f. absurd (omega arith), λ k. absurd (c (own-cell x k)))
 
   pub marks-two : (x : ℕ) → (getD (marksOf n t d) x 0 ≡ 2) ↔ ((Marked (sheet n t d) x → ⊥) × InCells n t (sheet n t d) x)
   marks-two x = go (mark-of x)
@@ -132,37 +148,69 @@ module _ {n : ℕ} {t : List ℕ} {d : ℕ} (D : BlockDart n t d) where
       go : Mark x → (getD (marksOf n t d) x 0 ≡ 2) ↔ ((Marked S x → ⊥) × InCells n t S x)
       go (within h e) = (λ f. absurd (omega arith), λ k. absurd (k .0 h))
       go (beside h c e) = (λ _. (h, c), λ _. e)
-      go (elsewhere h c e) = (λ f. absurd (omega arith), λ k. absurd (c (k .1)))
+      go (touching p e) = (λ f. absurd (omega arith), λ k. absurd (p .1 (k .1)))
+      go (elsewhere c p e) = (λ f. absurd (omega arith), λ k. absurd (c (k .1)))
 
-  pub marks-zero : (x : ℕ) → (getD (marksOf n t d) x 0 ≡ 0) ↔ ((Marked (sheet n t d) x → ⊥) × (InCells n t (sheet n t d) x → ⊥))
+  pub marks-three : (x : ℕ) → (getD (marksOf n t d) x 0 ≡ 3) ↔ Touches n t (sheet n t d) x
+  marks-three x = go (mark-of x)
+    where
+      go : Mark x → (getD (marksOf n t d) x 0 ≡ 3) ↔ Touches n t S x
+      go (within h e) = (λ f. absurd (omega arith), λ k. absurd (k .1 (own-cell x h)))
+      go (beside h c e) = (λ f. absurd (omega arith), λ k. absurd (k .1 c))
+      go (touching p e) = (λ _. p, λ _. e)
+      go (elsewhere c p e) = (λ f. absurd (omega arith), λ k. absurd (p k))
+
+  pub marks-zero : (x : ℕ) → (getD (marksOf n t d) x 0 ≡ 0)
+      ↔ ((Marked (sheet n t d) x → ⊥) × (InCells n t (sheet n t d) x → ⊥) × (Touches n t (sheet n t d) x → ⊥))
   marks-zero x = go (mark-of x)
     where
-      go : Mark x → (getD (marksOf n t d) x 0 ≡ 0) ↔ ((Marked S x → ⊥) × (InCells n t S x → ⊥))
+      go : Mark x → (getD (marksOf n t d) x 0 ≡ 0) ↔ ((Marked S x → ⊥) × (InCells n t S x → ⊥) × (Touches n t S x → ⊥))
       go (within h e) = (λ f. absurd (omega arith), λ k. absurd (k .0 h))
       go (beside h c e) = (λ f. absurd (omega arith), λ k. absurd (k .1 c))
-      go (elsewhere h c e) = (λ _. (h, c), λ _. e)
+      go (touching p e) = (λ f. absurd (omega arith), λ k. absurd (k .2 p))
+      go (elsewhere c p e) = (λ _. ((λ h. c (own-cell x h)), c, p), λ _. e)
 
   -- 1 or 2 exactly in the cells that hold a dart of S
   pub marks-cells : (x : ℕ) → (marked (marksOf n t d) x ≡ true) ↔ InCells n t (sheet n t d) x
   marks-cells x = go (mark-of x)
     where
-      go : Mark x → (marked (marksOf n t d) x ≡ true) ↔ InCells n t S x
-      go (within h e) = (λ _. (x, h, sheet-cell x h), λ _. marked-of (marksOf n t d) x (omega arith))
-      go (beside h c e) = (λ _. c, λ _. marked-of (marksOf n t d) x (omega arith))
-      go (elsewhere h c e) = (λ k. absurd (of-marked (marksOf n t d) x k e), λ i. absurd (c i))
+      neither : getD m x 0 ≢ 1 → getD m x 0 ≢ 2 → (InCells n t S x → ⊥) → (marked m x ≡ true) ↔ InCells n t S x
+      neither one two c = (λ k. absurd (clash k (unmarked-of m x one two)), λ i. absurd (c i))
+
+      go : Mark x → (marked m x ≡ true) ↔ InCells n t S x
+      go (within h e) = (λ _. own-cell x h, λ _. marked-of m x (inl e))
+      go (beside h c e) = (λ _. c, λ _. marked-of m x (inr e))
+      go (touching p e) = neither (λ f. omega arith) (λ f. omega arith) (p .1)
+      go (elsewhere c p e) = neither (λ f. omega arith) (λ f. omega arith) c
+
+  -- outside is 0 or 3
+  pub marks-outside : (x : ℕ) → (marked (marksOf n t d) x ≡ false)
+      ↔ ((getD (marksOf n t d) x 0 ≡ 0) ⊎ (getD (marksOf n t d) x 0 ≡ 3))
+  marks-outside x = go (mark-of x)
+    where
+      inside : marked m x ≡ true → getD m x 0 ≢ 0 → getD m x 0 ≢ 3 → (marked m x ≡ false) ↔ ((getD m x 0 ≡ 0) ⊎ (getD m x 0 ≡ 3))
+      inside h zero three = (λ k. absurd (clash h k), λ k. absurd (⊎-elim zero three k))
+
+      go : Mark x → (marked m x ≡ false) ↔ ((getD m x 0 ≡ 0) ⊎ (getD m x 0 ≡ 3))
+      go (within h e) = inside (marked-of m x (inl e)) (λ f. omega arith) (λ f. omega arith)
+      go (beside h c e) = inside (marked-of m x (inr e)) (λ f. omega arith) (λ f. omega arith)
+      go (touching p e) = (λ _. inr e, λ _. unmarked-of m x (λ f. omega arith) (λ f. omega arith))
+      go (elsewhere c p e) = (λ _. inl e, λ _. unmarked-of m x (λ f. omega arith) (λ f. omega arith))
 
   pub marks-own : marked (marksOf n t d) d ≡ true
-  marks-own = marks-cells d .1 (d, sheet-own D, sheet-cell d (sheet-own D))
-
-  marks-long : length (marksOf n t d) ≡ slots t
-  unfolding sheetMarks
-  marks-long = overlay-long S cells same-long ∙ sheet-least D .long
+  marks-own = marks-cells d .1 (own-cell d (sheet-own D))
 
   pub sheet-layer : Layer n t (marksOf n t d)
   sheet-layer = record {
     table = D .table;
     long = marks-long;
-    lives = λ x h. let (g, i, c) = marks-cells x .0 h in cell-live T g (sheet-live D g i) x c;
+    lives = lives;
     closed = λ x j low h. let (g, i, c) = marks-cells x .0 h in
         marks-cells (link t j x) .1 (g, i, cell-goes T g (sheet-live D g i) x j c low);
+    beside = λ x h e.
+        let (_, off, apart) = marks-zero x .0 e in
+        apart (live-before T x n (omega arith) (lives (link t n x) h), off, marks-cells (link t n x) .0 h);
   }
+    where
+      lives : (x : ℕ) → marked (marksOf n t d) x ≡ true → live t x ≡ true
+      lives x h = let (g, i, c) = marks-cells x .0 h in cell-live T g (sheet-live D g i) x c

@@ -19,12 +19,12 @@ use Rattle.model.specs.Meaning.Sets.{Marked}
 use Rattle.model.specs.Meaning.Sheets.{BlockDart, marksOf}
 use Rattle.model.specs.Meaning.Walks.{Layer, Reaches, arrived, FirstOutside, Removes}
 use Rattle.model.proofs.Lists.Scan.{test, if-eq, if-lt, clash}
-use Rattle.model.proofs.Maps.Rules.{live-in, dead-by, dead-link, link-out, length-retable, link-retable, slots-retable}
+use Rattle.model.proofs.Maps.Rules.{live-in, dead-by, link-out, length-retable, link-retable, slots-retable}
 use Rattle.model.proofs.Maps.Dim.{size-some}
 use Rattle.model.proofs.Maps.Tables.{mapTable, live-below, rule-at}
 use Rattle.model.proofs.Cells.Chart.{Ruled, ruled-table, live-of, of-live, live-same}
 use Rattle.model.proofs.Cells.Chart.{block-by, Charted, place-chart, place-zero, place-live, place-keep, chart-kept}
-use Rattle.model.proofs.Sewing.Side.{on-side, side-within, side-shrinks}
+use Rattle.model.proofs.Sewing.Side.{live-before, on-side, side-within, side-shrinks}
 use Rattle.model.proofs.Operations.Frame.{outside-stops}
 use Rattle.model.proofs.Layers.Walk.{outside-unique, stays-outside, walk-ends, walk-live, walk-back, walk-far, walk-turns}
 use Rattle.model.proofs.Layers.Mirror.{walk-own}
@@ -57,11 +57,7 @@ module _ {n : ℕ} {t m : List ℕ} (L : Layer n t m) where
   unmarked x dead = test (marked m x) (λ e. absurd (clash (L .lives x e) dead)) (λ e. e)
 
   pub next-lives : (x : ℕ) → marked m (link t n x) ≡ true → live t x ≡ true
-  next-lives x e = test (live t x) (λ l. l) (λ dead.
-      let below = live-in t (link t n x) whole (L .lives (link t n x) e) in
-      let few = L .table .few in
-      let at = dead-link t x dead n low in
-      absurd (omega arith))
+  next-lives x e = live-before (mapTable (L .table)) x n low (L .lives (link t n x) e)
 
   -- link j of x is v, where the rule gives v, and v is `unused` past the slots
   new-link : (x j v : ℕ) → j < 4 → removedLink n t m x j ≡ v → (slots t ≤ x → unused ≡ v) → link (removed n t m) j x ≡ v

@@ -1,43 +1,55 @@
 -- remove in numbers: the darts that it takes away (`removed-number`, `remove-lives`), and the entries that it changes
 -- (`remove-changes`).
-use Prim.Native.Nat.{ℕ, _+_, _*_, _-_, _<_}
+use Prim.Native.Nat.{ℕ, _+_, _*_, _<_}
 use mathlib.Core.Path.{_≡_, refl, sym, ap, _∙_}
-use mathlib.Core.Logic.{_≢_}
-use mathlib.Core.Bool.{Bool, true, false}
+use mathlib.Core.Logic.{inr, ⊎-elim, _≢_}
+use mathlib.Core.Bool.{Bool, true, false, not, _&&_}
 use mathlib.Core.List.{List, [], _∷_}
 use native.Mathlib.Omega.{arith}
-use lib.ListN.{length}
+use lib.ListN.{length, getD}
 use lib.Dec.{eqb}
+use borrow.Author.Tests.{eq-eqb, ne-eqb}
 use Rattle.model.specs.Lists.{count}
 use Rattle.model.specs.Table.{slots, link, live}
 use Rattle.model.specs.Journal.{changesFrom}
-use Rattle.model.specs.Remove.{marked, removeTable}
+use Rattle.model.specs.Remove.{marked, countMarked, removeTable}
 use Rattle.model.specs.Meaning.Sizes.{liveCount}
 use Rattle.model.specs.Meaning.Maps.{Dim}
 use Rattle.model.specs.Meaning.Sheets.{BlockDart, marksOf, howMany}
 use Rattle.model.specs.Meaning.Walks.{Layer, Removes, borders}
-use Rattle.model.proofs.Lists.Scan.{test, clash}
+use Rattle.model.proofs.Lists.Scan.{test, if-eq, clash}
 use Rattle.model.proofs.Maps.Dim.{two-cases}
 use Rattle.model.proofs.Maps.Tables.{mapTable, live-below, rule-at}
-use Rattle.model.proofs.Layers.Counts.{bit, total, total-shift, howMany-total, total-howMany}
+use Rattle.model.proofs.Layers.Counts.{bit, total, total-shift, howMany-same, howMany-total, total-howMany}
 use Rattle.model.proofs.Layers.Counts.{changed, changed-of, changed-not, changedAt, changes-total}
-use Rattle.model.proofs.Layers.Marks.{sheet-layer}
+use Rattle.model.proofs.Layers.Marks.{marks-three, marks-cells, marks-outside, sheet-layer}
 use Rattle.model.proofs.Layers.Remove.{layer-slots, layer-live, remove-removes}
 
 -- ---- the darts taken away
 
--- the marks that are not 0
-count-marked : (m : List ℕ) → length m ≡ count 0 m + total (length m) 0 (λ x. bit (marked m x))
-unfolding count total marked
-count-marked [] = refl
-count-marked (y ∷ m) =
-    let rec = count-marked m in
-    let next = total-shift (length m) 0 (λ x. bit (marked (y ∷ m) x)) in
-    test (eqb y 0) (λ e. rw (e, count) (omega arith)) (λ e. rw (e, count) (omega arith))
+-- the mark v, by its places
+count-total : (v : ℕ) (m : List ℕ) → count v m ≡ total (length m) 0 (λ x. bit (eqb (getD m x 0) v))
+unfolding count total
+count-total v [] = refl
+count-total v (y ∷ m) =
+    let rec = count-total v m in
+    let next = total-shift (length m) 0 (λ x. bit (eqb (getD (y ∷ m) x 0) v)) in
+    test (eqb y v) (λ e. rw (e, count) (omega arith)) (λ e. rw (e, count) (omega arith))
 
-layer-count : {n : ℕ} {t m : List ℕ} → Layer n t m → slots t - count 0 m ≡ howMany (slots t) (marked m)
+count-many : (v : ℕ) (m : List ℕ) → count v m ≡ howMany (length m) (λ x. eqb (getD m x 0) v)
+count-many v m = count-total v m ∙ sym (howMany-total (length m) (λ x. eqb (getD m x 0) v))
+
+one-or-two : (m : List ℕ) (x : ℕ) → bit (marked m x) ≡ 1 * bit (eqb (getD m x 0) 1) + bit (eqb (getD m x 0) 2)
+unfolding marked
+one-or-two m x = if-eq (getD m x 0) 1 (λ e. rw e) (λ e. rw (ne-eqb (getD m x 0) 1 e) (omega arith))
+
+layer-count : {n : ℕ} {t m : List ℕ} → Layer n t m → countMarked m ≡ howMany (slots t) (marked m)
+unfolding countMarked
 layer-count {n} {t} {m} L =
-    let all = count-marked m in
+    let one = count-many 1 m in
+    let two = count-many 2 m in
+    let both = total-howMany 1 (length m) (λ x. bit (marked m x)) (λ x. eqb (getD m x 0) 1) (λ x. eqb (getD m x 0) 2)
+        (λ x _. one-or-two m x) in
     let same = howMany-total (length m) (marked m) in
     rw (← (L .long)) (omega arith)
 
@@ -51,7 +63,7 @@ module _ {n : ℕ} {t m u : List ℕ} (L : Layer n t m) (R : Removes n t m u) wh
       dead : (x : ℕ) → ((live t x ≡ true) × (marked m x ≡ false) → ⊥) → live u x ≡ false
       dead x h = test (live u x) (λ l. absurd (h (layer-live L R x .0 l))) (λ l. l)
 
-  layer-lives : liveCount t ≡ liveCount u + (slots t - count 0 m)
+  layer-lives : liveCount t ≡ liveCount u + countMarked m
   unfolding liveCount howMany
   layer-lives = rw (layer-count L, layer-slots L R)
       (howMany-total (slots t) (live t)
@@ -90,21 +102,45 @@ module _ {n : ℕ} {t m u : List ℕ} (L : Layer n t m) (R : Removes n t m u) wh
           (λ next. changed-of t u x n (λ same. clash (ap (marked m) (sym same) ∙ next) (R .found x e next .outside)) ∙ sym next)
           (λ next. changed-not t u x n (sym (R .keeps x e next)) ∙ sym next)
 
-  layer-changes : length (changesFrom 0 t u) ≡ 4 * (slots t - count 0 m) + howMany (slots t) (borders n t m)
+  layer-changes : length (changesFrom 0 t u) ≡ 4 * countMarked m + howMany (slots t) (borders n t m)
   layer-changes = rw (layer-count L) (changes-total t u (L .table .whole) (R .long)
       ∙ total-howMany 4 (slots t) (changedAt t u) (marked m) (borders n t m) (λ x _. slot-changes x))
 
 -- ---- remove
 
 module _ {n : ℕ} {t : List ℕ} {d : ℕ} (D : BlockDart n t d) where
+  abbrev m : List ℕ
+  m = marksOf n t d
+
   -- "Count: darts removed": those with the mark 1 or 2
-  pub removed-number : slots t - count 0 (marksOf n t d) ≡ howMany (slots t) (marked (marksOf n t d))
+  pub removed-number : countMarked (marksOf n t d) ≡ howMany (slots t) (marked (marksOf n t d))
   removed-number = layer-count (sheet-layer D)
 
-  pub remove-lives : liveCount t ≡ liveCount (removeTable n t d) + (slots t - count 0 (marksOf n t d))
+  pub remove-lives : liveCount t ≡ liveCount (removeTable n t d) + countMarked (marksOf n t d)
   remove-lives = layer-lives (sheet-layer D) (remove-removes D)
 
-  -- four entries of each dart removed, and link n of each dart that remains and had it among them
+  -- a dart has the mark 3 exactly if it remains and its link n led to a dart removed
+  marks-borders : (x : ℕ) → borders n t (marksOf n t d) x ≡ eqb (getD (marksOf n t d) x 0) 3
+  unfolding borders
+  marks-borders x = if-eq (getD m x 0) 3 touched apart
+    where
+      touched : getD m x 0 ≡ 3 → (not (marked m x) && marked m (link t n x)) ≡ eqb (getD m x 0) 3
+      touched e =
+          let (_, _, into) = marks-three D x .0 e in
+          rw (marks-outside D x .1 (inr e), marks-cells D (link t n x) .1 into, eq-eqb (getD m x 0) 3 e)
+
+      apart : getD m x 0 ≢ 3 → (not (marked m x) && marked m (link t n x)) ≡ eqb (getD m x 0) 3
+      apart ne = test (marked m x) (λ e. rw (e, ne-eqb (getD m x 0) 3 ne)) (λ e. test (marked m (link t n x))
+          (λ next. absurd (⊎-elim (sheet-layer D .beside x next) ne (marks-outside D x .0 e)))
+          (λ next. rw (e, next, ne-eqb (getD m x 0) 3 ne)))
+
+  -- four entries of each dart removed, and link n of each dart that touches the layer, with the mark 3
   pub remove-changes : length (changesFrom 0 t (removeTable n t d))
-      ≡ 4 * (slots t - count 0 (marksOf n t d)) + howMany (slots t) (borders n t (marksOf n t d))
-  remove-changes = layer-changes (sheet-layer D) (remove-removes D)
+      ≡ 4 * countMarked (marksOf n t d) + count 3 (marksOf n t d)
+  remove-changes =
+      let touching = count-many 3 (marksOf n t d) in
+      let same = howMany-same (slots t) (borders n t (marksOf n t d)) (λ x. eqb (getD (marksOf n t d) x 0) 3)
+          (λ x _. marks-borders x) in
+      let all = layer-changes (sheet-layer D) (remove-removes D) in
+      let long = rw (sheet-layer D .long) at touching in
+      omega arith

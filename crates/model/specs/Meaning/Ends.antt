@@ -8,14 +8,13 @@ use mathlib.Core.List.{List, [], _∷_, _++_}
 use lib.ListN.{length, getD, set}
 use lib.Dec.{leb, eqb}
 use Rattle.model.specs.Lists.{count, ones}
-use Rattle.model.specs.Table.{slots}
 use Rattle.model.specs.Map.{breakingLink, leastBreaking, isMap}
 use Rattle.model.specs.Cell.{cellSize, isBlock, leastWrong}
 use Rattle.model.specs.Orbit.{orbit, orbitPlace}
 use Rattle.model.specs.Sheet.{sheet, sheetMarks}
 use Rattle.model.specs.Add.{addSlots, addTable}
 use Rattle.model.specs.Sew.{sewTable, unsewTable}
-use Rattle.model.specs.Remove.{removeTable}
+use Rattle.model.specs.Remove.{countMarked, removeTable}
 use Rattle.model.specs.Split.{splitSlots, splitTable}
 use Rattle.model.specs.Journal.{cursor, end, changesFrom, recordOf, written, changesAt, put, unbroken}
 use Rattle.model.specs.Checks.{Check, pass, refuse, must, inOrder}
@@ -188,7 +187,7 @@ doneOf n t m j (Call.sew i d e) = let u = sewTable n t i d e in changing t j u 0
 doneOf n t m j (Call.unsew i d) = let u = unsewTable n t i d in changing t j u 0 (length (changesFrom 0 t u)) m
 doneOf n t m j (Call.remove d) =
     let marks = sheetMarks n t (sheet n t d) in
-    changing t j (removeTable n t d) 0 (slots t - count 0 marks) marks
+    changing t j (removeTable n t d) 0 (countMarked marks) marks
 doneOf n t m j (Call.split d) =
     let s = sheet n t d in
     changing t j (splitTable n t d) (getD (splitSlots n t (ones s)) 0 0) (n * length (ones s)) (sheetMarks n t s)

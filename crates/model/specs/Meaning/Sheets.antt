@@ -25,6 +25,10 @@ marksOf n t d = sheetMarks n t (sheet n t d)
 abbrev pub InCells : ℕ → List ℕ → List ℕ → ℕ → Type 0
 InCells n t s x = (g : ℕ) × Marked s g × Marked (cellOf n t g) x
 
+-- x touches these cells: it is live, in none of them, and its link n leads into one
+abbrev pub Touches : ℕ → List ℕ → List ℕ → ℕ → Type 0
+Touches n t s x = (live t x ≡ true) × (InCells n t s x → ⊥) × InCells n t s (link t n x)
+
 -- some g in the set s has g.1 in s
 abbrev pub Crossing : List ℕ → List ℕ → Type 0
 Crossing t s = (g : ℕ) × Marked s g × Marked s (link t 1 g)

@@ -4,17 +4,18 @@ use mathlib.Core.Path.{_≡_}
 use mathlib.Core.Logic.{_≢_}
 use mathlib.Core.Bool.{Bool, true, false, not, _&&_}
 use mathlib.Core.List.{List}
-use lib.ListN.{length}
+use lib.ListN.{length, getD}
 use Rattle.model.specs.Table.{unused, slots, link, walk, live}
 use Rattle.model.specs.Remove.{opposite, marked}
 use Rattle.model.specs.Meaning.Maps.{BlockTable}
 
--- whole cells of a block map have the mark 1 or 2
+-- whole cells of a block map have the mark 1 or 2, and what leads into them over link n has a mark
 pub record Layer (n : ℕ) (t m : List ℕ) : Type 0 where
   pub table : BlockTable n t
   pub long : length m ≡ slots t
   pub lives : (x : ℕ) → marked m x ≡ true → live t x ≡ true
   pub closed : (x j : ℕ) → j < n → marked m x ≡ true → marked m (link t j x) ≡ true
+  pub beside : (x : ℕ) → marked m (link t n x) ≡ true → getD m x 0 ≢ 0
 
 -- ---- the walk
 
@@ -27,7 +28,7 @@ pub data Reaches (n : ℕ) (t m : List ℕ) (z : ℕ) : ℕ → Type 0 where
   arrived : {y : ℕ} → y ≡ z → Reaches n t m z y
   onward : {y : ℕ} → marked m y ≡ true → Reaches n t m z (hop n t y) → Reaches n t m z y
 
--- z is the first dart with the mark 0 on the walk that begins at y
+-- z is the first dart outside, with the mark 0 or 3, on the walk that begins at y
 pub record FirstOutside (n : ℕ) (t m : List ℕ) (z y : ℕ) : Type 0 where
   pub reached : Reaches n t m z y
   pub outside : marked m z ≡ false
