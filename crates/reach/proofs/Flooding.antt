@@ -18,11 +18,11 @@ use Rattle.model.proofs.Lists.Scan.{if-eq, test, clash}
 use Rattle.model.proofs.Lists.Ones.{index-in, getD-index, getD-in}
 use Rattle.model.proofs.Sets.Closure.{closure-least}
 use Rattle.model.proofs.Maps.Rules.{live-in}
-use Rattle.reach.specs.Search.{floodWords, byCells, Search, searchOf, meet, followBelow, expand, Found, Listed, Flooded}
+use Rattle.reach.specs.Search.{floodWords, byCells, Search, searchOf, meet, followBelow, expand, Found, Listed, Over, Flooded}
 use Rattle.reach.specs.Given.{Linked, Seeds, Room, Stepping}
 use Rattle.model.proofs.Sets.Links.{walk-in, walk-of}
 use Rattle.reach.proofs.Words.{FloodWord, by-link, by-edge, flood-word, link-word, across-word}
-use Rattle.reach.proofs.Marks.{Over, over-lay}
+use Rattle.reach.proofs.Marks.{over-lay}
 use Rattle.reach.proofs.Meeting.{Later, later-same, later-then, meet-new, meet-old, meet-later, meet-own, store-only, listed-more}
 use Rattle.reach.proofs.Meeting.{room-left, opposite-live, follow-takes, follow-skips, expand-across, expand-flat, expand-later}
 
@@ -342,7 +342,7 @@ module _ (flood : Flood) where
       full = least .within (Found (s .marks)) (λ x i _. f .later .keeps x (seed x i))
           (λ x y _ p i _. let w = walk-of table x words y i in rw (w .2) (closed x (w .0) p (w .1)))
 
-      over : Over mark (first .marks) (reached flood) (s .marks)
+      over : Over mark (first .marks) (Marked (reached flood)) (s .marks)
       over = record {
         long = f .long ∙ sym (seeds .long);
         kept = f .kept;

@@ -8,19 +8,17 @@ use native.Mathlib.Omega.{arith}
 use lib.ListN.{length, getD, set, take, replicate, length-set, length-replicate}
 use lib.Seq.{getD-set-same}
 use Rattle.model.specs.Lists.{count, ones}
-use Rattle.model.specs.Table.{slots, live}
+use Rattle.model.specs.Table.{slots, link, live}
 use Rattle.model.specs.Reach.{steps, closure}
-use Rattle.model.specs.Cell.{cellWords}
-use Rattle.model.specs.Sheet.{overlay, sheetMarks}
 use Rattle.model.specs.Meaning.Sets.{Bits, Least, Marked}
 use Rattle.model.proofs.Lists.Ones.{ones-of, ones-in}
 use Rattle.model.proofs.Sets.Closure.{closure-least}
 use Rattle.model.proofs.Maps.Rules.{live-in, map-of}
-use Rattle.reach.specs.Search.{Flooded, Gathered, lay}
+use Rattle.reach.specs.Search.{Over, lay, Flooded, Gathered}
 use Rattle.reach.specs.Given.{Given, Ready, Seeds}
 use Rattle.reach.proofs.Words.{Same, closure-same}
 use Rattle.reach.proofs.Marks.{alone, alone-own, alone-only, alone-count, found-marked, marked-found}
-use Rattle.reach.proofs.Marks.{count-bits, lay-alone, lay-overlay}
+use Rattle.reach.proofs.Marks.{count-bits, lay-over, lay-alone}
 use Rattle.reach.proofs.Flooding.{take-at, at-take}
 
 -- what 01's checks say is what a flood asks
@@ -35,6 +33,12 @@ given-ready {n} {t} g = record {
   room = g .room;
   start = g .start;
 }
+
+pub given-comes : {n : ℕ} {t m q : List ℕ} {d : ℕ} → Given n t m q d
+    → (x : ℕ) → live t x ≡ true → link t n (link t n x) ≡ x
+given-comes {n} {t} g x l =
+    let low = g .dim .1 in
+    map-of n t (g .dim .1) (g .map) .rule x (live-in t x (g .fits) l) l .comes n (omega arith)
 
 -- ---- one seed
 
@@ -131,12 +135,6 @@ module _ (t : List ℕ) (ws : List (List ℕ)) {d : ℕ} {m q : List ℕ} {r : �
 
   -- a second flood, with the mark 2, by the words us
   pub overlaid : {vs us : List (List ℕ)} {m′ q′ : List ℕ} {r′ : ℕ} → Same vs us → Flooded t vs 2 m q r m′ q′ r′
-      → m′ ≡ overlay m (closure t us (ones m))
-  overlaid {vs} {us} s f =
-      f .marks ∙ ap (lay 2 m) (closure-same t vs us (take r q) (ones m) s gathered-ones)
-      ∙ sym (lay-overlay m (closure t us (ones m)) (long ∙ sym (closure-least t us (ones m) .long)) bits)
-
-pub sheet-marks : (n : ℕ) (t : List ℕ) {s m m′ : List ℕ} → m ≡ s → m′ ≡ overlay m (closure t (cellWords n) (ones m))
-    → m′ ≡ sheetMarks n t s
-unfolding sheetMarks
-sheet-marks n t e h = rw e at h
+      → Over 2 m (Marked (closure t us (ones m))) m′
+  overlaid {vs} {us} s f = rw (f .marks ∙ ap (lay 2 m) (closure-same t vs us (take r q) (ones m) s gathered-ones))
+      (lay-over 2 m (closure t us (ones m)) (closure-least t us (ones m) .long ∙ sym long))

@@ -4,3 +4,4 @@ pub mod Marks
 pub mod Meeting
 pub mod Flooding
 pub mod Gathering
+pub mod Layered

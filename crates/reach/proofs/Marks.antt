@@ -1,22 +1,19 @@
 -- Lists of marks: how many are 0 or 1, a store in them, and what a flood lays over them.
 use Prim.Native.Nat.{ℕ, zero, suc, _+_, _<_}
 use mathlib.Core.Path.{_≡_, refl, sym, ap, _∙_}
-use mathlib.Core.Logic.{inl, inr, ⊎-elim, _≢_}
-use mathlib.Core.Bool.{true, false}
+use mathlib.Core.Logic.{_⊎_, inl, inr, ⊎-elim, _≢_}
 use mathlib.Core.List.{List, [], _∷_, List·Memᴰ·not-nil as not-nil, List·Memᴰ·head as here, List·Memᴰ·eq-of-singleton as sole}
 use native.Mathlib.Omega.{arith}
 use lib.ListN.{length, getD, set, replicate, length-set, length-replicate, getD-replicate, List·getD-eq-default}
 use lib.Seq.{getD-set-same, getD-set-other, ext-getD}
-use lib.Dec.{eqb}
 use borrow.Author.Tests.{eq-eqb, ne-eqb}
 use Rattle.model.specs.Lists.{count, tabulate}
 use Rattle.model.specs.Reach.{inSet}
-use Rattle.model.specs.Sheet.{overlay}
 use Rattle.model.specs.Meaning.Sets.{Bits, Marked}
 use Rattle.model.proofs.Lists.Scan.{if-eq, if-lt, length-tab, getD-tab}
 use Rattle.model.proofs.Sets.Closure.{marked-in}
 use Rattle.model.proofs.Sets.Pigeon.{cover, distinct-le, more, none}
-use Rattle.reach.specs.Search.{Found, laid, lay}
+use Rattle.reach.specs.Search.{Found, Over, laid, lay}
 
 found-in : (m : List ℕ) (x : ℕ) → Found m x → x < length m
 found-in [] x h = absurd (h refl)
@@ -102,14 +99,18 @@ module _ (k : ℕ) (m c : List ℕ) (x : ℕ) where
   unfolding laid inSet
   laid-none e h = rw (eq-eqb (getD m x 0) 0 e, ne-eqb (getD c x 0) 1 h, laid)
 
--- marks that stay where m has one, are k at the other darts of c and 0 elsewhere
-pub record Over (k : ℕ) (m c r : List ℕ) : Type 0 where
-  pub long : length r ≡ length m
-  pub kept : (x : ℕ) → Found m x → getD r x 0 ≡ getD m x 0
-  pub new : (x : ℕ) → getD m x 0 ≡ 0 → Marked c x → getD r x 0 ≡ k
-  pub none : (x : ℕ) → getD m x 0 ≡ 0 → (Marked c x → ⊥) → getD r x 0 ≡ 0
+pub over-none : {k : ℕ} {m : List ℕ} {P : ℕ → Type 0} → ((x : ℕ) → P x → ⊥) → Over k m P m
+over-none off = record { long = refl; kept = λ x _. refl; new = λ x _ p. absurd (off x p); none = λ x z _. z }
 
-pub over-lay : (k : ℕ) (m c r : List ℕ) → Over k m c r → r ≡ lay k m c
+pub over-as : {k : ℕ} {m r : List ℕ} {P Q : ℕ → Type 0} → ((x : ℕ) → P x → Q x) → ((x : ℕ) → Q x → P x) → Over k m P r → Over k m Q r
+over-as to of o = record {
+  long = o .long;
+  kept = o .kept;
+  new = λ x z q. o .new x z (of x q);
+  none = λ x z q. o .none x z (λ p. q (to x p));
+}
+
+pub over-lay : (k : ℕ) (m c r : List ℕ) → Over k m (Marked c) r → r ≡ lay k m c
 unfolding lay
 over-lay k m c r o =
     ext-getD 0 r (tabulate (length m) (laid k m c)) (o .long ∙ sym (length-tab (laid k m c) (length m)))
@@ -121,6 +122,47 @@ over-lay k m c r o =
         (λ h. o .none x e h ∙ sym (laid-none k m c x e h)))
         (λ e. o .kept x e ∙ sym (laid-kept k m c x e))
 
+pub lay-over : (k : ℕ) (m c : List ℕ) → length c ≡ length m → Over k m (Marked c) (lay k m c)
+unfolding lay
+lay-over k m c l = record {
+  long = length-tab (laid k m c) (length m);
+  kept = λ x f. at x (found-in m x f) ∙ laid-kept k m c x f;
+  new = λ x e h. at x (rw l at (marked-in c x h)) ∙ laid-new k m c x e h;
+  none = λ x e h. if-lt x (length m) (λ low. at x low ∙ laid-none k m c x e h)
+      (λ high. List·getD-eq-default (lay k m c) 0 (rw (length-tab (laid k m c) (length m)) high));
+}
+  where
+    at : (x : ℕ) → x < length m → getD (lay k m c) x 0 ≡ laid k m c x
+    at x low = getD-tab (laid k m c) (length m) x 0 low
+
+-- Q is P, and holds of y too
+pub record More (P Q : ℕ → Type 0) (y : ℕ) : Type 0 where
+  pub old : (x : ℕ) → P x → Q x
+  pub own : Q y
+  pub only : (x : ℕ) → Q x → P x ⊎ (x ≡ y)
+
+module _ {k : ℕ} {m r : List ℕ} {P Q : ℕ → Type 0} {y : ℕ} (more : More P Q y) (o : Over k m P r) where
+  -- y has no mark yet, and gets it
+  pub over-new : y < length r → getD r y 0 ≡ 0 → Over k m Q (set r y k)
+  over-new low e = record {
+    long = length-set r y k ∙ o .long;
+    kept = λ x f. getD-set-other r y x k 0 (λ same. f (sym (o .kept x f) ∙ ap (λ (z : ℕ). getD r z 0) same ∙ e)) ∙ o .kept x f;
+    new = λ x z q. if-eq x y (λ same. rw same (getD-set-same r y k 0 low)) (λ other.
+        getD-set-other r y x k 0 other ∙ o .new x z (⊎-elim (λ p. p) (λ same. absurd (other same)) (more .only x q)));
+    none = λ x z q. getD-set-other r y x k 0 (λ same. q (rw same (more .own))) ∙ o .none x z (λ p. q (more .old x p));
+  }
+
+  -- y has one
+  pub over-old : Found r y → Over k m Q r
+  over-old f = record {
+    long = o .long;
+    kept = o .kept;
+    new = λ x z q. if-eq (getD r x 0) k (λ e. e) (λ e.
+        let off : P x → ⊥ = λ p. e (o .new x z p) in
+        absurd (⊎-elim off (λ same. f (ap (λ (z : ℕ). getD r z 0) (sym same) ∙ o .none x z off)) (more .only x q)));
+    none = λ x z q. o .none x z (λ p. q (more .old x p));
+  }
+
 -- laid over d's mark alone: the set itself
 pub lay-alone : (n d : ℕ) (c : List ℕ) → d < n → length c ≡ n → Bits c → Marked c d → c ≡ lay 1 (alone n d) c
 lay-alone n d c h l b own = over-lay 1 (alone n d) c c (record {
@@ -128,33 +170,4 @@ lay-alone n d c h l b own = over-lay 1 (alone n d) c c (record {
   kept = λ x f. let e = alone-only n d h x f in rw e (own ∙ sym (alone-own n d h));
   new = λ x _ p. p;
   none = λ x _ p. ⊎-elim (λ e. e) (λ e. absurd (p e)) (b x);
-})
-
--- ---- the marks of a sheet
-
-layer : ℕ → ℕ → ℕ
-layer u v = elim (eqb u 1) [ true ↦ 1 | false ↦ (elim (eqb v 1) [ true ↦ 2 | false ↦ 0 ]) ]
-
-overlay-at : (a b : List ℕ) (x : ℕ) → length a ≡ length b → x < length a
-    → getD (overlay a b) x 0 ≡ layer (getD a x 0) (getD b x 0)
-unfolding overlay layer
-overlay-at [] b x l h = absurd (omega arith)
-overlay-at (u ∷ a) [] x l h = absurd (omega arith)
-overlay-at (u ∷ a) (v ∷ b) zero l h = refl
-overlay-at (u ∷ a) (v ∷ b) (suc x) l h = overlay-at a b x (omega arith) (omega arith)
-
-overlay-length : (a b : List ℕ) → length a ≡ length b → length (overlay a b) ≡ length a
-unfolding overlay
-overlay-length [] b l = refl
-overlay-length (u ∷ a) [] l = absurd (omega arith)
-overlay-length (u ∷ a) (v ∷ b) l = ap suc (overlay-length a b (omega arith))
-
-pub lay-overlay : (a b : List ℕ) → length a ≡ length b → Bits a → overlay a b ≡ lay 2 a b
-unfolding layer
-lay-overlay a b l p = over-lay 2 a b (overlay a b) (record {
-  long = overlay-length a b l;
-  kept = λ x f. let e = found-marked a x p f in overlay-at a b x l (found-in a x f) ∙ rw (e, layer);
-  new = λ x e h. overlay-at a b x l (rw l (marked-in b x h)) ∙ rw (e, h, layer);
-  none = λ x e h. if-lt x (length a) (λ s. overlay-at a b x l s ∙ rw (e, ne-eqb (getD b x 0) 1 h, layer))
-      (λ s. List·getD-eq-default (overlay a b) 0 (rw (overlay-length a b l) s));
 })

@@ -1,6 +1,6 @@
 -- The flood as the code does it: marks, and a queue of the darts found. `meet`, `follow` and `expand` are its steps;
 -- `lay` (the marks) and `Listed` (the queue) say what it leaves.
-use Prim.Native.Nat.{ℕ, zero, suc, _+_, _<_}
+use Prim.Native.Nat.{ℕ, zero, suc, _+_, _≤_, _<_}
 use mathlib.Core.Path.{_≡_}
 use mathlib.Core.Logic.{_≢_}
 use mathlib.Core.Bool.{Bool, true, false, _&&_, _||_}
@@ -76,6 +76,17 @@ pub record Listed (m q : List ℕ) (r : ℕ) : Type 0 where
   pub inside : (j : ℕ) → j < r → Found m (getD q j 0)
   pub all : (x : ℕ) → Found m x → (j : ℕ) × (j < r) × (getD q j 0 ≡ x)
   pub once : (i j : ℕ) → i < j → j < r → getD q i 0 ≢ getD q j 0
+
+-- r are marks that stay where m has one; at the other darts they are k where P holds, and 0 elsewhere
+pub record Over (k : ℕ) (m : List ℕ) (P : ℕ → Type 0) (r : List ℕ) : Type 0 where
+  pub long : length r ≡ length m
+  pub kept : (x : ℕ) → Found m x → getD r x 0 ≡ getD m x 0
+  pub new : (x : ℕ) → getD m x 0 ≡ 0 → P x → getD r x 0 ≡ k
+  pub none : (x : ℕ) → getD m x 0 ≡ 0 → (P x → ⊥) → getD r x 0 ≡ 0
+
+-- link n leads to x from one of the queue's words from a on, before b
+abbrev pub LedTo : List ℕ → ℕ → List ℕ → ℕ → ℕ → ℕ → Type 0
+LedTo t n q a b x = (j : ℕ) × (a ≤ j) × (j < b) × (link t n (getD q j 0) ≡ x)
 
 -- the mark of x: if it is not 0 it stays; else it is k in the set c, and 0 elsewhere
 unfoldable pub laid : ℕ → List ℕ → List ℕ → ℕ → ℕ

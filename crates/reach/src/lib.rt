@@ -2,17 +2,17 @@
 ghost use mathlib.Core.Path.{_≡_};
 ghost use mathlib.Core.Bool.{true, false, not};
 ghost use mathlib.Core.List.{[], _∷_};
-ghost use Prim.Native.Nat.{_+_, _^_, _<_, _≤_};
+ghost use Prim.Native.Nat.{ℕ, _+_, _^_, _<_, _≤_};
 ghost use lib.ListN.{length, getD, set, replicate};
 ghost use Rattle.model.specs.Lists.{count};
-ghost use Rattle.model.specs.Table.{link, live, walk};
+ghost use Rattle.model.specs.Table.{slots, link, live, walk};
 ghost use Rattle.model.specs.Reach.{closure};
 ghost use Rattle.model.specs.Orbit.{bit, orbit};
 ghost use Rattle.model.specs.Sew.{side};
 ghost use Rattle.model.specs.Sheet.{sheet, sheetMarks};
 ghost use Rattle.model.specs.Meaning.Maps.{Dim};
 ghost use Rattle.reach.specs.Search.{floodWords, byCells, Permits, SideMask};
-ghost use Rattle.reach.specs.Search.{searchOf, meet, follow, expand, Flooded, Gathered};
+ghost use Rattle.reach.specs.Search.{searchOf, meet, follow, expand, Flooded, Gathered, LedTo, Over};
 ghost use Rattle.reach.specs.Given.{Given, Linked, Ready, Seeds, Stepping};
 
 // Link i of the dart x.
@@ -209,8 +209,30 @@ pub fn side(n: u32, table: &[u32], marks: &mut [u8], queue: &mut [u32], i: u32, 
     gather(table, marks, queue, mask, d)
 }
 
-// sheet d: S by the links but 1, and 1.0.1; then, from S, its cells by the links but n.
-// Marks 1 in S, 2 at the other darts of these cells, 0 elsewhere; the size of S.
+// The mark 3 on each dart without a mark that link n leads to from the queue's words from `from` on, before `to`.
+fn mark_neighbours(
+    table: &[u32],
+    marks: &mut [u8],
+    queue: &[u32],
+    n: u32,
+    from: usize,
+    to: usize,
+)
+    requires { ⌜ (Linked (now table)) × (length (now marks) ≡ slots (now table)) × (n < 4) ⌝ }
+    requires { ⌜ (to ≤ length (now queue)) × ((j : ℕ) → j < to → live (now table) (getD (now queue) j 0) ≡ true) ⌝ }
+    ensures { λ _. ⌜ Over 3 (now (marks .entry)) (LedTo (now (table .entry)) n (now (queue .entry)) from to) (now (marks .exit)) ⌝ }
+{
+    for j in from..to {
+        let y = link(table, n, queue[j]) as usize;
+        if marks[y] == 0 {
+            marks[y] = 3;
+        }
+    }
+}
+
+// sheet d: S by the links but 1, and 1.0.1; then, from S, its cells by the links but n; then what touches these. A dart of S
+// leads to S over link n.
+// Marks 1 in S, 2 at the other darts of these cells, 3 at the darts outside that lead into them, 0 elsewhere; the size of S.
 pub fn sheet(n: u32, table: &[u32], marks: &mut [u8], queue: &mut [u32], d: u32) -> u32
     requires { ⌜ Given n (now table) (now marks) (now queue) d ⌝ }
     ensures { λ r. ⌜ (now (marks .exit) ≡ sheetMarks n (now (table .entry)) (sheet n (now (table .entry)) d))
@@ -220,6 +242,7 @@ pub fn sheet(n: u32, table: &[u32], marks: &mut [u8], queue: &mut [u32], d: u32)
     let along = links_but(n, (1 << n) + 2);
     let size = flood_by_cells(table, marks, queue, along, n);
     let within = links_but(n, 1 << n);
-    flood(table, marks, queue, within, 2, size);
+    let cells = flood(table, marks, queue, within, 2, size);
+    mark_neighbours(table, marks, queue, n, size, cells);
     size as u32
 }

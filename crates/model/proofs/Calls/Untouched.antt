@@ -2,16 +2,21 @@
 -- marks as lent, but for remove and split refused by 13, 14 or 15. The place is 0 but for 5, 24 to 26 and 8, the count but for
 -- 5 and 24 to 26: `place-of-others`, `count-of-others`.
 -- `reading-untouched`: check, orbit and sheet leave table and journal also where they are accepted.
+-- `sheet-marks`, `remove-marks`, `split-marks`: accepted, or refused by 13, 14 or 15, they leave the marks of the sheet.
 use Prim.Native.Nat.{ℕ}
 use mathlib.Core.Path.{_≡_, refl, ap, _∙_}
-use mathlib.Core.Logic.{_≢_}
+use mathlib.Core.Logic.{_⊎_, ⊎-elim, _≢_}
+use mathlib.Core.Bool.{true}
+use mathlib.Core.List.{List, [], _∷_}
 use native.Mathlib.Omega.{arith}
 use Rattle.model.specs.Cell.{leastWrong}
 use Rattle.model.specs.Calls.{Outcome, refused}
 use Rattle.model.specs.Runs.{Call, doCall}
-use Rattle.model.specs.Meaning.Ends.{Untouched, done, refusalPlace, doneOf}
+use Rattle.model.specs.Meaning.Ends.{Untouched, done, refusalPlace, layerMarks, refusalMarks, doneOf}
 use Rattle.model.specs.Meaning.Ends.{Reading, reads-check, reads-orbit, reads-sheet}
 use Rattle.model.specs.Meaning.Maps.{byRule}
+use Rattle.model.specs.Meaning.Sizes.{member}
+use Rattle.model.specs.Meaning.Sheets.{marksOf}
 use Rattle.model.proofs.Lists.Scan.{if-eq}
 use Rattle.model.proofs.Calls.Checks.{NoRule, place-other, count-other}
 use Rattle.model.proofs.Calls.Ends.{call-says, call-done, call-refused}
@@ -56,3 +61,32 @@ unfolding doneOf
 reading-untouched n o reads-check = untouched-always n o _ refl refl
 reading-untouched n o reads-orbit = untouched-always n o _ refl refl
 reading-untouched n o reads-sheet = untouched-always n o _ refl refl
+
+-- ---- the marks of a sheet
+
+module _ (n : ℕ) (o : Outcome) (d : ℕ) where
+  -- a call with the number k has come to the sheet
+  abbrev Sheeted : ℕ → Type 0
+  Sheeted k = (k ≡ 0) ⊎ (member (13 ∷ 14 ∷ 15 ∷ []) k ≡ true)
+
+  layer-left : (k : ℕ) → member (13 ∷ 14 ∷ 15 ∷ []) k ≡ true → layerMarks n o d k ≡ marksOf n (o .table) d
+  unfolding layerMarks
+  layer-left k h = rw (h, layerMarks)
+
+  left : (c : Call) → done n o c .marks ≡ marksOf n (o .table) d → ((k : ℕ) → refusalMarks n o c k ≡ layerMarks n o d k)
+      → Sheeted (doCall n o c .number) → doCall n o c .marks ≡ marksOf n (o .table) d
+  left c accepted refused h = if-eq (doCall n o c .number) 0
+      (λ e. ap (λ (r : Outcome). r .marks) (call-done n o c e) ∙ accepted)
+      (λ e. call-untouched n o c e .marks ∙ refused _ ∙ layer-left _ (⊎-elim (λ z. absurd (e z)) (λ m. m) h))
+
+  pub sheet-marks : doCall n o (Call.sheet d) .number ≡ 0 → doCall n o (Call.sheet d) .marks ≡ marksOf n (o .table) d
+  unfolding doneOf
+  sheet-marks h = ap (λ (r : Outcome). r .marks) (call-done n o (Call.sheet d) h)
+
+  pub remove-marks : Sheeted (doCall n o (Call.remove d) .number) → doCall n o (Call.remove d) .marks ≡ marksOf n (o .table) d
+  unfolding doneOf refusalMarks
+  remove-marks = left (Call.remove d) refl (λ k. refl)
+
+  pub split-marks : Sheeted (doCall n o (Call.split d) .number) → doCall n o (Call.split d) .marks ≡ marksOf n (o .table) d
+  unfolding doneOf refusalMarks
+  split-marks = left (Call.split d) refl (λ k. refl)
