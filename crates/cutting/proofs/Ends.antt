@@ -1,13 +1,9 @@
 -- How remove ends: refused by the checks up to 8 (`remove-refused`), by 15 (`remove-no-room`), or accepted (`remove-done`).
-use Prim.Native.Nat.{ℕ, _+_, _-_}
+use Prim.Native.Nat.{ℕ}
 use mathlib.Core.Path.{_≡_, sym}
 use mathlib.Core.Bool.{Bool, true, false}
 use mathlib.Core.List.{List}
-use native.Mathlib.Omega.{arith}
-use lib.ListN.{length}
-use Rattle.model.specs.Lists.{count}
-use Rattle.model.specs.Table.{slots}
-use Rattle.model.specs.Remove.{removeTable}
+use Rattle.model.specs.Remove.{countMarked, removeTable}
 use Rattle.model.specs.Checks.{refuse, inOrder, layerChecks}
 use Rattle.model.specs.Calls.{refused, commit, removeCall}
 use Rattle.model.specs.Meaning.Sheets.{marksOf}
@@ -17,7 +13,7 @@ use Rattle.edits.specs.Carried.{Carried}
 use Rattle.edits.proofs.Tables.{edit-remove}
 use Rattle.edits.proofs.Carrying.{carried-same, carried-accepted, carried-refused}
 use Rattle.answers.specs.Answers.{outcome, refusal, accepted}
-use Rattle.cutting.proofs.Given.{Sheeted, layer}
+use Rattle.cutting.proofs.Given.{Sheeted}
 
 pub remove-refused : (n : ℕ) (t m j : List ℕ) (d : ℕ) {k p q : ℕ} → inOrder (layerChecks n t m j d) ≡ refuse k p q
     → outcome (refusal k p q) t m j ≡ removeCall n t m j d
@@ -26,7 +22,7 @@ remove-refused n t m j d e = rw (e, removeCall)
 
 module _ {n d : ℕ} {t m j s : List ℕ} (H : Sheeted n t m j d s) where
   remove-goes : removeCall n t m j d
-      ≡ commit t (removeTable n t d) (marksOf n t d) j 0 (λ cs. slots t - count 0 (marksOf n t d))
+      ≡ commit t (removeTable n t d) (marksOf n t d) j 0 (λ cs. countMarked (marksOf n t d))
   unfolding removeCall
   remove-goes = rw (H .passed, removeCall)
 
@@ -40,9 +36,5 @@ module _ {n d : ℕ} {t m j s : List ℕ} (H : Sheeted n t m j d s) where
       unfolding refused
       remove-no-room h = rw (remove-goes, H .marked) (sym (carried-refused carried _ _ _ h))
 
-      pub remove-done : {r : ℕ} → r + count 0 s ≡ length s → fits ≡ true
-          → outcome (accepted 0 r) t′ s j′ ≡ removeCall n t m j d
-      remove-done {r} number h =
-          let long = layer H .long in
-          let size : r ≡ slots t - count 0 s = omega arith in
-          rw (remove-goes, size, H .marked) (sym (carried-accepted carried _ _ _ h))
+      pub remove-done : {r : ℕ} → r ≡ countMarked s → fits ≡ true → outcome (accepted 0 r) t′ s j′ ≡ removeCall n t m j d
+      remove-done size h = rw (remove-goes, size, H .marked) (sym (carried-accepted carried _ _ _ h))

@@ -3,22 +3,23 @@ use answers::Answer;
 use answers::numbers;
 use edits::Edit;
 ghost use mathlib.Core.Path.{_≡_};
-ghost use Prim.Native.Nat.{_+_, _≤_};
+ghost use Prim.Native.Nat.{_≤_};
 ghost use lib.ListN.{length};
-ghost use Rattle.model.specs.Lists.{count};
 ghost use Rattle.model.specs.Table.{slots};
+ghost use Rattle.model.specs.Remove.{countMarked};
 ghost use Rattle.model.specs.Checks.{pass, inOrder, layerChecks};
 ghost use Rattle.model.specs.Calls.{removeCall};
 ghost use Rattle.answers.specs.Answers.{outcome};
 
-// How many marks are not 0.
+// How many marks are 1 or 2.
 fn count_marked(marks: &[u8]) -> u32
     requires { ⌜ length (now marks) ≤ 65536 ⌝ }
-    ensures { λ r. ⌜ r + count 0 (now (marks .entry)) ≡ length (now (marks .entry)) ⌝ }
+    ensures { λ r. ⌜ r ≡ countMarked (now (marks .entry)) ⌝ }
 {
     let mut k: u32 = 0;
     for x in 0..marks.len() {
-        if marks[x] != 0 {
+        let own = marks[x];
+        if (own == 1) | (own == 2) {
             k += 1;
         }
     }

@@ -1,19 +1,21 @@
 -- The slots that an edit leaves, by the test that each case of `touches` makes.
 use Prim.Native.Nat.{ℕ, _*_, _≤_}
 use mathlib.Core.Path.{_≡_, refl, sym, _∙_}
-use mathlib.Core.Bool.{false, _&&_, _||_}
+use mathlib.Core.Bool.{false, _&&_}
 use mathlib.Core.List.{List}
 use native.Mathlib.Omega.{arith}
-use lib.ListN.{length, take}
+use lib.ListN.{length, getD, take}
 use lib.Dec.{ltb, eqb}
 use borrow.Author.Tests.{ltb-false}
 use Rattle.model.specs.Lists.{indexOf}
 use Rattle.model.specs.Table.{slots, link, relinkAt}
 use Rattle.model.specs.Remove.{marked}
 use Rattle.model.specs.Sew.{sewnLink, unsews, unsewnLink}
-use Rattle.model.proofs.Lists.Scan.{test, if-eq, or-false}
+use Rattle.model.specs.Meaning.Walks.{Layer}
+use Rattle.model.proofs.Lists.Scan.{test, if-eq}
 use Rattle.model.proofs.Maps.Rules.{at-same, at-other}
 use Rattle.model.proofs.Operations.Frame.{outside-stops}
+use Rattle.model.proofs.Layers.Marks.{unmarked-of}
 use Rattle.model.proofs.Layers.Remove.{stays-link, found-link}
 use Rattle.layers.specs.Ranks.{Ranked, Halving}
 use Rattle.layers.proofs.Ranks.{front-long}
@@ -47,10 +49,12 @@ module _ (n : ℕ) (t m a b : List ℕ) (size x : ℕ) where
   unfolding editLink
   unsew-leaves i out j low = relinks-same t i (unsewnLink t i m) x (unsewn-own t m i x out) j
 
-  pub remove-leaves : (marked m x || marked m (link t n x)) ≡ false → Untouched Remove n t m a b size x
+  -- a slot without a mark is outside, and so is its link n
+  pub remove-leaves : Layer n t m → getD m x 0 ≡ 0 → Untouched Remove n t m a b size x
   unfolding editLink
-  remove-leaves out j low =
-      let (own, next) = or-false (marked m x) (marked m (link t n x)) out in
+  remove-leaves L none j low =
+      let own = unmarked-of m x (λ e. omega arith) (λ e. omega arith) in
+      let next = test (marked m (link t n x)) (λ e. absurd (L .beside x e none)) (λ e. e) in
       if-eq j n (λ e. rw e (found-link n t m x own ∙ outside-stops n t m (slots t) (link t n x) next))
       (λ e. stays-link n t m x j own e)
 

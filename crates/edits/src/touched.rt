@@ -1,14 +1,12 @@
 // The slots that an edit may change: each pass goes from one to the next, over all that stay.
 use crate::Edit;
 ghost use mathlib.Core.Path.{_≡_};
-ghost use mathlib.Core.Bool.{false, _||_};
+ghost use mathlib.Core.Bool.{false};
 ghost use mathlib.Core.List.{List};
 ghost use Prim.Native.Nat.{ℕ, _*_, _≤_};
-ghost use lib.ListN.{length};
+ghost use lib.ListN.{length, getD};
 ghost use Rattle.model.specs.Table.{slots, link};
-ghost use Rattle.model.specs.Remove.{marked};
 ghost use Rattle.model.specs.Sew.{sewnLink, unsews};
-ghost use Rattle.model.specs.Meaning.Walks.{Layer};
 ghost use Rattle.layers.specs.Ranks.{Ranked, Halving};
 ghost use Rattle.edits.specs.Edits.{Untouched, Fit, FitUnsew};
 ghost use Rattle.edits.specs.Skips.{Unlisted, Skips};
@@ -53,14 +51,13 @@ fn next_unsewn(table: &[u32], side: &[u8], i: u32, x: u32, end: u32) -> u32
     end
 }
 
-// The first slot from x on that is marked or has a marked dart at its link n, or end.
-fn next_near_marked(n: u32, table: &[u32], marks: &[u8], x: u32, end: u32) -> u32
-    requires { ⌜ (Layer n (now table) (now marks)) × (end ≤ slots (now table)) × (x ≤ end) ⌝ }
-    ensures { λ r. ⌜ Skips (λ y. (marked (now (marks .entry)) y
-        || marked (now (marks .entry)) (link (now (table .entry)) n y)) ≡ false) x end r ⌝ }
+// The first slot from x on that has a mark, or end: remove changes the cells with 1 and 2, and link n where there is a 3.
+fn next_marked(marks: &[u8], x: u32, end: u32) -> u32
+    requires { ⌜ (end ≤ length (now marks)) × (x ≤ end) ⌝ }
+    ensures { λ r. ⌜ Skips (λ y. getD (now (marks .entry)) y 0 ≡ 0) x end r ⌝ }
 {
     for y in x..end {
-        if layers::near_marked(n, table, marks, y) {
+        if marks[y as usize] != 0 {
             return y;
         }
     }
@@ -104,7 +101,7 @@ pub fn next_touched(
         Edit::Add => next_listed(a, c, size, x, end),
         Edit::Sew(_) => next_partner(a, b, x, end),
         Edit::Unsew(i) => next_unsewn(table, marks, i, x, end),
-        Edit::Remove => next_near_marked(n, table, marks, x, end),
+        Edit::Remove => next_marked(marks, x, end),
         Edit::Split => next_cut(n, a, b, c, size, x, end),
     }
 }

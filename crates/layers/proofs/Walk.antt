@@ -1,12 +1,11 @@
 -- The walk across removed cells, hop by hop: as long as it is inside, a hop brings it nearer to its end (`hop-nearer`). From
--- each slot that remains it ends (`walk-out`). The opposite side and the marks, as the code reads them.
+-- each slot that remains it ends (`walk-out`). The opposite side, as the code reads it.
 use Prim.Native.Nat.{ℕ, zero, suc, _<_}
 use mathlib.Core.Path.{_≡_, sym, ap, _∙_}
 use mathlib.Core.Bool.{true, false}
 use mathlib.Core.Logic.{_≢_}
 use mathlib.Core.List.{List, [], _∷_}
 use native.Mathlib.Omega.{arith}
-use lib.ListN.{getD}
 use borrow.Author.Tests.{ne-eqb}
 use Rattle.model.specs.Table.{slots, link, walk}
 use Rattle.model.specs.Remove.{opposite, marked, outside}
@@ -26,17 +25,6 @@ module _ (n : ℕ) (t : List ℕ) (y : ℕ) where
   pub opposite-flat : n ≢ 3 → walk t (opposite n) y ≡ walk t (1 ∷ 0 ∷ 1 ∷ []) y
   unfolding opposite
   opposite-flat e = rw (ne-eqb n 3 e, opposite)
-
--- ---- marks
-
-module _ (m : List ℕ) (x v : ℕ) (is : v ≡ getD m x 0) where
-  pub marked-by : v ≢ 0 → marked m x ≡ true
-  unfolding marked
-  marked-by e = rw (ne-eqb (getD m x 0) 0 (λ h. e (is ∙ h)))
-
-  pub unmarked-by : v ≡ 0 → marked m x ≡ false
-  unfolding marked
-  unmarked-by e = rw (sym is ∙ e)
 
 -- ---- the walk
 

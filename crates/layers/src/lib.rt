@@ -3,7 +3,7 @@ use reading::link;
 use reading::link_in;
 use reading::slots;
 ghost use mathlib.Core.Path.{_≡_};
-ghost use mathlib.Core.Bool.{false, _||_};
+ghost use mathlib.Core.Bool.{false};
 ghost use mathlib.Core.List.{[], _∷_};
 ghost use Prim.Native.Nat.{ℕ, _*_, _/_, _%_, _≤_, _<_, min};
 ghost use lib.ListN.{length, getD, take};
@@ -59,6 +59,14 @@ fn mark(marks: &[u8], x: u32) -> u8
     if at < marks.len() { marks[at] } else { 0 }
 }
 
+// Whether x has the mark 1 or 2.
+fn marked(marks: &[u8], x: u32) -> bool
+    ensures { λ r. ⌜ r ≡ marked (now (marks .entry)) x ⌝ }
+{
+    let own = mark(marks, x);
+    (own == 1) | (own == 2)
+}
+
 // The opposite edge 1.0.1 of y.
 fn opposite_edge(table: &[u32], y: u32) -> u32
     ensures { λ r. ⌜ r ≡ walk (now (table .entry)) (1 ∷ 0 ∷ 1 ∷ []) y ⌝ }
@@ -97,7 +105,7 @@ pub fn first_outside(n: u32, table: &[u32], marks: &[u8], x: u32) -> u32
 {
     let mut y = link(table, n as usize, x);
     loop {
-        if mark(marks, y) == 0 {
+        if !marked(marks, y) {
             break y;
         }
         y = hop(n, table, y);
@@ -109,20 +117,12 @@ pub fn removed_links(n: u32, table: &[u32], marks: &[u8], x: u32) -> [u32; 4]
     requires { ⌜ (Layer n (now table) (now marks)) × (x < slots (now table)) ⌝ }
     ensures { λ r. ⌜ r ≡ four (removedLink n (now (table .entry)) (now (marks .entry)) x) ⌝ }
 {
-    if marks[x as usize] != 0 {
+    if marked(marks, x) {
         return [UNUSED; 4];
     }
     let mut links = links_in(table, x);
     links[n as usize] = first_outside(n, table, marks, x);
     links
-}
-
-// Whether x is marked, or its link n leads to a marked dart: remove changes the links of no other slot.
-pub fn near_marked(n: u32, table: &[u32], marks: &[u8], x: u32) -> bool
-    requires { ⌜ (Layer n (now table) (now marks)) × (x < slots (now table)) ⌝ }
-    ensures { λ r. ⌜ r ≡ (marked (now (marks .entry)) x || marked (now (marks .entry)) (link (now (table .entry)) n x)) ⌝ }
-{
-    (marks[x as usize] != 0) | (mark(marks, link_in(table, n as usize, x)) != 0)
 }
 
 // ---- slots listed with their ranks

@@ -3,10 +3,11 @@
 use mathlib.Core.Path.{_≡_, refl, sym, ap, _∙_}
 use native.Mathlib.Omega.{arith}
 use borrow.Author.Needs.{needs}
+use borrow.Author.Tests.{not-true, not-false}
 use Rattle.model.specs.Table.{slots, link}
 use Rattle.model.specs.Remove.{marked, outside}
 use Rattle.model.proofs.Operations.Frame.{outside-stops}
-use Rattle.layers.proofs.Walk.{marked-by, unmarked-by, hops, Ends, Nearer, hop-nearer, walk-out}
+use Rattle.layers.proofs.Walk.{hops, Ends, Nearer, hop-nearer, walk-out}
 use Rattle.layers.proofs.first_outside.Statement.{statement}
 use Rattle.layers.proofs.first_outside.Tie as tie
 
@@ -27,8 +28,8 @@ loop-holds c =
     let at = c .link .ensures in
     rw at (refl, walk-out (s .pre .0) (s .args .x) (s .pre .1))
 
-mark-requires : tie.Need-mark-requires Inv-loop μ-loop
-mark-requires c κs = search needs
+marked-requires : tie.Need-marked-requires Inv-loop μ-loop
+marked-requires c κs = search needs
 
 hop-requires : tie.Need-hop-requires Inv-loop μ-loop
 hop-requires c κs = let dim = c .before .before .before .before .before .before .pre .0 .table .dim in omega arith
@@ -42,7 +43,7 @@ nearer c =
     let e = c .before in
     let l = e .before .before in
     let a = l .before .before .before .before .args in
-    let inside = marked-by (a .marks .now) (l .loop .y) _ (e .before .mark .ensures) (e .if1 .left) in
+    let inside = sym (e .before .marked .ensures) ∙ not-false _ (e .if1 .left) in
     rw (c .hop .ensures)
     (hop-nearer (a .n) (a .table .now) (a .marks .now) (slots (a .table .now)) (l .loop .y) (l .loop .inv .1) inside)
 
@@ -59,7 +60,7 @@ returns : tie.Need-returns Inv-loop μ-loop
 returns c =
     let l = c .before .before in
     let s = l .before .before .before .before in
-    let out = unmarked-by (s .args .marks .now) (l .loop .y) _ (c .before .mark .ensures) (c .if1 .taken) in
+    let out = sym (c .before .marked .ensures) ∙ not-true _ (c .if1 .taken) in
     sym (outside-stops _ _ _ (slots (s .args .table .now)) (l .loop .y) out) ∙ l .loop .inv .0
 
 pub first-outside-spec : {M : Type 1} → statement M
@@ -70,7 +71,7 @@ first-outside-spec =
     μ-loop
     link-requires
     loop-holds
-    mark-requires
+    marked-requires
     hop-requires
     loop-less
     loop-again

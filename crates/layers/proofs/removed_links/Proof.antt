@@ -1,26 +1,25 @@
 -- `layers::removed_links` meets its contract.
-use mathlib.Core.Path.{_≡_, refl}
+use mathlib.Core.Path.{_≡_, sym, _∙_}
 use mathlib.Core.Bool.{false}
 use borrow.Author.Needs.{needs}
 use Rattle.model.specs.Remove.{marked}
-use Rattle.layers.proofs.Walk.{marked-by, unmarked-by}
 use Rattle.layers.proofs.Halves.{gone-links, found-links}
 use Rattle.layers.proofs.removed_links.Statement.{statement}
 use Rattle.layers.proofs.removed_links.Tie as tie
 
-shared-slice-read-if1 : tie.Need-shared-slice-read-if1
-shared-slice-read-if1 c = search needs
+marked-requires : tie.Need-marked-requires
+marked-requires c κs = search needs
 
 returns : tie.Need-returns
 returns c =
     let a = c .before .before .before .before .args in
-    gone-links (a .n) (a .table .now) (a .marks .now) (a .x) (marked-by (a .marks .now) (a .x) _ refl (c .if1 .taken))
+    gone-links (a .n) (a .table .now) (a .marks .now) (a .x) (sym (c .before .marked .ensures) ∙ c .if1 .taken)
 
 links-in-requires : tie.Need-links-in-requires
 links-in-requires c κs = search needs
 
 remains : (c : tie.Else1) → let a = c .before .before .before .before .args in marked (a .marks .now) (a .x) ≡ false
-remains c = let a = c .before .before .before .before .args in unmarked-by (a .marks .now) (a .x) _ refl (c .if1 .left)
+remains c = sym (c .before .marked .ensures) ∙ c .if1 .left
 
 first-outside-requires : tie.Need-first-outside-requires
 first-outside-requires c κs = let e = c .before in (e .before .before .before .before .pre .0, remains e)
@@ -44,7 +43,7 @@ pub removed-links-spec : {M : Type 1} → statement M
 removed-links-spec =
     tie.close
     (tie.spec
-    shared-slice-read-if1
+    marked-requires
     returns
     links-in-requires
     first-outside-requires

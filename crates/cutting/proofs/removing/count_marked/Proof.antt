@@ -1,11 +1,12 @@
 -- `cutting::removing::count_marked` meets its contract. The loop's invariant: the marks before x are counted.
 use Prim.Native.Nat.{_≤_, _<_, _-_}
-use mathlib.Core.Path.{_≡_, refl, _∙_}
+use mathlib.Core.Path.{_≡_, refl}
 use mathlib.Core.Logic.{⊎-elim}
 use native.Mathlib.Omega.{arith}
 use lib.ListN.{length}
 use lib.Seq.{take-all}
 use borrow.Author.Needs.{needs}
+use Rattle.model.specs.Remove.{marked}
 use Rattle.cutting.proofs.Counts.{Counted, counted-none, counted-more, counted-same}
 use Rattle.cutting.proofs.removing.count_marked.Statement.{statement}
 use Rattle.cutting.proofs.removing.count_marked.Tie as tie
@@ -19,11 +20,11 @@ abbrev μ-loop : tie.MeasureT-loop
 loop-holds : tie.Need-loop-holds Inv-loop μ-loop
 loop-holds c = (counted-none _, omega arith, refl)
 
-shared-slice-read-if1 : tie.Need-shared-slice-read-if1 Inv-loop μ-loop
-shared-slice-read-if1 c = search needs
+shared-slice-read-own : tie.Need-shared-slice-read-own Inv-loop μ-loop
+shared-slice-read-own c = search needs
 
 add-k : tie.Need-add-k Inv-loop μ-loop
-add-k c = let n = c .before .before .before .loop .inv .0 .number in omega arith
+add-k c = let n = c .before .before .before .loop .inv .0 .few in omega arith
 
 add-x : tie.Need-add-x Inv-loop μ-loop
 add-x c = search needs
@@ -32,6 +33,7 @@ loop-less : tie.Need-loop-less Inv-loop μ-loop
 loop-less c = search needs
 
 loop-again : tie.Need-loop-again Inv-loop μ-loop
+unfolding marked
 loop-again c =
     let l = c .before .before .before in
     let inv = l .loop .inv in
@@ -45,11 +47,9 @@ loop-again c =
 
 returns : tie.Need-returns Inv-loop μ-loop
 returns c =
-    let inv = c .before .loop .inv in
-    let n = inv .0 .number in
+    let n = c .before .loop .inv .0 .number in
     let m = c .before .before .args .marks .now in
-    let end : c .before .loop .x ≡ length m = omega arith in
-    rw (take-all (c .before .loop .x) m (omega arith)) at n ∙ end
+    rw (take-all (c .before .loop .x) m (omega arith)) at n
 
 pub count-marked-spec : {M : Type 1} → statement M
 count-marked-spec =
@@ -58,7 +58,7 @@ count-marked-spec =
     Inv-loop
     μ-loop
     loop-holds
-    shared-slice-read-if1
+    shared-slice-read-own
     add-k
     add-x
     loop-less

@@ -65,10 +65,11 @@ next-unsewn-requires c κs =
 enum-told-3 : tie.Need-enum-told-3
 enum-told-3 c = search needs
 
-next-near-marked-requires : tie.Need-next-near-marked-requires
-next-near-marked-requires c κs =
+next-marked-requires : tie.Need-next-marked-requires
+next-marked-requires c κs =
     let s = start (c .before .before) in
-    (fits s (c .enum-told3 .given .1), omega arith, s .pre .1 .1)
+    let long = fits s (c .enum-told3 .given .1) .long in
+    (omega arith, s .pre .1 .1)
 
 enum-told-4 : tie.Need-enum-told-4
 enum-told-4 c = search needs
@@ -100,8 +101,9 @@ returns-3 c =
 returns-4 : tie.Need-returns-4
 returns-4 c =
     let k = c .before in
-    leaves (start (k .before .before)) (k .enum-told3 .given .1) (λ y out. remove-leaves _ _ _ _ _ _ y out)
-    (c .next-near-marked .ensures)
+    let s = start (k .before .before) in
+    let known = k .enum-told3 .given .1 in
+    leaves s known (λ y out. remove-leaves _ _ _ _ _ _ y (fits s known) out) (c .next-marked .ensures)
 
 returns-5 : tie.Need-returns-5
 returns-5 c =
@@ -121,7 +123,7 @@ next-touched-spec =
     enum-known-edit
     next-unsewn-requires
     enum-told-3
-    next-near-marked-requires
+    next-marked-requires
     enum-told-4
     next-cut-requires
     returns
