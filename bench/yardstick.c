@@ -1,5 +1,5 @@
-/* yardstick.c - the calls of 01-scope.md and the requests of 02 that have landed (R-3, R-4), in
- * C99, tuned: what a careful engineer gets without proofs.
+/* yardstick.c - the calls of 01-scope.md and the requests of 02 that have landed (R-3, R-4,
+ * R-10), in C99, tuned: what a careful engineer gets without proofs.
  *
  * Every call validates its whole input in one pass over the table and takes
  * time linear in slots plus entries written. Nothing is kept between calls but the lent buffers;
@@ -76,18 +76,18 @@ INLINE uint32_t chunk_end(uint32_t at, uint32_t slots)
     return slots - at < 8 ? slots : at + 8;
 }
 
-/* Whether the bytes at..at+8 are all there and none has a bit of `bits` (a byte, repeated). */
-INLINE int bare(const uint8_t *bytes, uint32_t at, uint32_t slots, uint64_t bits)
+/* Whether the bytes at..at+8 are all there and 0. */
+INLINE int bare(const uint8_t *bytes, uint32_t at, uint32_t slots)
 {
-    return slots - at >= 8 && (eight(bytes + at) & bits) == 0;
+    return slots - at >= 8 && eight(bytes + at) == 0;
 }
 
-/* Slots whose byte is 1, rising, into out; bytes are 0, 1 or 2. */
+/* Slots whose byte is 1, rising, into out. */
 static uint32_t gather(const uint8_t *restrict bytes, uint32_t slots, uint32_t *restrict out)
 {
     uint32_t len = 0;
     for (uint32_t at = 0; at < slots; at += 8) {
-        if (bare(bytes, at, slots, ~UINT64_C(0)))
+        if (bare(bytes, at, slots))
             continue;
         uint32_t end = chunk_end(at, slots);
         for (uint32_t x = at; x < end; x++)
@@ -240,6 +240,10 @@ COLD answer not_a_map(uint32_t n, const uint32_t *table, uint32_t slots)
 
 /* One sheet dart on each side the sheet crosses. */
 static const uint8_t cross2[2] = {0, 2}, cross3[4] = {0, 4, 8, 10};
+
+/* The darts of the two sides it does not cross: of the axis orders that end in x, each 8 in a row
+ * (4 for n = 2). */
+static const uint8_t apart2[1] = {4}, apart3[2] = {24, 40};
 
 /* Link i of place k in a free cell. */
 INLINE uint32_t cell_link(int n, uint32_t k, int i)
@@ -532,11 +536,12 @@ typedef struct { uint32_t size; int crossing; } spread_result;
 
 /* The sheet of d in a block map: each cell is visited at most once per axis. Gives the size of S
  * and whether some g in S has g.1 in S, which is a cell met along two axes. A cell pushes at
- * most 2 of 8 or 4 of 48 darts per axis, so the worklist never outgrows the slots. */
+ * most 2 of 8 or 4 of 48 darts per axis, so the worklist never outgrows the slots. A dart that
+ * is led to gets 3, and 1 or 2 if its cell is visited later. */
 INLINE spread_result spread(int n, const uint32_t *restrict table, uint8_t *restrict marks,
                             uint32_t slots, uint32_t d)
 {
-    const uint8_t *cross = n == 3 ? cross3 : cross2;
+    const uint8_t *cross = n == 3 ? cross3 : cross2, *apart = n == 3 ? apart3 : apart2;
     spread_result s = {0, 0};
     uint32_t l[48];
     uint32_t len = 0;
@@ -548,7 +553,7 @@ INLINE spread_result spread(int n, const uint32_t *restrict table, uint8_t *rest
             continue;
         uint8_t other = 0;
         for (uint32_t k = SHEET(n); k < CELL(n); k++) {
-            uint8_t in = marks[l[k]] & 1;
+            uint8_t in = marks[l[k]] == 1;
             other |= in;
             marks[l[k]] = (uint8_t)(2 - in);
         }
@@ -561,6 +566,12 @@ INLINE spread_result spread(int n, const uint32_t *restrict table, uint8_t *rest
             if (marks[y] != 1)
                 work[len++] = y;
         }
+        for (int c = 0; c < n - 1; c++)
+            for (uint32_t k = apart[c]; k < apart[c] + (n == 3 ? 8u : 4u); k++) {
+                uint32_t y = ROW(table, l[k])[n];
+                if (!marks[y])
+                    marks[y] = 3;
+            }
     }
     return s;
 }
@@ -842,22 +853,11 @@ INLINE answer remove_in(int n, uint32_t *restrict table, uint32_t slots, uint8_t
         return a;
     spread(n, table, marks, slots, d);
 
-    /* Removed darts, and (seen = 2) remaining darts whose link n leads to one: met from inside. */
+    /* Removed darts, and (3) remaining darts whose link n leads to one. */
     uint32_t removed = 0, edge = 0;
-    for (uint32_t at = 0; at < slots; at += 8) {
-        if (bare(marks, at, slots, ~UINT64_C(0)))
-            continue;
-        uint32_t end = chunk_end(at, slots);
-        for (uint32_t x = at; x < end; x++) {
-            if (!marks[x])
-                continue;
-            removed++;
-            uint32_t y = ROW(table, x)[n];
-            if (!marks[y]) {
-                seen[y] = 2;
-                edge++;
-            }
-        }
+    for (uint32_t x = 0; x < slots; x++) {
+        removed += marks[x] == 1 || marks[x] == 2;
+        edge += marks[x] == 3;
     }
     uint32_t *rec = begin_record(journal, journal_len, 4 * removed + edge);
     if (!rec)
@@ -866,28 +866,28 @@ INLINE answer remove_in(int n, uint32_t *restrict table, uint32_t slots, uint8_t
     /* The record, rising, and the walks. They read link n of removed darts only, so link n of a
      * remaining dart is written at once; the removed rows are cleared after the last walk. */
     for (uint32_t at = 0; at < slots; at += 8) {
-        if (bare(marks, at, slots, ~UINT64_C(0)) && bare(seen, at, slots, ONES << 1))
+        if (bare(marks, at, slots))
             continue;
         uint32_t end = chunk_end(at, slots);
         for (uint32_t x = at; x < end; x++) {
-            if (marks[x]) {
-                rec = put_old_row(rec, table, x);
-            } else if (seen[x] == 2) {
+            if (marks[x] == 3) {
                 uint32_t old = ROW(table, x)[n], y = old;
                 do
                     y = ROW(table, opposite(n, table, y))[n];
-                while (marks[y]);
+                while (marks[y] != 3);
                 rec = put(rec, 4 * x + (uint32_t)n, old, y);
                 ROW(table, x)[n] = y;
+            } else if (marks[x]) {
+                rec = put_old_row(rec, table, x);
             }
         }
     }
     for (uint32_t at = 0; at < slots; at += 8) {
-        if (bare(marks, at, slots, ~UINT64_C(0)))
+        if (bare(marks, at, slots))
             continue;
         uint32_t end = chunk_end(at, slots);
         for (uint32_t x = at; x < end; x++)
-            if (marks[x])
+            if (marks[x] && marks[x] != 3)
                 memset(ROW(table, x), 0xFF, 4 * sizeof *table);
     }
     return accept(0, removed);
