@@ -223,9 +223,10 @@ fn mark_neighbours(
     ensures { λ _. ⌜ Over 3 (now (marks .entry)) (LedTo (now (table .entry)) n (now (queue .entry)) from to) (now (marks .exit)) ⌝ }
 {
     for j in from..to {
-        let y = link(table, n, queue[j]) as usize;
-        if marks[y] == 0 {
-            marks[y] = 3;
+        let x = queue[j];
+        let y = link(table, n, x);
+        if marks[y as usize] == 0 {
+            marks[y as usize] = 3;
         }
     }
 }

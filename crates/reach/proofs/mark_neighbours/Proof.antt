@@ -35,11 +35,11 @@ abbrev μ-loop : tie.MeasureT-loop
 loop-holds : tie.Need-loop-holds Inv-loop μ-loop
 loop-holds c = (over-none (λ x (k, l, h, b, e). omega arith), omega arith)
 
-mul-link : tie.Need-mul-link Inv-loop μ-loop
-mul-link c = search needs
+mul-x : tie.Need-mul-x Inv-loop μ-loop
+mul-x c = search needs
 
-shared-slice-read-link : tie.Need-shared-slice-read-link Inv-loop μ-loop
-shared-slice-read-link c = search needs
+shared-slice-read-x : tie.Need-shared-slice-read-x Inv-loop μ-loop
+shared-slice-read-x c = search needs
 
 link-requires : tie.Need-link-requires Inv-loop μ-loop
 link-requires c κs =
@@ -58,11 +58,14 @@ inside c =
     let long = l .before .loop .inv .0 .long ∙ p .0 .1 in
     rw (c .link .ensures, long) b
 
-cast-y : tie.Need-cast-y Inv-loop μ-loop
-cast-y c = search needs
+cast-if1 : tie.Need-cast-if1 Inv-loop μ-loop
+cast-if1 c = search needs
 
 slice-read-if1 : tie.Need-slice-read-if1 Inv-loop μ-loop
 slice-read-if1 c = inside (c .before)
+
+cast-marks : tie.Need-cast-marks Inv-loop μ-loop
+cast-marks c = search needs
 
 slice-write-marks : tie.Need-slice-write-marks Inv-loop μ-loop
 slice-write-marks c = inside (c .before .before)
@@ -110,11 +113,12 @@ mark-neighbours-spec =
     Inv-loop
     μ-loop
     loop-holds
-    mul-link
-    shared-slice-read-link
+    mul-x
+    shared-slice-read-x
     link-requires
-    cast-y
+    cast-if1
     slice-read-if1
+    cast-marks
     slice-write-marks
     add-j
     loop-less
