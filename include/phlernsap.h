@@ -80,8 +80,9 @@ uint32_t phl_orbit(uint32_t n, const uint32_t *table, size_t table_len,
                    uint8_t *marks, size_t marks_len, uint32_t mask, uint32_t d,
                    uint32_t *place, uint32_t *count);
 
-/* The sheet of d, and the cells that it goes through. Marks: 1 in the sheet, 2 at the other darts
- * of these cells, 0 elsewhere. Count: size of the sheet. Numbers: 1 2 3 5 24 25 26 7 8. */
+/* The sheet of d, the cells that it goes through, and what touches them. Marks: 1 in the sheet, 2
+ * at the other darts of these cells, 3 at each dart outside them whose link n leads into them, 0
+ * elsewhere. Count: size of the sheet. Numbers: 1 2 3 5 24 25 26 7 8. */
 uint32_t phl_sheet(uint32_t n, const uint32_t *table, size_t table_len,
                    uint8_t *marks, size_t marks_len, uint32_t d,
                    uint32_t *place, uint32_t *count);
@@ -105,8 +106,8 @@ uint32_t phl_unsew(uint32_t n, uint32_t *table, size_t table_len,
                    uint32_t *place, uint32_t *count);
 
 /* Removes the layer of cells that the sheet of d goes through, and links what lay on either side
- * of it. Marks: as phl_sheet gives them before the change. Count: darts removed.
- * Numbers: 1 2 3 4 5 24 25 26 7 8 15. */
+ * of it. Marks: as phl_sheet gives them before the change; the darts with 1 and 2 are removed, and
+ * link n of each dart with 3 changes. Count: darts removed. Numbers: 1 2 3 4 5 24 25 26 7 8 15. */
 uint32_t phl_remove(uint32_t n, uint32_t *table, size_t table_len,
                     uint8_t *marks, size_t marks_len, uint32_t *journal, size_t journal_len,
                     uint32_t d, uint32_t *place, uint32_t *count);

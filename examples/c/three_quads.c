@@ -1,4 +1,5 @@
-/* three_quads.c - builds three quads in a row, takes the layer of the middle one out, and undoes it. */
+/* three_quads.c - builds three quads in a row, shows the layer of the middle one with what touches
+ * it, takes the layer out, and undoes that. */
 #include <stdio.h>
 #include <stdlib.h>
 
@@ -38,6 +39,13 @@ static void show_edge(void)
     printf("  5.2 = %u, 7.2 = %u\n", (unsigned)table[4 * 5 + 2], (unsigned)table[4 * 7 + 2]);
 }
 
+/* A line for each quad: 1 in the sheet, 2 at the other darts of its cells, 3 where a dart touches. */
+static void show_marks(void)
+{
+    for (size_t d = 0; d < SLOTS; d++)
+        printf("%s%u%s", d % 8 == 0 ? "  " : "", (unsigned)marks[d], d % 8 == 7 ? "\n" : "");
+}
+
 int main(void)
 {
     uint32_t place, count, number;
@@ -51,6 +59,10 @@ int main(void)
     sew(5, 12);
     sew(13, 20);
     show_edge();
+
+    number = phl_sheet(2, table, ENTRIES, marks, SLOTS, 8, &place, &count);
+    answered("sheet of the middle quad", number, place, count);
+    show_marks();
 
     number = phl_remove(2, table, ENTRIES, marks, SLOTS, journal, WORDS, 8, &place, &count);
     answered("remove the middle layer", number, place, count);

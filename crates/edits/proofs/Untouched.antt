@@ -54,7 +54,7 @@ module _ (n : ℕ) (t m a b : List ℕ) (size x : ℕ) where
   unfolding editLink
   remove-leaves L none j low =
       let own = unmarked-of m x (λ e. omega arith) (λ e. omega arith) in
-      let next = test (marked m (link t n x)) (λ e. absurd (L .beside x e none)) (λ e. e) in
+      let next = test (marked m (link t n x)) (λ e. absurd (L .touched x e none)) (λ e. e) in
       if-eq j n (λ e. rw e (found-link n t m x own ∙ outside-stops n t m (slots t) (link t n x) next))
       (λ e. stays-link n t m x j own e)
 

@@ -19,10 +19,10 @@ sheet n t d = closure t (sheetWords n) (d ∷ [])
 
 -- 1 in S, else 2 in the layer's cells, else 3 where link n leads into them, else 0
 unfoldable pub markOf : Bool → Bool → Bool → ℕ
-markOf within beside leads =
-    elim within [
+markOf inSheet inCells leads =
+    elim inSheet [
       | true ↦ 1
-      | false ↦ (elim beside [ true ↦ 2 | false ↦ (elim leads [ true ↦ 3 | false ↦ 0 ]) ])
+      | false ↦ (elim inCells [ true ↦ 2 | false ↦ (elim leads [ true ↦ 3 | false ↦ 0 ]) ])
     ]
 
 -- the mark of x, where the darts of the layer's cells are c

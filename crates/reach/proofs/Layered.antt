@@ -117,8 +117,7 @@ module _ {n : ℕ} {t : List ℕ} {d : ℕ} {m q : List ℕ} {a b : ℕ} (C : Ce
   of-led x (j, _, low, at) =
       let f = C .listed .inside j low in
       let l = celled-live _ f in
-      let three = C .dim .1 in
-      (
+      let three = C .dim .1 in (
         subst (λ (y : ℕ). live t y ≡ true) at (C .linked .goes _ n l (omega arith)),
         subst (Marked c) (sym (C .comes _ l) ∙ ap (link t n) at) (found-cell _ f),
       )

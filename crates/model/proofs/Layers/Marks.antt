@@ -100,19 +100,19 @@ module _ {n : ℕ} {t : List ℕ} {d : ℕ} (D : BlockDart n t d) where
 
   -- the four cases of a dart, and its mark
   data Mark (x : ℕ) : Type 0 where
-    within : Marked S x → getD (marksOf n t d) x 0 ≡ 1 → Mark x
-    beside : (Marked S x → ⊥) → InCells n t S x → getD (marksOf n t d) x 0 ≡ 2 → Mark x
-    touching : Touches n t S x → getD (marksOf n t d) x 0 ≡ 3 → Mark x
-    elsewhere : (InCells n t S x → ⊥) → (Touches n t S x → ⊥) → getD (marksOf n t d) x 0 ≡ 0 → Mark x
+    within : Marked S x → getD m x 0 ≡ 1 → Mark x
+    beside : (Marked S x → ⊥) → InCells n t S x → getD m x 0 ≡ 2 → Mark x
+    touching : Touches n t S x → getD m x 0 ≡ 3 → Mark x
+    elsewhere : (InCells n t S x → ⊥) → (Touches n t S x → ⊥) → getD m x 0 ≡ 0 → Mark x
 
-  marks-long : length (marksOf n t d) ≡ slots t
+  marks-long : length m ≡ slots t
   unfolding sheetMarks
   marks-long = length-tab (markAt n t S cells) (slots t)
 
-  mark-at : (x : ℕ) → getD (marksOf n t d) x 0 ≡ markAt n t S cells x
+  mark-at : (x : ℕ) → getD m x 0 ≡ markAt n t S cells x
   unfolding sheetMarks
   mark-at x = if-lt x (slots t) (getD-tab (markAt n t S cells) (slots t) x 0) (λ high.
-      List·getD-eq-default (marksOf n t d) 0 (rw marks-long high)
+      List·getD-eq-default m 0 (rw marks-long high)
       ∙ sym (mark-none n t S cells x (past S (sheet-least D .long) high) (past cells (cells-least .long) high)
       (λ l. absurd (let low = live-below T x l in omega arith))))
     where
@@ -136,7 +136,7 @@ module _ {n : ℕ} {t : List ℕ} {d : ℕ} (D : BlockDart n t d) where
   pub marks-one : (x : ℕ) → (getD (marksOf n t d) x 0 ≡ 1) ↔ Marked (sheet n t d) x
   marks-one x = go (mark-of x)
     where
-      go : Mark x → (getD (marksOf n t d) x 0 ≡ 1) ↔ Marked S x
+      go : Mark x → (getD m x 0 ≡ 1) ↔ Marked S x
       go (within h e) = (λ _. h, λ _. e)
       go (beside h c e) = (λ f. absurd (omega arith), λ k. absurd (h k))
       go (touching p e) = (λ f. absurd (omega arith), λ k. absurd (p .1 (own-cell x k)))
@@ -145,7 +145,7 @@ module _ {n : ℕ} {t : List ℕ} {d : ℕ} (D : BlockDart n t d) where
   pub marks-two : (x : ℕ) → (getD (marksOf n t d) x 0 ≡ 2) ↔ ((Marked (sheet n t d) x → ⊥) × InCells n t (sheet n t d) x)
   marks-two x = go (mark-of x)
     where
-      go : Mark x → (getD (marksOf n t d) x 0 ≡ 2) ↔ ((Marked S x → ⊥) × InCells n t S x)
+      go : Mark x → (getD m x 0 ≡ 2) ↔ ((Marked S x → ⊥) × InCells n t S x)
       go (within h e) = (λ f. absurd (omega arith), λ k. absurd (k .0 h))
       go (beside h c e) = (λ _. (h, c), λ _. e)
       go (touching p e) = (λ f. absurd (omega arith), λ k. absurd (p .1 (k .1)))
@@ -154,7 +154,7 @@ module _ {n : ℕ} {t : List ℕ} {d : ℕ} (D : BlockDart n t d) where
   pub marks-three : (x : ℕ) → (getD (marksOf n t d) x 0 ≡ 3) ↔ Touches n t (sheet n t d) x
   marks-three x = go (mark-of x)
     where
-      go : Mark x → (getD (marksOf n t d) x 0 ≡ 3) ↔ Touches n t S x
+      go : Mark x → (getD m x 0 ≡ 3) ↔ Touches n t S x
       go (within h e) = (λ f. absurd (omega arith), λ k. absurd (k .1 (own-cell x h)))
       go (beside h c e) = (λ f. absurd (omega arith), λ k. absurd (k .1 c))
       go (touching p e) = (λ _. p, λ _. e)
@@ -164,7 +164,7 @@ module _ {n : ℕ} {t : List ℕ} {d : ℕ} (D : BlockDart n t d) where
       ↔ ((Marked (sheet n t d) x → ⊥) × (InCells n t (sheet n t d) x → ⊥) × (Touches n t (sheet n t d) x → ⊥))
   marks-zero x = go (mark-of x)
     where
-      go : Mark x → (getD (marksOf n t d) x 0 ≡ 0) ↔ ((Marked S x → ⊥) × (InCells n t S x → ⊥) × (Touches n t S x → ⊥))
+      go : Mark x → (getD m x 0 ≡ 0) ↔ ((Marked S x → ⊥) × (InCells n t S x → ⊥) × (Touches n t S x → ⊥))
       go (within h e) = (λ f. absurd (omega arith), λ k. absurd (k .0 h))
       go (beside h c e) = (λ f. absurd (omega arith), λ k. absurd (k .1 c))
       go (touching p e) = (λ f. absurd (omega arith), λ k. absurd (k .2 p))
@@ -207,10 +207,10 @@ module _ {n : ℕ} {t : List ℕ} {d : ℕ} (D : BlockDart n t d) where
     lives = lives;
     closed = λ x j low h. let (g, i, c) = marks-cells x .0 h in
         marks-cells (link t j x) .1 (g, i, cell-goes T g (sheet-live D g i) x j c low);
-    beside = λ x h e.
+    touched = λ x h e.
         let (_, off, apart) = marks-zero x .0 e in
         apart (live-before T x n (omega arith) (lives (link t n x) h), off, marks-cells (link t n x) .0 h);
   }
     where
-      lives : (x : ℕ) → marked (marksOf n t d) x ≡ true → live t x ≡ true
+      lives : (x : ℕ) → marked m x ≡ true → live t x ≡ true
       lives x h = let (g, i, c) = marks-cells x .0 h in cell-live T g (sheet-live D g i) x c

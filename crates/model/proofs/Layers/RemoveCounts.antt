@@ -1,5 +1,5 @@
 -- remove in numbers: the darts that it takes away (`removed-number`, `remove-lives`), and the entries that it changes
--- (`remove-changes`).
+-- (`remove-changes`), where the mark 3 tells which darts remain with another link n (`marks-borders`).
 use Prim.Native.Nat.{ℕ, _+_, _*_, _<_}
 use mathlib.Core.Path.{_≡_, refl, sym, ap, _∙_}
 use mathlib.Core.Logic.{inr, ⊎-elim, _≢_}
@@ -49,7 +49,7 @@ layer-count {n} {t} {m} L =
     let one = count-many 1 m in
     let two = count-many 2 m in
     let both = total-howMany 1 (length m) (λ x. bit (marked m x)) (λ x. eqb (getD m x 0) 1) (λ x. eqb (getD m x 0) 2)
-        (λ x _. one-or-two m x) in
+    (λ x _. one-or-two m x) in
     let same = howMany-total (length m) (marked m) in
     rw (← (L .long)) (omega arith)
 
@@ -120,7 +120,7 @@ module _ {n : ℕ} {t : List ℕ} {d : ℕ} (D : BlockDart n t d) where
   remove-lives = layer-lives (sheet-layer D) (remove-removes D)
 
   -- a dart has the mark 3 exactly if it remains and its link n led to a dart removed
-  marks-borders : (x : ℕ) → borders n t (marksOf n t d) x ≡ eqb (getD (marksOf n t d) x 0) 3
+  pub marks-borders : (x : ℕ) → borders n t (marksOf n t d) x ≡ eqb (getD (marksOf n t d) x 0) 3
   unfolding borders
   marks-borders x = if-eq (getD m x 0) 3 touched apart
     where
@@ -131,16 +131,14 @@ module _ {n : ℕ} {t : List ℕ} {d : ℕ} (D : BlockDart n t d) where
 
       apart : getD m x 0 ≢ 3 → (not (marked m x) && marked m (link t n x)) ≡ eqb (getD m x 0) 3
       apart ne = test (marked m x) (λ e. rw (e, ne-eqb (getD m x 0) 3 ne)) (λ e. test (marked m (link t n x))
-          (λ next. absurd (⊎-elim (sheet-layer D .beside x next) ne (marks-outside D x .0 e)))
+          (λ next. absurd (⊎-elim (sheet-layer D .touched x next) ne (marks-outside D x .0 e)))
           (λ next. rw (e, next, ne-eqb (getD m x 0) 3 ne)))
 
   -- four entries of each dart removed, and link n of each dart that touches the layer, with the mark 3
   pub remove-changes : length (changesFrom 0 t (removeTable n t d))
       ≡ 4 * countMarked (marksOf n t d) + count 3 (marksOf n t d)
   remove-changes =
-      let touching = count-many 3 (marksOf n t d) in
-      let same = howMany-same (slots t) (borders n t (marksOf n t d)) (λ x. eqb (getD (marksOf n t d) x 0) 3)
-          (λ x _. marks-borders x) in
+      let touching = rw (sheet-layer D .long) at (count-many 3 m) in
+      let same = howMany-same (slots t) (borders n t m) (λ x. eqb (getD m x 0) 3) (λ x _. marks-borders x) in
       let all = layer-changes (sheet-layer D) (remove-removes D) in
-      let long = rw (sheet-layer D .long) at touching in
       omega arith

@@ -15,7 +15,7 @@ pub record Layer (n : ℕ) (t m : List ℕ) : Type 0 where
   pub long : length m ≡ slots t
   pub lives : (x : ℕ) → marked m x ≡ true → live t x ≡ true
   pub closed : (x j : ℕ) → j < n → marked m x ≡ true → marked m (link t j x) ≡ true
-  pub beside : (x : ℕ) → marked m (link t n x) ≡ true → getD m x 0 ≢ 0
+  pub touched : (x : ℕ) → marked m (link t n x) ≡ true → getD m x 0 ≢ 0
 
 -- ---- the walk
 

@@ -8,7 +8,7 @@ use borrow.Author.Needs.{needs}
 use lib.ListN.{length, getD}
 use Rattle.model.specs.Table.{link}
 use Rattle.model.proofs.Lists.Scan.{if-eq}
-use Rattle.reach.specs.Search.{LedTo, Over}
+use Rattle.reach.specs.Search.{Over}
 use Rattle.reach.proofs.Marks.{More, over-none, over-new, over-old, over-as}
 use Rattle.reach.proofs.Meeting.{link-in}
 use Rattle.reach.proofs.mark_neighbours.Statement.{statement}
