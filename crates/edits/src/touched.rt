@@ -51,8 +51,8 @@ fn next_unsewn(table: &[u32], side: &[u8], i: u32, x: u32, end: u32) -> u32
     end
 }
 
-// The first slot from x on that has a mark, or end: remove changes the cells with 1 and 2, and link n where there is a 3.
-fn next_marked(marks: &[u8], x: u32, end: u32) -> u32
+// The first slot from x on that has a mark, or end: remove clears those with 1 and 2, and changes link n of those with 3.
+fn next_with_mark(marks: &[u8], x: u32, end: u32) -> u32
     requires { ⌜ (end ≤ length (now marks)) × (x ≤ end) ⌝ }
     ensures { λ r. ⌜ Skips (λ y. getD (now (marks .entry)) y 0 ≡ 0) x end r ⌝ }
 {
@@ -101,7 +101,7 @@ pub fn next_touched(
         Edit::Add => next_listed(a, c, size, x, end),
         Edit::Sew(_) => next_partner(a, b, x, end),
         Edit::Unsew(i) => next_unsewn(table, marks, i, x, end),
-        Edit::Remove => next_marked(marks, x, end),
+        Edit::Remove => next_with_mark(marks, x, end),
         Edit::Split => next_cut(n, a, b, c, size, x, end),
     }
 }

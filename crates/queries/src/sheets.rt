@@ -1,4 +1,4 @@
-// sheet: the sheet of a dart, and the cells that it goes through.
+// sheet: the sheet of a dart, the cells that it goes through, and what touches them.
 use answers::Answer;
 ghost use mathlib.Core.Path.{_≡_};
 ghost use mathlib.Core.List.{[]};
@@ -24,8 +24,8 @@ fn sheet_in(n: u32, table: &[u32], marks: &mut [u8], queue: &mut [u32], d: u32) 
     }
 }
 
-// "Marks: 1 in S, 2 for other darts of cells that hold a dart of S, 0 elsewhere. Count: size of S." A small table does not pay
-// for a queue of 65,536 words.
+// "Marks: 1 in S, 2 for other darts of cells that hold a dart of S", 3 for what touches these cells, "0 elsewhere. Count: size
+// of S." A small table does not pay for a queue of 65,536 words.
 pub fn sheet(n: u32, table: &[u32], marks: &mut [u8], d: u32) -> Answer
     ensures { λ r. ⌜ outcome r (now (table .entry)) (now (marks .exit)) []
         ≡ sheetCall n (now (table .entry)) (now (marks .entry)) d ⌝ }

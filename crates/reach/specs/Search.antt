@@ -1,5 +1,5 @@
 -- The flood as the code does it: marks, and a queue of the darts found. `meet`, `follow` and `expand` are its steps;
--- `lay` (the marks) and `Listed` (the queue) say what it leaves.
+-- `lay` and `Over` (the marks) and `Listed` (the queue) say what it leaves.
 use Prim.Native.Nat.{ℕ, zero, suc, _+_, _≤_, _<_}
 use mathlib.Core.Path.{_≡_}
 use mathlib.Core.Logic.{_≢_}

@@ -224,8 +224,8 @@ fn mark_neighbours(table: &[u32], marks: &mut [u8], queue: &[u32], n: u32, from:
     }
 }
 
-// sheet d: S by the links but 1, and 1.0.1; then, from S, its cells by the links but n; then what touches these. A dart of S
-// leads to S over link n.
+// sheet d: S by the links but 1, and 1.0.1; then, from S, its cells by the links but n; then, from their other darts, what touches
+// them (link n leads from a dart of S to S).
 // Marks 1 in S, 2 at the other darts of these cells, 3 at the darts outside that lead into them, 0 elsewhere; the size of S.
 pub fn sheet(n: u32, table: &[u32], marks: &mut [u8], queue: &mut [u32], d: u32) -> u32
     requires { ⌜ Given n (now table) (now marks) (now queue) d ⌝ }

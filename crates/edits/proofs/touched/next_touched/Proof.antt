@@ -65,8 +65,8 @@ next-unsewn-requires c κs =
 enum-told-3 : tie.Need-enum-told-3
 enum-told-3 c = search needs
 
-next-marked-requires : tie.Need-next-marked-requires
-next-marked-requires c κs =
+next-with-mark-requires : tie.Need-next-with-mark-requires
+next-with-mark-requires c κs =
     let s = start (c .before .before) in
     let long = fits s (c .enum-told3 .given .1) .long in
     (omega arith, s .pre .1 .1)
@@ -103,7 +103,7 @@ returns-4 c =
     let k = c .before in
     let s = start (k .before .before) in
     let known = k .enum-told3 .given .1 in
-    leaves s known (λ y out. remove-leaves _ _ _ _ _ _ y (fits s known) out) (c .next-marked .ensures)
+    leaves s known (λ y out. remove-leaves _ _ _ _ _ _ y (fits s known) out) (c .next-with-mark .ensures)
 
 returns-5 : tie.Need-returns-5
 returns-5 c =
@@ -123,7 +123,7 @@ next-touched-spec =
     enum-known-edit
     next-unsewn-requires
     enum-told-3
-    next-marked-requires
+    next-with-mark-requires
     enum-told-4
     next-cut-requires
     returns

@@ -1,4 +1,4 @@
--- `edits::next_marked` meets its contract.
+-- `edits::next_with_mark` meets its contract.
 use Prim.Native.Nat.{_-_}
 use mathlib.Core.Path.{_≡_}
 use native.Mathlib.Omega.{arith}
@@ -6,8 +6,8 @@ use borrow.Author.Needs.{needs}
 use lib.ListN.{getD}
 use Rattle.edits.specs.Skips.{Skips}
 use Rattle.edits.proofs.Skipping.{skips-none, skips-more, skips-all}
-use Rattle.edits.proofs.touched.next_marked.Statement.{statement}
-use Rattle.edits.proofs.touched.next_marked.Tie as tie
+use Rattle.edits.proofs.touched.next_with_mark.Statement.{statement}
+use Rattle.edits.proofs.touched.next_with_mark.Tie as tie
 
 abbrev Inv-loop : tie.InvT-loop
 Inv-loop marks x end y₀ y = Skips (λ z. getD marks z 0 ≡ 0) x end y
@@ -41,8 +41,8 @@ loop-again c =
 returns-2 : tie.Need-returns-2 Inv-loop μ-loop
 returns-2 c = skips-all (c .before .loop .inv) (omega arith)
 
-pub next-marked-spec : {M : Type 1} → statement M
-next-marked-spec =
+pub next-with-mark-spec : {M : Type 1} → statement M
+next-with-mark-spec =
     tie.close
     (tie.spec
     Inv-loop
