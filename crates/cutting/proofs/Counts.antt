@@ -9,7 +9,7 @@ use lib.ListN.{length, getD, take}
 use lib.Dec.{eqb}
 use borrow.Author.Tests.{ne-eqb}
 use Rattle.model.specs.Lists.{count}
-use Rattle.model.specs.Remove.{marked, countMarked}
+use Rattle.model.specs.Remove.{cellMark, marked, countMarked}
 use Rattle.model.proofs.Lists.Scan.{test, if-eq}
 
 count-more : (v : ℕ) (m : List ℕ) (x : ℕ) → x < length m
@@ -24,7 +24,7 @@ count-more v (y ∷ m) (suc x) low =
 -- a mark that is 1 or 2 counts once
 marked-more : (m : List ℕ) (x : ℕ) → x < length m
     → countMarked (take (x + 1) m) ≡ countMarked (take x m) + elim (marked m x) [ true ↦ 1 | false ↦ 0 ]
-unfolding countMarked marked
+unfolding countMarked marked cellMark
 marked-more m x low =
     let one = count-more 1 m x low in
     let two = count-more 2 m x low in

@@ -18,8 +18,7 @@ fn count_marked(marks: &[u8]) -> u32
 {
     let mut k: u32 = 0;
     for x in 0..marks.len() {
-        let own = marks[x];
-        if (own == 1) | (own == 2) {
+        if layers::cell_mark(marks[x]) {
             k += 1;
         }
     }

@@ -11,7 +11,7 @@ ghost use lib.Dec.{ltb};
 ghost use Rattle.model.specs.Lists.{ones, indexOf};
 ghost use Rattle.model.specs.Checks.{pass, dimOk, tableOk};
 ghost use Rattle.model.specs.Table.{unused, slots, link, live, walk, unusedSlots};
-ghost use Rattle.model.specs.Remove.{opposite, marked, outside, removedLink};
+ghost use Rattle.model.specs.Remove.{opposite, cellMark, marked, outside, removedLink};
 ghost use Rattle.model.specs.Cell.{cellSize};
 ghost use Rattle.model.specs.Add.{addedLink};
 ghost use Rattle.model.specs.Split.{crosses, newDart, newDartLink, halvedLink};
@@ -59,12 +59,11 @@ fn mark(marks: &[u8], x: u32) -> u8
     if at < marks.len() { marks[at] } else { 0 }
 }
 
-// Whether x has the mark 1 or 2.
-fn marked(marks: &[u8], x: u32) -> bool
-    ensures { λ r. ⌜ r ≡ marked (now (marks .entry)) x ⌝ }
+// Whether a mark is 1 or 2, as in the layer's cells.
+pub fn cell_mark(mark: u8) -> bool
+    ensures { λ r. ⌜ r ≡ cellMark mark ⌝ }
 {
-    let own = mark(marks, x);
-    (own == 1) | (own == 2)
+    (mark == 1) | (mark == 2)
 }
 
 // The opposite edge 1.0.1 of y.
@@ -105,7 +104,7 @@ pub fn first_outside(n: u32, table: &[u32], marks: &[u8], x: u32) -> u32
 {
     let mut y = link(table, n as usize, x);
     loop {
-        if !marked(marks, y) {
+        if !cell_mark(mark(marks, y)) {
             break y;
         }
         y = hop(n, table, y);
@@ -117,7 +116,7 @@ pub fn removed_links(n: u32, table: &[u32], marks: &[u8], x: u32) -> [u32; 4]
     requires { ⌜ (Layer n (now table) (now marks)) × (x < slots (now table)) ⌝ }
     ensures { λ r. ⌜ r ≡ four (removedLink n (now (table .entry)) (now (marks .entry)) x) ⌝ }
 {
-    if marked(marks, x) {
+    if cell_mark(marks[x as usize]) {
         return [UNUSED; 4];
     }
     let mut links = links_in(table, x);

@@ -13,7 +13,7 @@ use Rattle.model.specs.Add.{addSlots, addedLink, added, addTable}
 use Rattle.model.specs.Numbering.{corners, flip, firstBit, swapFirst, swapLast, cellLink}
 use Rattle.model.specs.Sew.{sideWords, side, coupleSteps, pairUp, partners, isPaired, sewnLink, sewn, sewTable, unsews}
 use Rattle.model.specs.Sew.{unsewnLink, unsewn, unsewTable}
-use Rattle.model.specs.Remove.{opposite, marked, countMarked, outside, removedLink, removed, removeTable}
+use Rattle.model.specs.Remove.{opposite, cellMark, marked, countMarked, outside, removedLink, removed, removeTable}
 use Rattle.model.specs.Split.{crosses, newDart, newDartLink, halvedLink, halved, splitSlots, splitTable}
 use Rattle.model.specs.Checks.{must, mustAt, andThen, inOrder, dimOk, tableOk, marksOk, journalOk, ruleNumber, ruleOk, mapChecks}
 use Rattle.model.specs.Checks.{indexOk, maskOk, dartOk, blockOk, apartOk, freeOk, sewnOk, pairingOk, crossingOk, addRoomOk}
@@ -67,7 +67,7 @@ unfolding sideWords side coupleSteps pairUp partners isPaired sewnLink sewn sewT
 openSew = tt
 
 unfoldable pub openRemove : Unit {0}
-unfolding opposite marked countMarked outside removedLink removed removeTable
+unfolding opposite cellMark marked countMarked outside removedLink removed removeTable
 openRemove = tt
 
 unfoldable pub openSplit : Unit {0}

@@ -13,9 +13,13 @@ use Rattle.model.specs.Sheet.{sheet, sheetMarks}
 unfoldable pub opposite : ℕ → List ℕ
 opposite n = elim (eqb n 3) [ true ↦ 2 ∷ 1 ∷ 0 ∷ 1 ∷ 2 ∷ [] | false ↦ 1 ∷ 0 ∷ 1 ∷ [] ]
 
--- x has the mark 1 or 2; 02's R-10: "3 counts as outside"
+-- 1 or 2, the marks of the layer's cells; 02's R-10: "3 counts as outside"
+unfoldable pub cellMark : ℕ → Bool
+cellMark k = eqb k 1 || eqb k 2
+
+-- x has such a mark
 unfoldable pub marked : List ℕ → ℕ → Bool
-marked m x = eqb (getD m x 0) 1 || eqb (getD m x 0) 2
+marked m x = cellMark (getD m x 0)
 
 -- how many marks are 1 or 2
 unfoldable pub countMarked : List ℕ → ℕ

@@ -5,7 +5,7 @@ use native.Mathlib.Omega.{arith}
 use borrow.Author.Needs.{needs}
 use borrow.Author.Tests.{not-true, not-false}
 use Rattle.model.specs.Table.{slots, link}
-use Rattle.model.specs.Remove.{marked, outside}
+use Rattle.model.specs.Remove.{cellMark, marked, outside}
 use Rattle.model.proofs.Operations.Frame.{outside-stops}
 use Rattle.layers.proofs.Walk.{hops, Ends, Nearer, hop-nearer, walk-out}
 use Rattle.layers.proofs.first_outside.Statement.{statement}
@@ -28,22 +28,32 @@ loop-holds c =
     let at = c .link .ensures in
     rw at (refl, walk-out (s .pre .0) (s .args .x) (s .pre .1))
 
-marked-requires : tie.Need-marked-requires Inv-loop μ-loop
-marked-requires c κs = search needs
+mark-requires : tie.Need-mark-requires Inv-loop μ-loop
+mark-requires c κs = search needs
+
+cell-mark-requires : tie.Need-cell-mark-requires Inv-loop μ-loop
+cell-mark-requires c κs = search needs
+
+-- what is asked is whether y is marked
+asked : (c : tie.After-cell-mark Inv-loop μ-loop) →
+    let l = c .before .before in
+    c .cell-mark .result ≡ marked (l .before .before .before .before .args .marks .now) (l .loop .y)
+unfolding marked
+asked c = c .cell-mark .ensures ∙ ap cellMark (c .before .mark .ensures)
 
 hop-requires : tie.Need-hop-requires Inv-loop μ-loop
-hop-requires c κs = let dim = c .before .before .before .before .before .before .pre .0 .table .dim in omega arith
+hop-requires c κs = let dim = c .before .before .before .before .before .before .before .pre .0 .table .dim in omega arith
 
 -- the dart y of this turn is marked, and the next one is nearer to the end
 nearer : (c : tie.After-hop Inv-loop μ-loop) →
-    let l = c .before .before .before in
+    let l = c .before .before .before .before in
     let a = l .before .before .before .before .args in
     Nearer (a .n) (a .table .now) (a .marks .now) (slots (a .table .now)) (l .loop .y) (c .hop .result)
 nearer c =
     let e = c .before in
-    let l = e .before .before in
+    let l = e .before .before .before in
     let a = l .before .before .before .before .args in
-    let inside = sym (e .before .marked .ensures) ∙ not-false _ (e .if1 .left) in
+    let inside = sym (asked (e .before)) ∙ not-false _ (e .if1 .left) in
     rw (c .hop .ensures)
     (hop-nearer (a .n) (a .table .now) (a .marks .now) (slots (a .table .now)) (l .loop .y) (l .loop .inv .1) inside)
 
@@ -52,15 +62,15 @@ loop-less c = nearer c .fewer
 
 loop-again : tie.Need-loop-again Inv-loop μ-loop
 loop-again c =
-    let inv = c .before .before .before .loop .inv in
+    let inv = c .before .before .before .before .loop .inv in
     let e = nearer c .same in
     (e ∙ inv .0, ap (marked _) e ∙ inv .1)
 
 returns : tie.Need-returns Inv-loop μ-loop
 returns c =
-    let l = c .before .before in
+    let l = c .before .before .before in
     let s = l .before .before .before .before in
-    let out = sym (c .before .marked .ensures) ∙ not-true _ (c .if1 .taken) in
+    let out = sym (asked (c .before)) ∙ not-true _ (c .if1 .taken) in
     sym (outside-stops _ _ _ (slots (s .args .table .now)) (l .loop .y) out) ∙ l .loop .inv .0
 
 pub first-outside-spec : {M : Type 1} → statement M
@@ -71,7 +81,8 @@ first-outside-spec =
     μ-loop
     link-requires
     loop-holds
-    marked-requires
+    mark-requires
+    cell-mark-requires
     hop-requires
     loop-less
     loop-again

@@ -14,7 +14,7 @@ use Rattle.model.specs.Table.{slots, link, live}
 use Rattle.model.specs.Reach.{steps, closure, inSet}
 use Rattle.model.specs.Cell.{cellWords, cellOf}
 use Rattle.model.specs.Sheet.{sheet, markOf, markAt, sheetMarks}
-use Rattle.model.specs.Remove.{marked}
+use Rattle.model.specs.Remove.{cellMark, marked}
 use Rattle.model.specs.Meaning.Maps.{MapTable}
 use Rattle.model.specs.Meaning.Sets.{Least, Marked}
 use Rattle.model.specs.Meaning.Sheets.{BlockDart, marksOf, InCells, Touches}
@@ -54,12 +54,12 @@ module _ (n : ℕ) (t s c : List ℕ) (x : ℕ) where
 -- ---- 1 or 2, and neither
 
 pub marked-of : (m : List ℕ) (x : ℕ) → (getD m x 0 ≡ 1) ⊎ (getD m x 0 ≡ 2) → marked m x ≡ true
-unfolding marked
+unfolding marked cellMark
 marked-of m x h =
     or-i (eqb (getD m x 0) 1) (eqb (getD m x 0) 2) (⊎-elim (λ e. inl (eq-eqb _ 1 e)) (λ e. inr (eq-eqb _ 2 e)) h)
 
 pub unmarked-of : (m : List ℕ) (x : ℕ) → getD m x 0 ≢ 1 → getD m x 0 ≢ 2 → marked m x ≡ false
-unfolding marked
+unfolding marked cellMark
 unmarked-of m x one two = rw (ne-eqb (getD m x 0) 1 one, ne-eqb (getD m x 0) 2 two)
 
 -- ---- the marks of a sheet

@@ -12,7 +12,7 @@ use borrow.Author.Tests.{eq-eqb, ne-eqb}
 use Rattle.model.specs.Lists.{count}
 use Rattle.model.specs.Table.{slots, link, live}
 use Rattle.model.specs.Journal.{changesFrom}
-use Rattle.model.specs.Remove.{marked, countMarked, removeTable}
+use Rattle.model.specs.Remove.{cellMark, marked, countMarked, removeTable}
 use Rattle.model.specs.Meaning.Sizes.{liveCount}
 use Rattle.model.specs.Meaning.Maps.{Dim}
 use Rattle.model.specs.Meaning.Sheets.{BlockDart, marksOf, howMany}
@@ -40,7 +40,7 @@ count-many : (v : ℕ) (m : List ℕ) → count v m ≡ howMany (length m) (λ x
 count-many v m = count-total v m ∙ sym (howMany-total (length m) (λ x. eqb (getD m x 0) v))
 
 one-or-two : (m : List ℕ) (x : ℕ) → bit (marked m x) ≡ 1 * bit (eqb (getD m x 0) 1) + bit (eqb (getD m x 0) 2)
-unfolding marked
+unfolding marked cellMark
 one-or-two m x = if-eq (getD m x 0) 1 (λ e. rw e) (λ e. rw (ne-eqb (getD m x 0) 1 e) (omega arith))
 
 layer-count : {n : ℕ} {t m : List ℕ} → Layer n t m → countMarked m ≡ howMany (slots t) (marked m)

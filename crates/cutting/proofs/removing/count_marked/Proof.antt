@@ -1,6 +1,6 @@
 -- `cutting::removing::count_marked` meets its contract. The loop's invariant: the marks before x are counted.
 use Prim.Native.Nat.{_≤_, _<_, _-_}
-use mathlib.Core.Path.{_≡_, refl}
+use mathlib.Core.Path.{_≡_, refl, sym, _∙_}
 use mathlib.Core.Logic.{⊎-elim}
 use native.Mathlib.Omega.{arith}
 use lib.ListN.{length}
@@ -20,11 +20,14 @@ abbrev μ-loop : tie.MeasureT-loop
 loop-holds : tie.Need-loop-holds Inv-loop μ-loop
 loop-holds c = (counted-none _, omega arith, refl)
 
-shared-slice-read-own : tie.Need-shared-slice-read-own Inv-loop μ-loop
-shared-slice-read-own c = search needs
+shared-slice-read-cell-mark : tie.Need-shared-slice-read-cell-mark Inv-loop μ-loop
+shared-slice-read-cell-mark c = search needs
+
+cell-mark-requires : tie.Need-cell-mark-requires Inv-loop μ-loop
+cell-mark-requires c κs = search needs
 
 add-k : tie.Need-add-k Inv-loop μ-loop
-add-k c = let n = c .before .before .before .loop .inv .0 .few in omega arith
+add-k c = let n = c .before .before .before .before .loop .inv .0 .few in omega arith
 
 add-x : tie.Need-add-x Inv-loop μ-loop
 add-x c = search needs
@@ -35,12 +38,13 @@ loop-less c = search needs
 loop-again : tie.Need-loop-again Inv-loop μ-loop
 unfolding marked
 loop-again c =
-    let l = c .before .before .before in
+    let l = c .before .before .before .before in
     let inv = l .loop .inv in
-    let low : l .loop .x < length (l .before .args .marks .now) = omega arith in
-    let at = inv .0 in (
-      ⊎-elim (λ w. rw (w .1) (counted-more at low (w .0 .taken))) (λ w. rw (w .1) (counted-same at low (w .0 .left)))
-          (c .if1 .came),
+    let low : l .loop .x < length (l .before .before .args .marks .now) = omega arith in
+    let at = inv .0 in
+    let asked = sym (c .before .cell-mark .ensures) in (
+      ⊎-elim (λ w. rw (w .1) (counted-more at low (asked ∙ w .0 .taken)))
+          (λ w. rw (w .1) (counted-same at low (asked ∙ w .0 .left))) (c .if1 .came),
       omega arith,
       refl,
     )
@@ -48,7 +52,7 @@ loop-again c =
 returns : tie.Need-returns Inv-loop μ-loop
 returns c =
     let n = c .before .loop .inv .0 .number in
-    let m = c .before .before .args .marks .now in
+    let m = c .before .before .before .args .marks .now in
     rw (take-all (c .before .loop .x) m (omega arith)) at n
 
 pub count-marked-spec : {M : Type 1} → statement M
@@ -58,7 +62,8 @@ count-marked-spec =
     Inv-loop
     μ-loop
     loop-holds
-    shared-slice-read-own
+    shared-slice-read-cell-mark
+    cell-mark-requires
     add-k
     add-x
     loop-less
