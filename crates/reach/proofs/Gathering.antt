@@ -34,6 +34,7 @@ given-ready {n} {t} g = record {
   start = g .start;
 }
 
+-- and link n leads back
 pub given-comes : {n : ℕ} {t m q : List ℕ} {d : ℕ} → Given n t m q d
     → (x : ℕ) → live t x ≡ true → link t n (link t n x) ≡ x
 given-comes {n} {t} g x l =

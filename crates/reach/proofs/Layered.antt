@@ -44,7 +44,7 @@ pub celled : {n : ℕ} {t m₀ q₀ : List ℕ} {d : ℕ} {vs : List (List ℕ)}
     → Given n t m₀ q₀ d → Goes t (sheetWords n) → Goes t vs → Same vs (cellWords n) → slots t ≤ length q
     → Gathered (sheet n t d) d m q a → Flooded t vs 2 m q a m′ q′ b → Celled n t d m′ q′ a b
 unfolding sheet
-celled {n} {t} {d = d} {q = q} {q′ = q′} given sheet-goes cell-goes same room g f = record {
+celled {n} {t} {d = d} {q = q} given sheet-goes cell-goes same room g f = record {
   dim = given .dim;
   linked = given-ready given .linked;
   comes = given-comes given;

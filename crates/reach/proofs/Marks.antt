@@ -99,6 +99,7 @@ module _ (k : ℕ) (m c : List ℕ) (x : ℕ) where
   unfolding laid inSet
   laid-none e h = rw (eq-eqb (getD m x 0) 0 e, ne-eqb (getD c x 0) 1 h, laid)
 
+-- where P holds of no dart, the marks stay
 pub over-none : {k : ℕ} {m : List ℕ} {P : ℕ → Type 0} → ((x : ℕ) → P x → ⊥) → Over k m P m
 over-none off = record { long = refl; kept = λ x _. refl; new = λ x _ p. absurd (off x p); none = λ x z _. z }
 

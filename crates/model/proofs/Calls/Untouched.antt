@@ -5,14 +5,14 @@
 -- `sheet-marks`, `remove-marks`, `split-marks`: accepted, or refused by 13, 14 or 15, they leave the marks of the sheet.
 use Prim.Native.Nat.{ℕ}
 use mathlib.Core.Path.{_≡_, refl, ap, _∙_}
-use mathlib.Core.Logic.{_⊎_, ⊎-elim, _≢_}
+use mathlib.Core.Logic.{⊎-elim, _≢_}
 use mathlib.Core.Bool.{true}
 use mathlib.Core.List.{[], _∷_}
 use native.Mathlib.Omega.{arith}
 use Rattle.model.specs.Cell.{leastWrong}
 use Rattle.model.specs.Calls.{Outcome, refused}
 use Rattle.model.specs.Runs.{Call, doCall}
-use Rattle.model.specs.Meaning.Ends.{Untouched, done, refusalPlace, layerMarks, refusalMarks, doneOf}
+use Rattle.model.specs.Meaning.Ends.{Untouched, done, refusalPlace, Sheeted, layerMarks, refusalMarks, doneOf}
 use Rattle.model.specs.Meaning.Ends.{Reading, reads-check, reads-orbit, reads-sheet}
 use Rattle.model.specs.Meaning.Maps.{byRule}
 use Rattle.model.specs.Meaning.Sizes.{member}
@@ -65,10 +65,6 @@ reading-untouched n o reads-sheet = untouched-always n o _ refl refl
 -- ---- the marks of a sheet
 
 module _ (n : ℕ) (o : Outcome) (d : ℕ) where
-  -- a call with the number k has come to the sheet
-  abbrev Sheeted : ℕ → Type 0
-  Sheeted k = (k ≡ 0) ⊎ (member (13 ∷ 14 ∷ 15 ∷ []) k ≡ true)
-
   layer-left : (k : ℕ) → member (13 ∷ 14 ∷ 15 ∷ []) k ≡ true → layerMarks n o d k ≡ marksOf n (o .table) d
   unfolding layerMarks
   layer-left k h = rw (h, layerMarks)

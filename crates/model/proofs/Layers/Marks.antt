@@ -53,7 +53,7 @@ module _ (n : ℕ) (t s c : List ℕ) (x : ℕ) where
 
 -- ---- 1 or 2, and neither
 
-pub marked-of : (m : List ℕ) (x : ℕ) → (getD m x 0 ≡ 1) ⊎ (getD m x 0 ≡ 2) → marked m x ≡ true
+marked-of : (m : List ℕ) (x : ℕ) → (getD m x 0 ≡ 1) ⊎ (getD m x 0 ≡ 2) → marked m x ≡ true
 unfolding marked cellMark
 marked-of m x h =
     or-i (eqb (getD m x 0) 1) (eqb (getD m x 0) 2) (⊎-elim (λ e. inl (eq-eqb _ 1 e)) (λ e. inr (eq-eqb _ 2 e)) h)

@@ -28,16 +28,16 @@ use Rattle.model.proofs.Layers.Remove.{layer-slots, layer-live, remove-
 -- ---- the darts taken away
 
 -- the mark v, by its places
-count-total : (v : ℕ) (m : List ℕ) → count v m ≡ total (length m) 0 (λ x. bit (eqb (getD m x 0) v))
+count-sum : (v : ℕ) (m : List ℕ) → count v m ≡ total (length m) 0 (λ x. bit (eqb (getD m x 0) v))
 unfolding count total
-count-total v [] = refl
-count-total v (y ∷ m) =
-    let rec = count-total v m in
+count-sum v [] = refl
+count-sum v (y ∷ m) =
+    let rec = count-sum v m in
     let next = total-shift (length m) 0 (λ x. bit (eqb (getD (y ∷ m) x 0) v)) in
     test (eqb y v) (λ e. rw (e, count) (omega arith)) (λ e. rw (e, count) (omega arith))
 
 count-many : (v : ℕ) (m : List ℕ) → count v m ≡ howMany (length m) (λ x. eqb (getD m x 0) v)
-count-many v m = count-total v m ∙ sym (howMany-total (length m) (λ x. eqb (getD m x 0) v))
+count-many v m = count-sum v m ∙ sym (howMany-total (length m) (λ x. eqb (getD m x 0) v))
 
 one-or-two : (m : List ℕ) (x : ℕ) → bit (marked m x) ≡ 1 * bit (eqb (getD m x 0) 1) + bit (eqb (getD m x 0) 2)
 unfolding marked cellMark

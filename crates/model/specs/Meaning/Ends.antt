@@ -2,7 +2,7 @@
 -- call gives (`done`). And what theorems say of that: `Untouched`, `Recorded`, `CursorMoved`, `CountsChanges`.
 use Prim.Native.Nat.{ℕ, _+_, _*_, _-_, _≤_, _<_}
 use mathlib.Core.Path.{_≡_}
-use mathlib.Core.Logic.{_≢_}
+use mathlib.Core.Logic.{_⊎_, _≢_}
 use mathlib.Core.Bool.{Bool, true, false, _&&_}
 use mathlib.Core.List.{List, [], _∷_, _++_}
 use lib.ListN.{length, getD, set}
@@ -114,6 +114,10 @@ refusalPlace n t k = byRule (λ r. leastBreaking n t) (elim (eqb k 8) [ true ↦
 -- "count is 0" but for 5 and 24 to 26: "count then gives the link index"
 unfoldable pub refusalCount : ℕ → List ℕ → ℕ → ℕ
 refusalCount n t k = byRule (breakingLink n t (leastBreaking n t)) 0 k
+
+-- remove or split, with the number k, has come to the sheet: it is accepted, or refused by 13, 14 or 15
+abbrev pub Sheeted : ℕ → Type 0
+Sheeted k = (k ≡ 0) ⊎ (member (13 ∷ 14 ∷ 15 ∷ []) k ≡ true)
 
 -- "marks too, but remove and split refused by 13, 14 or 15 leave the sheet's marks"
 unfoldable pub layerMarks : ℕ → Outcome → ℕ → ℕ → List ℕ
