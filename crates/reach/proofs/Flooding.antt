@@ -335,6 +335,7 @@ module _ (flood : Flood) where
   ended s f closed = record {
     marks = over-lay mark (first .marks) (reached flood) (s .marks) over;
     listed = f .listed;
+    more = f .later .more;
     stays = f .later .stays;
   }
     where

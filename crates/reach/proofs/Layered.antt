@@ -35,6 +35,7 @@ pub record Celled (n : ℕ) (t : List ℕ) (d : ℕ) (m q : List ℕ) (a b : ℕ
   pub comes : (x : ℕ) → live t x ≡ true → link t n (link t n x) ≡ x
   pub lives : (x : ℕ) → Marked (sheet n t d) x → live t x ≡ true
   pub goes : Goes t (cellWords n)
+  pub more : a ≤ b
   pub first : (j : ℕ) → j < a → Marked (sheet n t d) (getD q j 0)
   pub within : Over 2 (sheet n t d) (Marked (closure t (cellWords n) (ones (sheet n t d)))) m
   pub listed : Listed m q b
@@ -50,6 +51,7 @@ celled {n} {t} {d = d} {q = q} given sheet-goes cell-goes same room g f = record
   comes = given-comes given;
   lives = closure-live t (sheetWords n) sheet-goes (d ∷ []) (λ x i. rw (sole i) (given .start));
   goes = λ x w l i. cell-goes x w l (same .of w i);
+  more = f .more;
   first = λ j low.
       let own = rw (g .marks) at (g .listed .inside j low) in
       rw (f .stays j low) (found-marked (sheet n t d) (getD q j 0) (sheet-is n t d .bits) own);

@@ -103,14 +103,6 @@ module _ (k : ℕ) (m c : List ℕ) (x : ℕ) where
 pub over-none : {k : ℕ} {m : List ℕ} {P : ℕ → Type 0} → ((x : ℕ) → P x → ⊥) → Over k m P m
 over-none off = record { long = refl; kept = λ x _. refl; new = λ x _ p. absurd (off x p); none = λ x z _. z }
 
-pub over-as : {k : ℕ} {m r : List ℕ} {P Q : ℕ → Type 0} → ((x : ℕ) → P x → Q x) → ((x : ℕ) → Q x → P x) → Over k m P r → Over k m Q r
-over-as to of o = record {
-  long = o .long;
-  kept = o .kept;
-  new = λ x z q. o .new x z (of x q);
-  none = λ x z q. o .none x z (λ p. q (to x p));
-}
-
 pub over-lay : (k : ℕ) (m c r : List ℕ) → Over k m (Marked c) r → r ≡ lay k m c
 unfolding lay
 over-lay k m c r o =

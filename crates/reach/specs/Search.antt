@@ -103,6 +103,7 @@ lay k m c = tabulate (length m) (laid k m c)
 pub record Flooded (t : List ℕ) (ws : List (List ℕ)) (k : ℕ) (m q : List ℕ) (s : ℕ) (m′ q′ : List ℕ) (r : ℕ) : Type 0 where
   pub marks : m′ ≡ lay k m (closure t ws (take s q))
   pub listed : Listed m′ q′ r
+  pub more : s ≤ r
   pub stays : (j : ℕ) → j < s → getD q′ j 0 ≡ getD q j 0
 
 -- the marks are the set c, r is its size, and the queue lists it, d first

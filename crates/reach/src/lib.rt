@@ -212,7 +212,7 @@ pub fn side(n: u32, table: &[u32], marks: &mut [u8], queue: &mut [u32], i: u32, 
 // The mark 3 on each dart without a mark that link n leads to from the queue's words from `from` on, before `to`.
 fn mark_neighbours(table: &[u32], marks: &mut [u8], queue: &[u32], n: u32, from: usize, to: usize)
     requires { ⌜ (Linked (now table)) × (length (now marks) ≡ slots (now table)) × (n < 4) ⌝ }
-    requires { ⌜ (to ≤ length (now queue)) × ((j : ℕ) → j < to → live (now table) (getD (now queue) j 0) ≡ true) ⌝ }
+    requires { ⌜ (from ≤ to) × (to ≤ length (now queue)) × ((j : ℕ) → j < to → live (now table) (getD (now queue) j 0) ≡ true) ⌝ }
     ensures { λ _. ⌜ Over 3 (now (marks .entry)) (LedTo (now (table .entry)) n (now (queue .entry)) from to) (now (marks .exit)) ⌝ }
 {
     for j in from..to {

@@ -15,7 +15,7 @@ use Rattle.model.specs.Calls.{Outcome, refused, commit, checkCall, orbit
 use Rattle.model.specs.Calls.{removeCall, splitCall, stepOutcome, undoCall, redoCall}
 use Rattle.model.specs.Runs.{Call, doCall, keeping, Op, callOf, effect}
 use Rattle.model.specs.Meaning.Sizes.{member}
-use Rattle.model.specs.Meaning.Ends.{recordOk, stepOk, checksOf, checks, numbers, layerMarks, refusalMarks, refusedBy}
+use Rattle.model.specs.Meaning.Ends.{recordOk, stepOk, checksOf, checks, numbers, lateNumbers, layerMarks, refusalMarks, refusedBy}
 use Rattle.model.specs.Meaning.Ends.{doneOf, done, Behind, Ends, Passed, OpAccepted}
 use Rattle.model.proofs.Lists.Scan.{test, clash}
 use Rattle.model.proofs.Lists.Ones.{in-member, member-in}
@@ -74,10 +74,10 @@ behind-unmarked cs b z t m j y =
 abbrev early-numbers : List ℕ
 early-numbers = 1 ∷ 2 ∷ 3 ∷ 4 ∷ 5 ∷ 24 ∷ 25 ∷ 26 ∷ 7 ∷ 8 ∷ []
 
-not-late : (k : ℕ) → In k early-numbers → member (13 ∷ 14 ∷ 15 ∷ []) k ≡ false
-not-late k i = test (member (13 ∷ 14 ∷ 15 ∷ []) k) (λ h. absurd (clash (in-member _ k i) (late k (member-in _ k h)))) (λ h. h)
+not-late : (k : ℕ) → In k early-numbers → member lateNumbers k ≡ false
+not-late k i = test (member lateNumbers k) (λ h. absurd (clash (in-member _ k i) (late k (member-in _ k h)))) (λ h. h)
   where
-    late : (k : ℕ) → In k (13 ∷ 14 ∷ 15 ∷ []) → member early-numbers k ≡ false
+    late : (k : ℕ) → In k lateNumbers → member early-numbers k ≡ false
     late k (here e) = unfold member indexOf in rw e
     late k (there (here e)) = unfold member indexOf in rw e
     late k (there (there (here e))) = unfold member indexOf in rw e
@@ -133,10 +133,12 @@ module _ (n : ℕ) (o : Outcome) where
   abbrev leaving : ℕ → ℕ → ℕ → List ℕ → Outcome
   leaving k p q marks = refused k p q t marks j
 
-  late-leaves : (d k p q : ℕ) → In k (13 ∷ 14 ∷ 15 ∷ [])
-      → leaving k p q (sheetMarks n t (sheet n t d)) ≡ leaving k p q (layerMarks n o d k)
+  pub late-marks : (d k : ℕ) → member lateNumbers k ≡ true → layerMarks n o d k ≡ sheetMarks n (o .table) (sheet n (o .table) d)
   unfolding layerMarks
-  late-leaves d k p q i = ap (leaving k p q) (rw (in-member _ k i, layerMarks))
+  late-marks d k h = rw (h, layerMarks)
+
+  late-leaves : (d k p q : ℕ) → In k lateNumbers → leaving k p q (sheetMarks n t (sheet n t d)) ≡ leaving k p q (layerMarks n o d k)
+  late-leaves d k p q i = ap (leaving k p q) (sym (late-marks d k (in-member _ k i)))
 
   -- .. an earlier one the marks lent
   early-leaves : (d k p q : ℕ) → inOrder (layerChecks n t m j d) ≡ refuse k p q

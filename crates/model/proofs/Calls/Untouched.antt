@@ -6,8 +6,6 @@
 use Prim.Native.Nat.{ℕ}
 use mathlib.Core.Path.{_≡_, refl, ap, _∙_}
 use mathlib.Core.Logic.{⊎-elim, _≢_}
-use mathlib.Core.Bool.{true}
-use mathlib.Core.List.{[], _∷_}
 use native.Mathlib.Omega.{arith}
 use Rattle.model.specs.Cell.{leastWrong}
 use Rattle.model.specs.Calls.{Outcome, refused}
@@ -15,11 +13,10 @@ use Rattle.model.specs.Runs.{Call, doCall}
 use Rattle.model.specs.Meaning.Ends.{Untouched, done, refusalPlace, Sheeted, layerMarks, refusalMarks, doneOf}
 use Rattle.model.specs.Meaning.Ends.{Reading, reads-check, reads-orbit, reads-sheet}
 use Rattle.model.specs.Meaning.Maps.{byRule}
-use Rattle.model.specs.Meaning.Sizes.{member}
 use Rattle.model.specs.Meaning.Sheets.{marksOf}
 use Rattle.model.proofs.Lists.Scan.{if-eq}
 use Rattle.model.proofs.Calls.Checks.{NoRule, place-other, count-other}
-use Rattle.model.proofs.Calls.Ends.{call-says, call-done, call-refused}
+use Rattle.model.proofs.Calls.Ends.{late-marks, call-says, call-done, call-refused}
 
 module _ (n : ℕ) (o : Outcome) (c : Call) where
   pub call-untouched : doCall n o c .number ≢ 0 → Untouched n o c (doCall n o c)
@@ -65,15 +62,11 @@ reading-untouched n o reads-sheet = untouched-always n o _ refl refl
 -- ---- the marks of a sheet
 
 module _ (n : ℕ) (o : Outcome) (d : ℕ) where
-  layer-left : (k : ℕ) → member (13 ∷ 14 ∷ 15 ∷ []) k ≡ true → layerMarks n o d k ≡ marksOf n (o .table) d
-  unfolding layerMarks
-  layer-left k h = rw (h, layerMarks)
-
   left : (c : Call) → done n o c .marks ≡ marksOf n (o .table) d → ((k : ℕ) → refusalMarks n o c k ≡ layerMarks n o d k)
       → Sheeted (doCall n o c .number) → doCall n o c .marks ≡ marksOf n (o .table) d
   left c accepted refused h = if-eq (doCall n o c .number) 0
       (λ e. ap (λ (r : Outcome). r .marks) (call-done n o c e) ∙ accepted)
-      (λ e. call-untouched n o c e .marks ∙ refused _ ∙ layer-left _ (⊎-elim (λ z. absurd (e z)) (λ m. m) h))
+      (λ e. call-untouched n o c e .marks ∙ refused _ ∙ late-marks n o d _ (⊎-elim (λ z. absurd (e z)) (λ m. m) h))
 
   pub sheet-marks : doCall n o (Call.sheet d) .number ≡ 0 → doCall n o (Call.sheet d) .marks ≡ marksOf n (o .table) d
   unfolding doneOf

@@ -115,14 +115,18 @@ refusalPlace n t k = byRule (λ r. leastBreaking n t) (elim (eqb k 8) [ true ↦
 unfoldable pub refusalCount : ℕ → List ℕ → ℕ → ℕ
 refusalCount n t k = byRule (breakingLink n t (leastBreaking n t)) 0 k
 
--- remove or split, with the number k, has come to the sheet: it is accepted, or refused by 13, 14 or 15
+-- of remove and split: the numbers of the checks that come after the sheet is marked
+abbrev pub lateNumbers : List ℕ
+lateNumbers = 13 ∷ 14 ∷ 15 ∷ []
+
+-- with the number k the sheet was marked: the call is accepted, or refused by one of these
 abbrev pub Sheeted : ℕ → Type 0
-Sheeted k = (k ≡ 0) ⊎ (member (13 ∷ 14 ∷ 15 ∷ []) k ≡ true)
+Sheeted k = (k ≡ 0) ⊎ (member lateNumbers k ≡ true)
 
 -- "marks too, but remove and split refused by 13, 14 or 15 leave the sheet's marks"
 unfoldable pub layerMarks : ℕ → Outcome → ℕ → ℕ → List ℕ
 layerMarks n o d k =
-    elim (member (13 ∷ 14 ∷ 15 ∷ []) k) [ true ↦ sheetMarks n (o .table) (sheet n (o .table) d) | false ↦ o .marks ]
+    elim (member lateNumbers k) [ true ↦ sheetMarks n (o .table) (sheet n (o .table) d) | false ↦ o .marks ]
 
 unfoldable pub refusalMarks : ℕ → Outcome → Call → ℕ → List ℕ
 refusalMarks n o Call.check k = o .marks

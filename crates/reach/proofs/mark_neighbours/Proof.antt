@@ -8,32 +8,29 @@ use borrow.Author.Needs.{needs}
 use lib.ListN.{length, getD}
 use Rattle.model.specs.Table.{link}
 use Rattle.model.proofs.Lists.Scan.{if-eq}
-use Rattle.reach.specs.Search.{Over}
-use Rattle.reach.proofs.Marks.{More, over-none, over-new, over-old, over-as}
+use Rattle.reach.specs.Search.{LedTo, Over}
+use Rattle.reach.proofs.Marks.{More, over-none, over-new, over-old}
 use Rattle.reach.proofs.Meeting.{link-in}
 use Rattle.reach.proofs.mark_neighbours.Statement.{statement}
 use Rattle.reach.proofs.mark_neighbours.Tie as tie
 
--- link n leads to x from one of the words from a on, before b, and before j
-abbrev Led : List ℕ → ℕ → List ℕ → ℕ → ℕ → ℕ → ℕ → Type 0
-Led t n q a b j x = (k : ℕ) × (a ≤ k) × (k < b) × (k < j) × (link t n (getD q k 0) ≡ x)
-
-led-more : (t : List ℕ) (n : ℕ) (q : List ℕ) (a b j : ℕ) → a ≤ j → j < b
-    → More (Led t n q a b j) (Led t n q a b (j + 1)) (link t n (getD q j 0))
-led-more t n q a b j low high = record {
-  old = λ x (k, l, h, c, e). (k, l, h, omega arith, e);
-  own = (j, low, high, omega arith, refl);
-  only = λ x (k, l, h, c, e). if-eq k j (λ s. inr (rw s at (sym e))) (λ s. inl (k, l, h, omega arith, e));
+led-more : (t : List ℕ) (n : ℕ) (q : List ℕ) (a j : ℕ) → a ≤ j
+    → More (LedTo t n q a j) (LedTo t n q a (j + 1)) (link t n (getD q j 0))
+led-more t n q a j low = record {
+  old = λ x (k, l, h, e). (k, l, omega arith, e);
+  own = (j, low, omega arith, refl);
+  only = λ x (k, l, h, e). if-eq k j (λ s. inr (rw s at (sym e))) (λ s. inl (k, l, omega arith, e));
 }
 
 abbrev Inv-loop : tie.InvT-loop
-Inv-loop table marks₀ queue n from to j₀ marks j = Over 3 marks₀ (Led table n queue from to j) marks × (from ≤ j)
+Inv-loop table marks₀ queue n from to j₀ marks j =
+    Over 3 marks₀ (LedTo table n queue from j) marks × (from ≤ j) × (j ≤ to)
 
 abbrev μ-loop : tie.MeasureT-loop
 μ-loop table marks₀ queue n from to j₀ marks j = to - j
 
 loop-holds : tie.Need-loop-holds Inv-loop μ-loop
-loop-holds c = (over-none (λ x (k, l, h, b, e). omega arith), omega arith)
+loop-holds c = (over-none (λ x (k, l, h, e). omega arith), omega arith, omega arith)
 
 mul-x : tie.Need-mul-x Inv-loop μ-loop
 mul-x c = search needs
@@ -45,7 +42,7 @@ link-requires : tie.Need-link-requires Inv-loop μ-loop
 link-requires c κs =
     let l = c .before in
     let p = l .before .before .before .before .before .pre in
-    (p .0 .0, p .0 .2, p .1 .1 (l .before .loop .j) (l .loop-test .taken))
+    (p .0 .0, p .0 .2, p .1 .2 (l .before .loop .j) (l .loop-test .taken))
 
 -- the dart that is led to has a mark's place
 inside : (c : tie.After-link Inv-loop μ-loop) → c .link .result < length (c .before .before .before .loop .marks)
@@ -53,7 +50,7 @@ inside c =
     let l = c .before .before in
     let s = l .before .before .before .before .before in
     let p = s .pre in
-    let lives = p .1 .1 (l .before .loop .j) (l .loop-test .taken) in
+    let lives = p .1 .2 (l .before .loop .j) (l .loop-test .taken) in
     let b = link-in (s .args .table .now) (p .0 .0) _ lives (s .args .n) (p .0 .2) in
     let long = l .before .loop .inv .0 .long ∙ p .0 .1 in
     rw (c .link .ensures, long) b
@@ -80,14 +77,12 @@ loop-less c = search needs
 further : (c : tie.After-link Inv-loop μ-loop) →
     let l = c .before .before .before in
     let a = l .before .before .before .before .args in
-    let before = Led (a .table .now) (a .n) (a .queue .now) (a .from) (a .to) in
+    let before = LedTo (a .table .now) (a .n) (a .queue .now) (a .from) in
     More (before (l .loop .j)) (before (l .loop .j + 1)) (c .link .result)
 further c =
-    let i = c .before .before in
-    let l = i .before in
+    let l = c .before .before .before in
     let a = l .before .before .before .before .args in
-    rw (c .link .ensures)
-    (led-more (a .table .now) (a .n) (a .queue .now) (a .from) (a .to) (l .loop .j) (l .loop .inv .1) (i .loop-test .taken))
+    rw (c .link .ensures) (led-more (a .table .now) (a .n) (a .queue .now) (a .from) (l .loop .j) (l .loop .inv .1))
 
 loop-again : tie.Need-loop-again Inv-loop μ-loop
 loop-again c =
@@ -96,6 +91,7 @@ loop-again c =
       ⊎-elim (λ w. rw (w .1) (over-new (further k) (inv .0) (inside k) (w .0 .taken)))
           (λ w. rw (w .1) (over-old (further k) (inv .0) (w .0 .left))) (c .if1 .came),
       omega arith,
+      omega arith,
     )
 
 same-length : tie.Need-same-length Inv-loop μ-loop
@@ -103,8 +99,10 @@ same-length c = c .before .loop .inv .0 .long
 
 returns : tie.Need-returns Inv-loop μ-loop
 returns c =
-    let end = c .loop-test .left in
-    over-as (λ x (k, l, h, b, e). (k, l, h, e)) (λ x (k, l, h, e). (k, l, h, omega arith, e)) (c .before .loop .inv .0)
+    let l = c .before in
+    let a = l .before .before .before .before .args in
+    let end : l .loop .j ≡ a .to = let high = l .loop .inv .2 in omega arith in
+    rw end at (l .loop .inv .0)
 
 pub mark-neighbours-spec : {M : Type 1} → statement M
 mark-neighbours-spec =

@@ -165,7 +165,7 @@ mark-neighbours-requires c κs =
     let wide = f .flood .kept .1 .1 .0 in
     let fits = room (sheeted f) in
     let long = celled-long C in
-    ((C .linked, long, omega arith), (omega arith, λ j low. celled-live C _ (C .listed .inside j low)))
+    ((C .linked, long, omega arith), (C .more, omega arith, λ j low. celled-live C _ (C .listed .inside j low)))
 
 cast-result : tie.Need-cast-result
 cast-result c =
