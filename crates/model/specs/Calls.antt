@@ -14,7 +14,7 @@ use Rattle.model.specs.Add.{addSlots, addTable}
 use Rattle.model.specs.Sew.{sewTable, unsewTable}
 use Rattle.model.specs.Remove.{countMarked, removeTable}
 use Rattle.model.specs.Split.{splitSlots, splitTable}
-use Rattle.model.specs.Journal.{Change, cursor, changesFrom, recordOf, written, changesAt, put, unbroken}
+use Rattle.model.specs.Journal.{Change, cursor, changesFrom, recordOf, recordLength, written, changesAt, tagAt, put, unbroken}
 use Rattle.model.specs.Checks.{pass, refuse, inOrder, checkChecks, orbitChecks, sheetChecks, addChecks, sewChecks, unsewChecks}
 use Rattle.model.specs.Checks.{layerChecks, splitChecks, stepChecks, undoOk, redoOk}
 
@@ -32,10 +32,10 @@ refused k p q t m j = record { number = k; place = p; count = q; table = t; mark
 
 -- "An accepted add, sew, unsew, remove or split writes its record (every entry whose value changed) at the cursor";
 -- 15: "record longer than the words from cursor to length". u is the new table, p the place, size gives the count
-unfoldable pub commit : List ℕ → List ℕ → List ℕ → List ℕ → ℕ → (List Change → ℕ) → Outcome
-commit t u m j p size =
+unfoldable pub commit : List ℕ → List ℕ → List ℕ → List ℕ → ℕ → ℕ → (List Change → ℕ) → Outcome
+commit t u m j tag p size =
     let cs = changesFrom 0 t u in
-    let r = recordOf cs in
+    let r = recordOf tag cs in
     elim (leb (length r) (length j - cursor j)) [
       | true ↦ record { number = 0; place = p; count = size cs; table = u; marks = m; journal = written j r }
       | false ↦ refused 15 0 0 t m j
@@ -78,52 +78,52 @@ sheetCall n t m d =
       | refuse k p q ↦ refused k p q t m []
     ]
 
--- ---- the operations
+-- ---- the operations, each with the tag of its record
 
 -- "Place: first slot. Count: 8 or 48."
-unfoldable pub addCall : ℕ → List ℕ → List ℕ → Outcome
-addCall n t j =
+unfoldable pub addCall : ℕ → List ℕ → List ℕ → ℕ → Outcome
+addCall n t j tag =
     elim (inOrder (addChecks n t j)) [
-      | pass ↦ commit t (addTable n t) [] j (getD (addSlots n t) 0 0) (λ cs. cellSize n)
+      | pass ↦ commit t (addTable n t) [] j tag (getD (addSlots n t) 0 0) (λ cs. cellSize n)
       | refuse k p q ↦ refused k p q t [] j
     ]
 
 -- "Count: entries changed."
-unfoldable pub sewCall : ℕ → List ℕ → List ℕ → ℕ → ℕ → ℕ → Outcome
-sewCall n t j i d e =
+unfoldable pub sewCall : ℕ → List ℕ → List ℕ → ℕ → ℕ → ℕ → ℕ → Outcome
+sewCall n t j tag i d e =
     elim (inOrder (sewChecks n t j i d e)) [
-      | pass ↦ commit t (sewTable n t i d e) [] j 0 (λ cs. length cs)
+      | pass ↦ commit t (sewTable n t i d e) [] j tag 0 (λ cs. length cs)
       | refuse k p q ↦ refused k p q t [] j
     ]
 
 -- "Count: entries changed."
-unfoldable pub unsewCall : ℕ → List ℕ → List ℕ → ℕ → ℕ → Outcome
-unsewCall n t j i d =
+unfoldable pub unsewCall : ℕ → List ℕ → List ℕ → ℕ → ℕ → ℕ → Outcome
+unsewCall n t j tag i d =
     elim (inOrder (unsewChecks n t j i d)) [
-      | pass ↦ commit t (unsewTable n t i d) [] j 0 (λ cs. length cs)
+      | pass ↦ commit t (unsewTable n t i d) [] j tag 0 (λ cs. length cs)
       | refuse k p q ↦ refused k p q t [] j
     ]
 
 -- "Remove and split take marks too and leave them as sheet gives them before the change." "Count: darts removed."
-unfoldable pub removeCall : ℕ → List ℕ → List ℕ → List ℕ → ℕ → Outcome
-removeCall n t m j d =
+unfoldable pub removeCall : ℕ → List ℕ → List ℕ → List ℕ → ℕ → ℕ → Outcome
+removeCall n t m j tag d =
     elim (inOrder (layerChecks n t m j d)) [
       | pass ↦ (
           let marks = sheetMarks n t (sheet n t d) in
-          commit t (removeTable n t d) marks j 0 (λ cs. countMarked marks))
+          commit t (removeTable n t d) marks j tag 0 (λ cs. countMarked marks))
       | refuse k p q ↦ refused k p q t m j
     ]
 
 -- "Place: first new slot. Count: darts added."
-unfoldable pub splitCall : ℕ → List ℕ → List ℕ → List ℕ → ℕ → Outcome
-splitCall n t m j d =
+unfoldable pub splitCall : ℕ → List ℕ → List ℕ → List ℕ → ℕ → ℕ → Outcome
+splitCall n t m j tag d =
     elim (inOrder (layerChecks n t m j d)) [
       | pass ↦ (
           let s = sheet n t d in
           let gs = ones s in
           let marks = sheetMarks n t s in
           elim (inOrder (splitChecks n t s gs)) [
-            | pass ↦ commit t (splitTable n t d) marks j (getD (splitSlots n t gs) 0 0) (λ cs. n * length gs)
+            | pass ↦ commit t (splitTable n t d) marks j tag (getD (splitSlots n t gs) 0 0) (λ cs. n * length gs)
             | refuse k p q ↦ refused k p q t marks j
           ])
       | refuse k p q ↦ refused k p q t m j
@@ -132,12 +132,12 @@ splitCall n t m j d =
 -- ---- undo and redo
 
 -- the record of k changes at the word a is put back, and the cursor goes to c: "Undo and redo change only the cursor
--- word"; 17: "record broken, or result no map". "Count: entries changed."
+-- word"; 17: "record broken, or result no map". "Count: entries changed." They "give the tag back as place" (02, R-11)
 unfoldable pub stepOutcome : Bool → ℕ → List ℕ → List ℕ → ℕ → ℕ → ℕ → Outcome
 stepOutcome redo n t j a k c =
     let u = put redo (changesAt j a k) t in
     elim (unbroken redo t j a k && isMap n u) [
-      | true ↦ record { number = 0; place = 0; count = k; table = u; marks = []; journal = set j 0 c }
+      | true ↦ record { number = 0; place = tagAt j a; count = k; table = u; marks = []; journal = set j 0 c }
       | false ↦ refused 17 0 0 t [] j
     ]
 
@@ -147,7 +147,7 @@ undoCall n t j =
     elim (inOrder (stepChecks n t j (undoOk j))) [
       | pass ↦ (
           let k = getD j (cursor j - 1) 0 in
-          let a = cursor j - (3 * k + 2) in
+          let a = cursor j - recordLength k in
           stepOutcome false n t j a k a)
       | refuse k p q ↦ refused k p q t [] j
     ]
@@ -158,6 +158,6 @@ redoCall n t j =
     elim (inOrder (stepChecks n t j (redoOk j))) [
       | pass ↦ (
           let k = getD j (cursor j) 0 in
-          stepOutcome true n t j (cursor j) k (cursor j + (3 * k + 2)))
+          stepOutcome true n t j (cursor j) k (cursor j + recordLength k))
       | refuse k p q ↦ refused k p q t [] j
     ]

@@ -5,8 +5,8 @@ use Rattle.model.specs.Map.{returns, crossed, keepsAt, keepsRule, breaki
 use Rattle.model.specs.Reach.{flood, steps, closure, linksFrom, links, inSet}
 use Rattle.model.specs.Cell.{cellWords, cellOf, cellSize, turns, folded, goodDart, allGood, goodCell, inWrongCell}
 use Rattle.model.specs.Cell.{leastWrong, isBlock}
-use Rattle.model.specs.Journal.{cursor, end, changesFrom, triples, recordOf, written, readChanges, changesAt, putNew}
-use Rattle.model.specs.Journal.{putOld, put, sound, unbroken}
+use Rattle.model.specs.Journal.{cursor, end, changesFrom, triples, recordOf, written, readChanges, changesAt, tagAt}
+use Rattle.model.specs.Journal.{putNew, putOld, put, sound, unbroken}
 use Rattle.model.specs.Orbit.{bit, orbitWords, orbit, orbitPlace}
 use Rattle.model.specs.Sheet.{sheetWords, sheet, markOf, markAt, sheetMarks}
 use Rattle.model.specs.Add.{addSlots, addedLink, added, addTable}
@@ -43,7 +43,7 @@ unfolding cellWords cellOf cellSize turns folded goodDart allGood goodCell inWro
 openCell = tt
 
 unfoldable pub openJournal : Unit {0}
-unfolding cursor end changesFrom triples recordOf written readChanges changesAt putNew putOld put sound unbroken
+unfolding cursor end changesFrom triples recordOf written readChanges changesAt tagAt putNew putOld put sound unbroken
 openJournal = tt
 
 unfoldable pub openOrbit : Unit {0}

@@ -1,5 +1,6 @@
 -- Journal: "lent u32 words, 2 to 1,048,576. Word 0 is the cursor, word 1 the end; 2 <= cursor <= end <= length."
--- "A record has k, then k triples (table entry, old value, new value) by strictly rising entry, then k again: 3k+2 words."
+-- "A record has k, then k triples (table entry, old value, new value) by strictly rising entry, then k again"; 02, R-11: "Each
+-- record gets a u32 tag from the caller .. after its first count, so it has 3k+3 words".
 use Prim.Native.Nat.{ℕ, zero, suc, _+_, _*_}
 use mathlib.Core.Bool.{Bool, true, false, not, _&&_}
 use mathlib.Core.List.{List, [], _∷_, _++_}
@@ -34,8 +35,12 @@ unfoldable pub triples : List Change → List ℕ
 triples [] = []
 triples (c ∷ cs) = c .entry ∷ c .old ∷ c .new ∷ triples cs
 
-unfoldable pub recordOf : List Change → List ℕ
-recordOf cs = length cs ∷ triples cs ++ (length cs ∷ [])
+unfoldable pub recordOf : ℕ → List Change → List ℕ
+recordOf tag cs = length cs ∷ tag ∷ triples cs ++ (length cs ∷ [])
+
+-- the words of a record of k changes
+abbrev pub recordLength : ℕ → ℕ
+recordLength k = 3 * k + 3
 
 -- the record is written at the cursor; "cursor and end go behind it"; "Other journal words stay."
 unfoldable pub written : List ℕ → List ℕ → List ℕ
@@ -51,9 +56,12 @@ unfoldable pub readChanges : ℕ → List ℕ → List Change
 readChanges zero ws = []
 readChanges (suc k) ws = record { entry = getD ws 0 0; old = getD ws 1 0; new = getD ws 2 0 } ∷ readChanges k (drop 3 ws)
 
--- the k triples of the record at the word a
+-- the k triples of the record at the word a, and its tag
 unfoldable pub changesAt : List ℕ → ℕ → ℕ → List Change
-changesAt j a k = readChanges k (drop (suc a) j)
+changesAt j a k = readChanges k (drop (a + 2) j)
+
+unfoldable pub tagAt : List ℕ → ℕ → ℕ
+tagAt j a = getD j (a + 1) 0
 
 unfoldable pub putNew : List Change → List ℕ → List ℕ
 putNew [] t = t
@@ -80,5 +88,5 @@ sound redo t e (c ∷ cs) =
 -- of the record of k changes at the word a: not "its two counts differ, k is 0, it passes 2 or the end", and `sound`
 unfoldable pub unbroken : Bool → List ℕ → List ℕ → ℕ → ℕ → Bool
 unbroken redo t j a k =
-    not (eqb k 0) && leb 2 a && leb (a + (3 * k + 2)) (end j) && eqb (getD j a 0) (getD j (a + (3 * k + 1)) 0)
+    not (eqb k 0) && leb 2 a && leb (a + recordLength k) (end j) && eqb (getD j a 0) (getD j (a + (3 * k + 2)) 0)
     && sound redo t 0 (changesAt j a k)

@@ -8,7 +8,7 @@ use lib.ListN.{length, getD, drop}
 use lib.Dec.{eqb}
 use Rattle.model.specs.Table.{slots, link, live}
 use Rattle.model.specs.Calls.{Outcome}
-use Rattle.model.specs.Runs.{Call, doCall}
+use Rattle.model.specs.Runs.{Op, Call, doCall}
 use Rattle.model.specs.Text.{bytes, newline, begins, number, upTo, decimal, said}
 use Rattle.model.specs.Meaning.Sizes.{liveCount}
 use Rattle.model.specs.Meaning.Worked.{begin, equal}
@@ -22,14 +22,18 @@ names =
     ∷ bytes "split" ∷ bytes "undo" ∷ bytes "redo" ∷ []
 
 -- the calls, in the order of their names: "i holds the index or mask; unused values may be any number"
-unfoldable pub calls : ℕ → ℕ → ℕ → List Call
-calls i d e =
-    Call.check ∷ Call.orbit i d ∷ Call.sheet d ∷ Call.add ∷ Call.sew i d e ∷ Call.unsew i d ∷ Call.remove d
-    ∷ Call.split d ∷ Call.undo ∷ Call.redo ∷ []
+unfoldable pub calls : ℕ → ℕ → ℕ → ℕ → List Call
+calls tag i d e =
+    Call.check ∷ Call.orbit i d ∷ Call.sheet d ∷ Call.op tag Op.add ∷ Call.op tag (Op.sew i d e) ∷ Call.op tag (Op.unsew i d)
+    ∷ Call.op tag (Op.remove d) ∷ Call.op tag (Op.split d) ∷ Call.undo ∷ Call.redo ∷ []
 
 -- the call of a request, whose op is given by its place among the names
-unfoldable pub callOf : ℕ → ℕ → ℕ → ℕ → Call
-callOf p i d e = getD (calls i d e) p Call.check
+unfoldable pub callOf : ℕ → ℕ → ℕ → ℕ → ℕ → Call
+callOf p tag i d e = getD (calls tag i d e) p Call.check
+
+-- the tag of its operations: "0 in the session" (02, R-11)
+abbrev pub sessionTag : ℕ
+sessionTag = 0
 
 -- the place of a name, counted from p
 unfoldable pub placeFrom : ℕ → List (List ℕ) → List ℕ → Option ℕ
@@ -72,7 +76,7 @@ taken (slotsDue n) v = opDue n (begin v 16384)
 taken (opDue n o) v = iDue n o v
 taken (iDue n o p) v = dDue n o p v
 taken (dDue n o p i) v = eDue n o p i v
-taken (eDue n o p i d) v = opDue n (left (doCall n o (callOf p i d v)))
+taken (eDue n o p i d) v = opDue n (left (doCall n o (callOf p sessionTag i d v)))
 
 -- ---- what is printed
 
@@ -87,7 +91,7 @@ printed (slotsDue n) v = []
 printed (opDue n o) v = []
 printed (iDue n o p) v = []
 printed (dDue n o p i) v = []
-printed (eDue n o p i d) v = answered (doCall n o (callOf p i d v))
+printed (eDue n o p i d) v = answered (doCall n o (callOf p sessionTag i d v))
 
 -- "`dart=` and `to=` with its four links, parted by commas"
 unfoldable pub dartLines : List ℕ → ℕ → List ℕ

@@ -1,5 +1,5 @@
 -- The small maps that document 01 has worked, 1 to 14, and some of 02's requests: each fact of them, as one table with one
--- statement.
+-- statement. 3 to 5 have the figures of R-11. Where nothing is said of tags they are 0.
 -- The lengths of case 14, too long to compute with, follow from the check.
 use Prim.Native.Nat.{ℕ, _+_, _*_}
 use mathlib.Core.Path.{_≡_, refl}
@@ -8,31 +8,36 @@ use lib.ListN.{length, set, replicate}
 use Rattle.model.specs.Table.{unused}
 use Rattle.model.specs.Add.{addTable}
 use Rattle.model.specs.Checks.{pass, refuse, tableOk, must}
-use Rattle.model.specs.Runs.{Call, doCall, keeping}
+use Rattle.model.specs.Runs.{Op, Call, doCall, keeping}
 use Rattle.model.specs.Everything.{everything}
 use Rattle.model.specs.Meaning.Sizes.{liveCount}
-use Rattle.model.specs.Meaning.Worked.{Case, Seen, gives, goes, marksAre, markedAre, cursorIs, endIs, frees, changes, liveAre}
-use Rattle.model.specs.Meaning.Worked.{begin, beginOn, doAll, equal, sees, seesAll, holdsFrom, holds, failing}
+use Rattle.model.specs.Meaning.Worked.{Case, Seen, gives, goes, marksAre, markedAre, cursorIs, endIs, wordIs, frees}
+use Rattle.model.specs.Meaning.Worked.{changes, liveAre, begin, beginOn, doAll, equal, sees, seesAll, holdsFrom, holds, failing}
+
+-- operations that all have one tag
+tagged : ℕ → List Op → List Call
+tagged tag [] = []
+tagged tag (p ∷ ps) = Call.op tag p ∷ tagged tag ps
 
 -- Q: one add
 quad : List Call
-quad = Call.add ∷ []
+quad = tagged 0 (Op.add ∷ [])
 
 -- T: three quads from 0, 8, 16, sewn by link 2: (5,12), (13,20)
 three : List Call
-three = Call.add ∷ Call.add ∷ Call.add ∷ Call.sew 2 5 12 ∷ Call.sew 2 13 20 ∷ []
+three = tagged 0 (Op.add ∷ Op.add ∷ Op.add ∷ Op.sew 2 5 12 ∷ Op.sew 2 13 20 ∷ [])
 
 -- Q split in two, as in 3
 halves : List Call
-halves = Call.add ∷ Call.split 0 ∷ []
+halves = tagged 0 (Op.add ∷ Op.split 0 ∷ [])
 
 -- Q's edge of 5 sewn to its edge of 2
 bent : List Call
-bent = Call.add ∷ Call.sew 2 5 2 ∷ []
+bent = tagged 0 (Op.add ∷ Op.sew 2 5 2 ∷ [])
 
 -- Q with link 0 between 0 and 1 undone
 unlinked : List Call
-unlinked = Call.add ∷ Call.unsew 0 0 ∷ []
+unlinked = tagged 0 (Op.add ∷ Op.unsew 0 0 ∷ [])
 
 -- R-3: a quad, and a hexahedron, that fill their table
 quadTable : List ℕ
@@ -54,7 +59,7 @@ foldedEdge =
 -- R-4: a hexahedron whose face of 0 is sewn onto itself, turned about its middle: link 1 is undone at two corners, the halves
 -- of the face are sewn to each other, and link 1 is sewn again
 foldedFace : List Call
-foldedFace = Call.add ∷ Call.unsew 1 0 ∷ Call.unsew 1 19 ∷ Call.sew 3 0 3 ∷ Call.sew 1 0 16 ∷ []
+foldedFace = tagged 0 (Op.add ∷ Op.unsew 1 0 ∷ Op.unsew 1 19 ∷ Op.sew 3 0 3 ∷ Op.sew 1 0 16 ∷ [])
 
 -- R-10: the marks of T's middle layer: 3 on 5, 7, 20 and 22
 middle : List ℕ
@@ -63,7 +68,11 @@ middle =
 
 -- R-10: Q's edge of 5 sewn to the edge that it faces, so that the layer of 0 touches itself
 ring : List Call
-ring = Call.add ∷ Call.sew 2 5 4 ∷ []
+ring = tagged 0 (Op.add ∷ Op.sew 2 5 4 ∷ [])
+
+-- R-11: Q with the tag 7, split with the tag 4294967295
+named : List Call
+named = Call.op 7 Op.add ∷ Call.op 4294967295 (Op.split 0) ∷ []
 
 -- label, dimension, slots, words of the journal, the calls before, the call, what is seen
 row : ℕ → ℕ → ℕ → ℕ → List Call → Call → List Seen → Case
@@ -76,28 +85,29 @@ rowOn l n t w c ss = record { label = l; dim = n; start = beginOn t w; before = 
 pub cases : List Case
 cases =
     row 101 2 8 200 quad (Call.sheet 0) (gives 0 0 4 ∷ marksAre (1 ∷ 1 ∷ 1 ∷ 1 ∷ 2 ∷ 2 ∷ 2 ∷ 2 ∷ []) ∷ [])
-    ∷ row 201 2 7 200 [] Call.add (gives 14 0 0 ∷ [])
-    ∷ row 301 2 16 210 [] Call.add (gives 0 0 8 ∷ cursorIs 100 ∷ endIs 100 ∷ [])
-    ∷ row 302 2 16 210 quad (Call.split 0) (gives 0 8 8 ∷ cursorIs 210 ∷ endIs 210 ∷ changes 36 ∷ [])
-    ∷ row 303 2 16 210 quad (Call.split 0) (goes 0 0 8 ∷ goes 9 0 13 ∷ goes 9 2 11 ∷ goes 8 2 8 ∷ [])
-    ∷ row 401 2 16 209 quad (Call.split 0) (gives 15 0 0 ∷ changes 0 ∷ cursorIs 100 ∷ endIs 100 ∷ [])
-    ∷ row 402 2 16 209 quad (Call.split 0) (marksAre (replicate 4 1 ++ replicate 4 2 ++ replicate 8 0) ∷ [])
-    ∷ row 501 2 16 400 halves (Call.remove 0) (gives 0 0 8 ∷ changes 34 ∷ goes 11 2 11 ∷ goes 15 2 15 ∷ liveAre 8 ∷ [])
-    ∷ row 502 2 16 400 halves (Call.remove 0) (frees 0 ∷ frees 2 ∷ frees 4 ∷ frees 6 ∷ frees 8 ∷ frees 9 ∷ frees 12 ∷ frees 13 ∷ [])
-    ∷ row 601 2 24 600 three (Call.remove 8) (gives 0 0 8 ∷ goes 5 2 20 ∷ goes 7 2 22 ∷ changes 36 ∷ [])
+    ∷ row 201 2 7 200 [] (Call.op 0 Op.add) (gives 14 0 0 ∷ [])
+    ∷ row 301 2 16 212 [] (Call.op 0 Op.add) (gives 0 0 8 ∷ cursorIs 101 ∷ endIs 101 ∷ [])
+    ∷ row 302 2 16 212 quad (Call.op 0 (Op.split 0)) (gives 0 8 8 ∷ cursorIs 212 ∷ endIs 212 ∷ changes 36 ∷ [])
+    ∷ row 303 2 16 212 quad (Call.op 0 (Op.split 0)) (goes 0 0 8 ∷ goes 9 0 13 ∷ goes 9 2 11 ∷ goes 8 2 8 ∷ [])
+    ∷ row 401 2 16 211 quad (Call.op 0 (Op.split 0)) (gives 15 0 0 ∷ changes 0 ∷ cursorIs 101 ∷ endIs 101 ∷ [])
+    ∷ row 402 2 16 211 quad (Call.op 0 (Op.split 0)) (marksAre (replicate 4 1 ++ replicate 4 2 ++ replicate 8 0) ∷ [])
+    ∷ row 501 2 16 400 halves (Call.op 0 (Op.remove 0)) (gives 0 0 8 ∷ changes 34 ∷ goes 11 2 11 ∷ goes 15 2 15 ∷ liveAre 8 ∷ [])
+    ∷ row 502 2 16 400 halves (Call.op 0 (Op.remove 0)) (frees 0 ∷ frees 2 ∷ frees 4 ∷ frees 6 ∷ frees 8 ∷ frees 9 ∷ frees 12 ∷ frees 13 ∷ [])
+    ∷ row 503 2 16 400 halves (Call.op 0 (Op.remove 0)) (cursorIs 317 ∷ endIs 317 ∷ [])
+    ∷ row 601 2 24 600 three (Call.op 0 (Op.remove 8)) (gives 0 0 8 ∷ goes 5 2 20 ∷ goes 7 2 22 ∷ changes 36 ∷ [])
     ∷ row 701 2 24 600 three (Call.sheet 12) (gives 0 0 12 ∷ markedAre 24 ∷ [])
-    ∷ row 801 2 8 200 quad (Call.sew 2 5 2) (gives 0 0 4 ∷ goes 7 2 3 ∷ [])
+    ∷ row 801 2 8 200 quad (Call.op 0 (Op.sew 2 5 2)) (gives 0 0 4 ∷ goes 7 2 3 ∷ [])
     ∷ row 802 2 8 200 bent (Call.sheet 0) (gives 0 0 8 ∷ [])
-    ∷ row 803 2 8 200 bent (Call.split 0) (gives 13 0 0 ∷ changes 0 ∷ marksAre (replicate 8 1) ∷ [])
-    ∷ row 804 2 8 300 bent (Call.remove 0) (gives 0 0 8 ∷ liveAre 0 ∷ [])
-    ∷ row 901 2 8 200 quad (Call.sew 2 5 7) (gives 9 0 0 ∷ [])
-    ∷ row 1001 2 24 600 three (Call.sew 2 5 0) (gives 10 0 0 ∷ [])
-    ∷ row 1101 2 8 200 quad (Call.unsew 2 0) (gives 11 0 0 ∷ [])
-    ∷ row 1201 2 8 200 quad (Call.unsew 0 0) (gives 0 0 2 ∷ changes 2 ∷ [])
-    ∷ row 1202 2 8 200 unlinked (Call.sew 2 0 5) (gives 12 0 0 ∷ [])
+    ∷ row 803 2 8 200 bent (Call.op 0 (Op.split 0)) (gives 13 0 0 ∷ changes 0 ∷ marksAre (replicate 8 1) ∷ [])
+    ∷ row 804 2 8 300 bent (Call.op 0 (Op.remove 0)) (gives 0 0 8 ∷ liveAre 0 ∷ [])
+    ∷ row 901 2 8 200 quad (Call.op 0 (Op.sew 2 5 7)) (gives 9 0 0 ∷ [])
+    ∷ row 1001 2 24 600 three (Call.op 0 (Op.sew 2 5 0)) (gives 10 0 0 ∷ [])
+    ∷ row 1101 2 8 200 quad (Call.op 0 (Op.unsew 2 0)) (gives 11 0 0 ∷ [])
+    ∷ row 1201 2 8 200 quad (Call.op 0 (Op.unsew 0 0)) (gives 0 0 2 ∷ changes 2 ∷ [])
+    ∷ row 1202 2 8 200 unlinked (Call.op 0 (Op.sew 2 0 5)) (gives 12 0 0 ∷ [])
     ∷ row 1203 2 8 200 unlinked (Call.sheet 0) (gives 8 0 0 ∷ [])
     ∷ row 1301 3 96 2000 quad (Call.sheet 0) (gives 0 0 16 ∷ marksAre (replicate 16 1 ++ replicate 32 2 ++ replicate 48 0) ∷ [])
-    ∷ row 1302 3 96 2000 quad (Call.split 0) (gives 0 48 48 ∷ changes 208 ∷ [])
+    ∷ row 1302 3 96 2000 quad (Call.op 0 (Op.split 0)) (gives 0 48 48 ∷ changes 208 ∷ [])
     ∷ row 1401 2 8 2 [] Call.undo (gives 16 0 0 ∷ [])
     ∷ row 1402 2 24 600 three (Call.orbit 6 5) (gives 0 1 4 ∷ [])
     ∷ row 1403 2 0 2 [] Call.check (gives 0 0 2 ∷ [])
@@ -105,7 +115,7 @@ cases =
     ∷ rowOn 10302 2 (damaged 5 0 5 quadTable) 200 Call.check (gives 24 7 0 ∷ [])
     ∷ rowOn 10303 2 (damaged 1 2 unused quadTable) 200 Call.check (gives 25 0 0 ∷ [])
     ∷ rowOn 10304 2 (damaged 4 3 6 (damaged 6 3 4 quadTable)) 200 Call.check (gives 26 4 3 ∷ [])
-    ∷ rowOn 10305 2 (damaged 4 3 6 (damaged 6 3 4 quadTable)) 200 (Call.unsew 1 0) (gives 26 4 3 ∷ changes 0 ∷ cursorIs 2 ∷ [])
+    ∷ rowOn 10305 2 (damaged 4 3 6 (damaged 6 3 4 quadTable)) 200 (Call.op 0 (Op.unsew 1 0)) (gives 26 4 3 ∷ changes 0 ∷ cursorIs 2 ∷ [])
     ∷ rowOn 10306 3 (damaged 31 1 48 hexahedronTable) 200 Call.check (gives 5 31 1 ∷ [])
     ∷ rowOn 10307 3 (damaged 31 1 31 hexahedronTable) 200 Call.check (gives 24 47 1 ∷ [])
     ∷ rowOn 10308 3 (damaged 47 3 0 hexahedronTable) 200 Call.check (gives 25 31 1 ∷ [])
@@ -115,13 +125,19 @@ cases =
     ∷ row 10404 3 48 2000 foldedFace Call.check (gives 0 0 1 ∷ goes 0 3 3 ∷ [])
     ∷ row 10405 3 48 2000 foldedFace (Call.sheet 47) (gives 8 0 0 ∷ [])
     ∷ row 11001 2 24 600 three (Call.sheet 8) (gives 0 0 4 ∷ marksAre middle ∷ [])
-    ∷ row 11002 2 24 600 three (Call.remove 8) (gives 0 0 8 ∷ marksAre middle ∷ changes 36 ∷ [])
-    ∷ row 11003 2 24 600 three (Call.split 8) (gives 14 0 0 ∷ marksAre middle ∷ changes 0 ∷ [])
+    ∷ row 11002 2 24 600 three (Call.op 0 (Op.remove 8)) (gives 0 0 8 ∷ marksAre middle ∷ changes 36 ∷ [])
+    ∷ row 11003 2 24 600 three (Call.op 0 (Op.split 8)) (gives 14 0 0 ∷ marksAre middle ∷ changes 0 ∷ [])
     ∷ row 11004 2 8 200 ring (Call.sheet 0) (gives 0 0 4 ∷ marksAre (replicate 4 1 ++ replicate 4 2) ∷ [])
+    ∷ row 11101 2 16 212 [] (Call.op 7 Op.add) (wordIs 2 32 ∷ wordIs 3 7 ∷ wordIs 4 0 ∷ wordIs 100 32 ∷ [])
+    ∷ row 11102 2 16 212 named Call.undo (gives 0 4294967295 36 ∷ cursorIs 101 ∷ endIs 212 ∷ liveAre 8 ∷ [])
+    ∷ row 11103 2 16 212 (named ++ (Call.undo ∷ [])) Call.undo (gives 0 7 32 ∷ cursorIs 2 ∷ endIs 212 ∷ liveAre 0 ∷ [])
+    ∷ row 11104 2 16 212 (named ++ (Call.undo ∷ Call.undo ∷ [])) Call.redo (gives 0 7 32 ∷ cursorIs 101 ∷ liveAre 8 ∷ [])
+    ∷ row 11105 2 16 212 (named ++ (Call.undo ∷ [])) Call.redo (gives 0 4294967295 36 ∷ cursorIs 212 ∷ liveAre 16 ∷ [])
+    ∷ row 11106 2 16 212 named Call.redo (gives 16 0 0 ∷ cursorIs 212 ∷ [])
     ∷ []
 
 pub all-hold : failing cases ≡ []
-unfolding everything liveCount cases row rowOn quad three halves bent unlinked quadTable hexahedronTable damaged foldedEdge foldedFace middle ring failing holds holdsFrom seesAll sees begin beginOn doAll doCall keeping equal
+unfolding everything liveCount cases row rowOn tagged quad three halves bent unlinked quadTable hexahedronTable damaged foldedEdge foldedFace middle ring named failing holds holdsFrom seesAll sees begin beginOn doAll doCall keeping equal
 all-hold = refl
 
 -- 14: "262,144 entries pass check 2, 262,148 don't"

@@ -18,7 +18,7 @@ use Rattle.model.specs.Checks.{sewnOk, pairingOk, crossingOk, addRoomOk,
 use Rattle.model.specs.Checks.{checkChecks, orbitChecks, sheetChecks, addChecks, sidesChecks, unsewChecks}
 use Rattle.model.specs.Checks.{layerChecks, splitChecks, stepChecks}
 use Rattle.model.specs.Calls.{Outcome}
-use Rattle.model.specs.Runs.{Call}
+use Rattle.model.specs.Runs.{Op, Call}
 use Rattle.model.specs.Meaning.Maps.{byRule}
 use Rattle.model.specs.Meaning.Sizes.{member}
 use Rattle.model.specs.Meaning.Ends.{recordOk, stepOk, checks, numbers, refusalPlace, refusalCount, checksOf}
@@ -261,18 +261,18 @@ module _ (n : ℕ) (o : Outcome) where
       plain _ 1 refl then plain _ 2 refl then plain _ 3 refl then map-then (plain _ 6 refl then plain _ 7 refl then last)
   call-numbers (Call.sheet d) =
       plain _ 1 refl then plain _ 2 refl then plain _ 3 refl then map-then (plain _ 7 refl then block-8 then last)
-  call-numbers Call.add =
+  call-numbers (Call.op tag Op.add) =
       plain _ 1 refl then plain _ 2 refl then journal-4 then map-then (plain _ 14 refl then plain _ 15 refl then last)
-  call-numbers (Call.sew i d e) =
+  call-numbers (Call.op tag (Op.sew i d e)) =
       plain _ 1 refl then plain _ 2 refl then journal-4 then map-then (plain _ 6 refl then plain _ 7 refl then plain _ 7 refl
       then plain _ 9 refl then plain _ 10 refl then plain _ 12 refl then plain _ 15 refl then last)
-  call-numbers (Call.unsew i d) =
+  call-numbers (Call.op tag (Op.unsew i d)) =
       plain _ 1 refl then plain _ 2 refl then journal-4 then map-then (plain _ 6 refl then plain _ 7 refl then plain _ 11 refl
       then plain _ 15 refl then last)
-  call-numbers (Call.remove d) =
+  call-numbers (Call.op tag (Op.remove d)) =
       plain _ 1 refl then plain _ 2 refl then plain _ 3 refl then journal-4 then map-then (plain _ 7 refl then block-8
       then plain _ 15 refl then last)
-  call-numbers (Call.split d) =
+  call-numbers (Call.op tag (Op.split d)) =
       plain _ 1 refl then plain _ 2 refl then plain _ 3 refl then journal-4 then map-then (plain _ 7 refl then block-8
       then plain _ 13 refl then plain _ 14 refl then plain _ 15 refl then last)
   call-numbers Call.undo =

@@ -13,7 +13,7 @@ use Rattle.model.specs.Checks.{Check, pass, refuse, must, andThen, inOrd
 use Rattle.model.specs.Checks.{mapChecks, addChecks, sidesChecks, sewChecks, unsewChecks, layerChecks, splitChecks}
 use Rattle.model.specs.Calls.{Outcome, refused, commit, checkCall, orbitCall, sheetCall, addCall, sewCall, unsewCall}
 use Rattle.model.specs.Calls.{removeCall, splitCall, stepOutcome, undoCall, redoCall}
-use Rattle.model.specs.Runs.{Call, doCall, keeping, Op, callOf, effect}
+use Rattle.model.specs.Runs.{Op, Call, doCall, keeping, effect}
 use Rattle.model.specs.Meaning.Sizes.{member}
 use Rattle.model.specs.Meaning.Ends.{recordOk, stepOk, checksOf, checks, numbers, lateNumbers, layerMarks, refusalMarks, refusedBy}
 use Rattle.model.specs.Meaning.Ends.{doneOf, done, Behind, Ends, Passed, OpAccepted}
@@ -107,17 +107,17 @@ module _ (n : ℕ) (o : Outcome) where
   unfolding doCall sheetCall checksOf doneOf refusalMarks keeping refused
   sheet-ends d = behind-map (λ r. keeping r (r .marks) j) (behind-checks _ _ _)
 
-  add-ends : Ends n o Call.add
+  add-ends : (tag : ℕ) → Ends n o (Call.op tag Op.add)
   unfolding doCall addCall commit checksOf recordOk doneOf refusalMarks keeping
-  add-ends = behind-unmarked _ _ 15 _ _ _ _
+  add-ends tag = behind-unmarked _ _ 15 _ _ _ _
 
-  unsew-ends : (i d : ℕ) → Ends n o (Call.unsew i d)
+  unsew-ends : (tag i d : ℕ) → Ends n o (Call.op tag (Op.unsew i d))
   unfolding doCall unsewCall commit checksOf recordOk doneOf refusalMarks keeping
-  unsew-ends i d = behind-unmarked _ _ 15 _ _ _ _
+  unsew-ends tag i d = behind-unmarked _ _ 15 _ _ _ _
 
-  sew-ends : (i d e : ℕ) → Ends n o (Call.sew i d e)
+  sew-ends : (tag i d e : ℕ) → Ends n o (Call.op tag (Op.sew i d e))
   unfolding doCall sewCall commit sewChecks checksOf recordOk doneOf refusalMarks keeping
-  sew-ends i d e =
+  sew-ends tag i d e =
       rw (← append-assoc (sidesChecks n t j i d e) (pairingOk n t i d e ∷ []) _)
       (behind-unmarked _ _ 15 _ _ _ _)
 
@@ -147,17 +147,17 @@ module _ (n : ℕ) (o : Outcome) where
   early-leaves d k p q e = ap (leaving k p q) (rw (not-late k (refusal-says _ early k p q e .0), layerMarks))
     where
       early : Numbers n t j early-numbers (layerChecks n t m j d)
-      early = numbers-before _ _ (call-numbers n o (Call.remove d))
+      early = numbers-before _ _ (call-numbers n o (Call.op 0 (Op.remove d)))
 
-  remove-ends : (d : ℕ) → Ends n o (Call.remove d)
+  remove-ends : (tag d : ℕ) → Ends n o (Call.op tag (Op.remove d))
   unfolding doCall removeCall commit checksOf recordOk doneOf refusalMarks
-  remove-ends d =
+  remove-ends tag d =
       behind-more _ _ _ _ _ _ (behind-last _ _ _ 15 _ _ refl (late-leaves d 15 0 0 (there (there (here refl))))) (early-leaves d)
 
-  split-ends : (d : ℕ) → Ends n o (Call.split d)
+  split-ends : (tag d : ℕ) → Ends n o (Call.op tag (Op.split d))
   unfolding doCall splitCall commit checksOf recordOk doneOf refusalMarks layerChecks mapChecks splitChecks
-  split-ends d =
-      let late = numbers-behind (layerChecks n t m j d) _ (call-numbers n o (Call.split d)) in
+  split-ends tag d =
+      let late = numbers-behind (layerChecks n t m j d) _ (call-numbers n o (Call.op tag (Op.split d))) in
       let crossing = numbers-before (splitChecks n t (sheet n t d) (ones (sheet n t d))) _ late in
       behind-more _ _ _ _ _ _
       (behind-more _ _ _ _ _ _ (behind-last _ _ _ 15 _ _ refl (late-leaves d 15 0 0 (there (there (here refl)))))
@@ -168,11 +168,11 @@ module _ (n : ℕ) (o : Outcome) where
   call-ends Call.check = check-ends
   call-ends (Call.orbit mask d) = orbit-ends mask d
   call-ends (Call.sheet d) = sheet-ends d
-  call-ends Call.add = add-ends
-  call-ends (Call.sew i d e) = sew-ends i d e
-  call-ends (Call.unsew i d) = unsew-ends i d
-  call-ends (Call.remove d) = remove-ends d
-  call-ends (Call.split d) = split-ends d
+  call-ends (Call.op tag Op.add) = add-ends tag
+  call-ends (Call.op tag (Op.sew i d e)) = sew-ends tag i d e
+  call-ends (Call.op tag (Op.unsew i d)) = unsew-ends tag i d
+  call-ends (Call.op tag (Op.remove d)) = remove-ends tag d
+  call-ends (Call.op tag (Op.split d)) = split-ends tag d
   call-ends Call.undo = undo-ends
   call-ends Call.redo = redo-ends
 
@@ -198,11 +198,11 @@ module _ (n : ℕ) (o : Outcome) where
   done-number Call.check = refl
   done-number (Call.orbit mask d) = refl
   done-number (Call.sheet d) = refl
-  done-number Call.add = refl
-  done-number (Call.sew i d e) = refl
-  done-number (Call.unsew i d) = refl
-  done-number (Call.remove d) = refl
-  done-number (Call.split d) = refl
+  done-number (Call.op tag Op.add) = refl
+  done-number (Call.op tag (Op.sew i d e)) = refl
+  done-number (Call.op tag (Op.unsew i d)) = refl
+  done-number (Call.op tag (Op.remove d)) = refl
+  done-number (Call.op tag (Op.split d)) = refl
   done-number Call.undo = refl
   done-number Call.redo = refl
 
@@ -220,42 +220,44 @@ module _ (n : ℕ) (o : Outcome) where
 
   -- ---- operations
 
-  op-passed : (p : Op) → inOrder (checks n o (callOf p)) ≡ pass
-      → Passed n t m j p × (recordOk t (effect n t p) j ≡ pass)
-  unfolding checksOf callOf effect sewChecks
-  op-passed Op.add h = let r = passed-append (addChecks n t j) _ h in (r .0, passed-at _ (r .1) 0)
-  op-passed (Op.sew i d e) h =
+  op-passed : (tag : ℕ) (p : Op) → inOrder (checks n o (Call.op tag p)) ≡ pass
+      → Passed n t m j p × (recordOk tag t (effect n t p) j ≡ pass)
+  unfolding checksOf effect sewChecks
+  op-passed tag Op.add h = let r = passed-append (addChecks n t j) _ h in (r .0, passed-at _ (r .1) 0)
+  op-passed tag (Op.sew i d e) h =
       let both = append-assoc (sidesChecks n t j i d e) (pairingOk n t i d e ∷ []) _ in
       let r = passed-append (sewChecks n t j i d e) _ (ap inOrder both ∙ h) in
       (r .0, passed-at _ (r .1) 0)
-  op-passed (Op.unsew i d) h = let r = passed-append (unsewChecks n t j i d) _ h in (r .0, passed-at _ (r .1) 0)
-  op-passed (Op.remove d) h = let r = passed-append (layerChecks n t m j d) _ h in (r .0, passed-at _ (r .1) 0)
-  op-passed (Op.split d) h =
+  op-passed tag (Op.unsew i d) h = let r = passed-append (unsewChecks n t j i d) _ h in (r .0, passed-at _ (r .1) 0)
+  op-passed tag (Op.remove d) h = let r = passed-append (layerChecks n t m j d) _ h in (r .0, passed-at _ (r .1) 0)
+  op-passed tag (Op.split d) h =
       let r = passed-append (layerChecks n t m j d) _ h in
       let s = passed-append (splitChecks n t (sheet n t d) (ones (sheet n t d))) _ (r .1) in
       ((r .0, s .0), passed-at _ (s .1) 0)
 
-  done-op : (p : Op) → (done n o (callOf p) .table ≡ effect n t p)
-      × (done n o (callOf p) .journal ≡ written j (recordOf (changesFrom 0 t (effect n t p))))
-  unfolding doneOf callOf effect
-  done-op Op.add = (refl, refl)
-  done-op (Op.sew i d e) = (refl, refl)
-  done-op (Op.unsew i d) = (refl, refl)
-  done-op (Op.remove d) = (refl, refl)
-  done-op (Op.split d) = (refl, refl)
+  done-op : (tag : ℕ) (p : Op) → (done n o (Call.op tag p) .table ≡ effect n t p)
+      × (done n o (Call.op tag p) .journal ≡ written j (recordOf tag (changesFrom 0 t (effect n t p))))
+  unfolding doneOf effect
+  done-op tag Op.add = (refl, refl)
+  done-op tag (Op.sew i d e) = (refl, refl)
+  done-op tag (Op.unsew i d) = (refl, refl)
+  done-op tag (Op.remove d) = (refl, refl)
+  done-op tag (Op.split d) = (refl, refl)
 
   -- an accepted operation has passed its checks, and leaves its effect and the record of the changes
-  pub op-accepted : (p : Op) → doCall n o (callOf p) .number ≡ 0 → OpAccepted n o p (doCall n o (callOf p))
-  op-accepted p h =
-      let passed = op-passed p (call-passed (callOf p) h) in
-      let is = call-done (callOf p) h in
-      let leaves = done-op p in
+  pub op-accepted : (tag : ℕ) (p : Op) → doCall n o (Call.op tag p) .number ≡ 0
+      → OpAccepted n o tag p (doCall n o (Call.op tag p))
+  op-accepted tag p h =
+      let passed = op-passed tag p (call-passed (Call.op tag p) h) in
+      let is = call-done (Call.op tag p) h in
+      let leaves = done-op tag p in
       record {
         passed = passed .0;
         table = ap (λ (r : Outcome). r .table) is ∙ leaves .0;
         journal = ap (λ (r : Outcome). r .journal) is ∙ leaves .1;
-        room = record-pass _ _ _ (passed .1);
+        room = record-pass tag _ _ _ (passed .1);
       }
 
-  pub op-effect : (p : Op) → doCall n o (callOf p) .number ≡ 0 → Passed n t m j p × (doCall n o (callOf p) .table ≡ effect n t p)
-  op-effect p h = let r = op-accepted p h in (r .passed, r .table)
+  pub op-effect : (tag : ℕ) (p : Op) → doCall n o (Call.op tag p) .number ≡ 0
+      → Passed n t m j p × (doCall n o (Call.op tag p) .table ≡ effect n t p)
+  op-effect tag p h = let r = op-accepted tag p h in (r .passed, r .table)

@@ -140,9 +140,10 @@ pub split-room-fails : (n : ℕ) (t gs : List ℕ) → (splitRoomOk n t gs ≢ p
 unfolding splitRoomOk splitSlots
 split-room-fails n t gs = must-fails _ 14 (Iff·trans (eqb-fails _ _) (take-short (n * length gs) (unusedSlots t)))
 
-pub record-fails : (t u j : List ℕ) → (recordOk t u j ≢ pass) ↔ (length j - cursor j < length (recordOf (changesFrom 0 t u)))
+pub record-fails : (tag : ℕ) (t u j : List ℕ)
+    → (recordOk tag t u j ≢ pass) ↔ (length j - cursor j < length (recordOf tag (changesFrom 0 t u)))
 unfolding recordOk
-record-fails t u j = must-fails _ 15 (leb-fails _ _)
+record-fails tag t u j = must-fails _ 15 (leb-fails _ _)
 
 pub undo-fails : (j : List ℕ) → (undoOk j ≢ pass) ↔ (cursor j ≡ 2)
 unfolding undoOk

@@ -13,7 +13,7 @@ use Rattle.model.specs.Sew.{isPaired, sewTable, unsewTable}
 use Rattle.model.specs.Split.{splitTable}
 use Rattle.model.specs.Checks.{stepChecks, undoOk, redoOk}
 use Rattle.model.specs.Calls.{Outcome, addCall, sewCall, unsewCall, removeCall, splitCall, undoCall, redoCall}
-use Rattle.model.specs.Runs.{Call, doCall, keeping, Op, callOf, effect}
+use Rattle.model.specs.Runs.{Op, Call, doCall, keeping, effect}
 use Rattle.model.specs.Meaning.Ends.{lent, checksOf, doneOf}
 use Rattle.model.specs.Meaning.Maps.{MapTable, Straight, BlockTable, Keeps, KeepsAt, BlockMap}
 use Rattle.model.specs.Meaning.Pairings.{OnSide, Sewable}
@@ -36,11 +36,11 @@ use Rattle.model.proofs.Calls.Ends.{call-passed, call-done, op-effect}
 
 -- ---- add
 
-module _ (n : ℕ) (t j : List ℕ) where
-  pub add-call : addCall n t j .number ≡ 0 → Keeps n t (addCall n t j .table)
-  unfolding doCall callOf keeping effect addTable addSlots
+module _ (n : ℕ) (t j : List ℕ) (tag : ℕ) where
+  pub add-call : addCall n t j tag .number ≡ 0 → Keeps n t (addCall n t j tag .table)
+  unfolding doCall keeping effect addTable addSlots
   add-call h =
-      let r = op-effect n (lent t [] j) Op.add h in
+      let r = op-effect n (lent t [] j) tag Op.add h in
       let passed = add-passed n t j (r .0) in
       let T = passed .table in
       let fresh = vacant-frees t (cellSize n) in
@@ -68,47 +68,47 @@ keeps-at {n} {t} {u} {i} T low made straight = (
     relinked-block B made straight = subst (BlockTable n) (sym (made .is))
         (relink-block B (made .change) (λ x l. subst (λ (v : List ℕ). Straight n v x) (made .is) (straight x l)))
 
-module _ (n : ℕ) (t j : List ℕ) (i d : ℕ) where
-  pub unsew-call : unsewCall n t j i d .number ≡ 0 → KeepsAt i n t (unsewCall n t j i d .table)
-  unfolding doCall callOf keeping effect
+module _ (n : ℕ) (t j : List ℕ) (tag i d : ℕ) where
+  pub unsew-call : unsewCall n t j tag i d .number ≡ 0 → KeepsAt i n t (unsewCall n t j tag i d .table)
+  unfolding doCall keeping effect
   unsew-call h =
-      let r = op-effect n (lent t [] j) (Op.unsew i d) h in
+      let r = op-effect n (lent t [] j) tag (Op.unsew i d) h in
       let passed = unsew-passed n t j i d (r .0) in
       let on = unsew-side passed in
       rw (r .1) (keeps-at (passed .table) (passed .index) (unsew-relinked on) (λ e.
       subst (λ (k : ℕ). OnSide n t k d → StayStraight n t (unsewTable n t k d)) (sym e) unsew-straight on))
 
-module _ (n : ℕ) (t j : List ℕ) (i d e : ℕ) where
+module _ (n : ℕ) (t j : List ℕ) (tag i d e : ℕ) where
   sew-keeps : SidesPassed n t i d e → isPaired n t i d e ≡ true → KeepsAt i n t (sewTable n t i d e)
   sew-keeps passed h =
       let able = sides-sewable passed h in
       keeps-at (passed .table) (passed .index) (sew-relinked able) (λ q.
       subst (λ (k : ℕ). Sewable n t k d e → StayStraight n t (sewTable n t k d e)) (sym q) sew-straight able)
 
-  pub sew-call : sewCall n t j i d e .number ≡ 0 → KeepsAt i n t (sewCall n t j i d e .table)
-  unfolding doCall callOf keeping effect
+  pub sew-call : sewCall n t j tag i d e .number ≡ 0 → KeepsAt i n t (sewCall n t j tag i d e .table)
+  unfolding doCall keeping effect
   sew-call h =
-      let r = op-effect n (lent t [] j) (Op.sew i d e) h in
+      let r = op-effect n (lent t [] j) tag (Op.sew i d e) h in
       let passed = sew-passed n t j i d e (r .0) in
       rw (r .1) (sew-keeps (passed .0) (passed .1))
 
 -- ---- remove, split
 
-module _ (n : ℕ) (t m j : List ℕ) (d : ℕ) where
+module _ (n : ℕ) (t m j : List ℕ) (tag d : ℕ) where
   block-map : (u : List ℕ) → BlockTable n u → BlockMap n u
   block-map u U = (of-map n u (U .map), of-block n u U)
 
-  pub remove-call : removeCall n t m j d .number ≡ 0 → BlockMap n (removeCall n t m j d .table)
-  unfolding doCall callOf keeping effect
+  pub remove-call : removeCall n t m j tag d .number ≡ 0 → BlockMap n (removeCall n t m j tag d .table)
+  unfolding doCall keeping effect
   remove-call h =
-      let r = op-effect n (lent t m j) (Op.remove d) h in
+      let r = op-effect n (lent t m j) tag (Op.remove d) h in
       let passed = layer-passed n t j m d (r .0) in
       rw (r .1) (block-map _ (remove-block passed))
 
-  pub split-call : splitCall n t m j d .number ≡ 0 → BlockMap n (splitCall n t m j d .table)
-  unfolding doCall callOf keeping effect splitTable
+  pub split-call : splitCall n t m j tag d .number ≡ 0 → BlockMap n (splitCall n t m j tag d .table)
+  unfolding doCall keeping effect splitTable
   split-call h =
-      let r = op-effect n (lent t m j) (Op.split d) h in
+      let r = op-effect n (lent t m j) tag (Op.split d) h in
       let gs = ones (sheet n t d) in
       let passed = layer-passed n t j m d (r .0 .0) in
       let split = split-passed n t j (sheet n t d) gs (r .0 .1) in

@@ -22,8 +22,8 @@ use Rattle.model.specs.Checks.{dimOk, tableOk, journalOk, ruleOk, mapChe
 use Rattle.model.specs.Checks.{apartOk, freeOk}
 use Rattle.model.specs.Checks.{sewnOk, pairingOk, crossingOk, addRoomOk, splitRoomOk}
 use Rattle.model.specs.Checks.{addChecks, sidesChecks, sewChecks, unsewChecks, layerChecks, splitChecks}
-use Rattle.model.specs.Runs.{Call}
-use Rattle.model.specs.Meaning.Ends.{recordOk, stepOk, numbers}
+use Rattle.model.specs.Runs.{Op}
+use Rattle.model.specs.Meaning.Ends.{recordOk, stepOk, opNumbers}
 use Rattle.model.specs.Meaning.Numbers.{JournalRule}
 use Rattle.model.specs.Meaning.Maps.{Dim, MapTable}
 use Rattle.model.specs.Meaning.Pairings.{OnSide, Sewable}
@@ -110,9 +110,10 @@ journal-pass j h =
       within = leb-true _ _ (and-r (long && few && low && ends) _ all);
     }
 
-pub record-pass : (t u j : List ℕ) → recordOk t u j ≡ pass → length (recordOf (changesFrom 0 t u)) ≤ length j - cursor j
+pub record-pass : (tag : ℕ) (t u j : List ℕ) → recordOk tag t u j ≡ pass
+    → length (recordOf tag (changesFrom 0 t u)) ≤ length j - cursor j
 unfolding recordOk
-record-pass t u j h = leb-true _ _ (must-pass _ 15 h)
+record-pass tag t u j h = leb-true _ _ (must-pass _ 15 h)
 
 pub step-pass : (redo : Bool) (n : ℕ) (t j : List ℕ) (a k : ℕ) → stepOk redo n t j a k ≡ pass
     → (unbroken redo t j a k ≡ true) × (isMap n (put redo (changesAt j a k) t) ≡ true)
@@ -177,7 +178,7 @@ module _ (n : ℕ) (t j : List ℕ) where
   pub add-passed : inOrder (addChecks n t j) ≡ pass → AddPassed n t
   unfolding addChecks mapChecks addRoomOk indexOf
   add-passed a =
-      let q = passed-number (numbers Call.add) (addChecks n t j) a in
+      let q = passed-number (opNumbers Op.add) (addChecks n t j) a in
       record {
         table = table-of n t (q 1) (q 2) (rules-pass n t (q 5) (q 24) (q 25) (q 26));
         room = eqb-true _ _ (must-pass _ 14 (q 14));
@@ -186,7 +187,7 @@ module _ (n : ℕ) (t j : List ℕ) where
   pub unsew-passed : (i d : ℕ) → inOrder (unsewChecks n t j i d) ≡ pass → UnsewPassed n t i d
   unfolding unsewChecks mapChecks sewnOk indexOf
   unsew-passed i d a =
-      let q = passed-number (numbers (Call.unsew i d)) (unsewChecks n t j i d) a in
+      let q = passed-number (opNumbers (Op.unsew i d)) (unsewChecks n t j i d) a in
       record {
         table = table-of n t (q 1) (q 2) (rules-pass n t (q 5) (q 24) (q 25) (q 26));
         index = index-pass n i (q 6);
@@ -197,7 +198,7 @@ module _ (n : ℕ) (t j : List ℕ) where
   pub sides-passed : (i d e : ℕ) → inOrder (sidesChecks n t j i d e) ≡ pass → SidesPassed n t i d e
   unfolding sidesChecks mapChecks apartOk freeOk inSet indexOf
   sides-passed i d e a =
-      let q = passed-number (numbers (Call.sew i d e)) (sidesChecks n t j i d e) a in
+      let q = passed-number (opNumbers (Op.sew i d e)) (sidesChecks n t j i d e) a in
       let second-7 = passed-at (sidesChecks n t j i d e) a 9 in
       let f = must-pass (eqb (link t i d) d && eqb (link t i e) e) 10 (q 10) in
       record {
@@ -220,7 +221,7 @@ module _ (n : ℕ) (t j : List ℕ) where
   pub layer-passed : (m : List ℕ) (d : ℕ) → inOrder (layerChecks n t m j d) ≡ pass → BlockDart n t d
   unfolding layerChecks mapChecks indexOf
   layer-passed m d a =
-      let q = passed-number (numbers (Call.remove d)) (layerChecks n t m j d) a in
+      let q = passed-number (opNumbers (Op.remove d)) (layerChecks n t m j d) a in
       record {
         table = block-of n t (table-of n t (q 1) (q 2) (rules-pass n t (q 5) (q 24) (q 25) (q 26))) (block-pass n t (q 8));
         lives = dart-pass t d (q 7);

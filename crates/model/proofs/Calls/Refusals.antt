@@ -14,7 +14,7 @@ use Rattle.model.specs.Journal.{cursor}
 use Rattle.model.specs.Checks.{Check, pass, refuse, andThen, inOrder, undoOk, redoOk}
 use Rattle.model.specs.Checks.{mapChecks, sidesChecks, layerChecks, splitChecks, stepChecks}
 use Rattle.model.specs.Calls.{Outcome, refused, sewCall, splitCall, undoCall, redoCall}
-use Rattle.model.specs.Runs.{Call, doCall, keeping}
+use Rattle.model.specs.Runs.{Op, Call, doCall, keeping}
 use Rattle.model.specs.Meaning.Sizes.{member}
 use Rattle.model.specs.Meaning.Ends.{lent, checksOf, checks, numbers, undoCount, undoStart, redoCount}
 use Rattle.model.specs.Meaning.Numbers.{StepFails}
@@ -107,18 +107,18 @@ module _ (n : ℕ) (o : Outcome) (c : Call) (z : ℕ) (some-number : z ≢ 0) wh
 
 -- ---- 12, 13, 17
 
-pub sew-12-exactly : (n : ℕ) (t j : List ℕ) (i d e : ℕ) → (sewCall n t j i d e .number ≡ 12)
+pub sew-12-exactly : (n : ℕ) (t j : List ℕ) (tag i d e : ℕ) → (sewCall n t j tag i d e .number ≡ 12)
     ↔ ((inOrder (sidesChecks n t j i d e) ≡ pass) × (Pairing n t i d e → ⊥))
 unfolding doCall keeping checksOf sidesChecks mapChecks member indexOf
-sew-12-exactly n t j i d e =
-    given-exactly n (lent t [] j) (Call.sew i d e) 12 (λ q. omega arith) (sidesChecks n t j i d e) _ _ refl refl refl refl
+sew-12-exactly n t j tag i d e =
+    given-exactly n (lent t [] j) (Call.op tag (Op.sew i d e)) 12 (λ q. omega arith) (sidesChecks n t j i d e) _ _ refl refl refl refl
     (λ h. pairing-fails n t i d e (sides-passed n t j i d e h))
 
-pub split-13-exactly : (n : ℕ) (t m j : List ℕ) (d : ℕ) → (splitCall n t m j d .number ≡ 13)
+pub split-13-exactly : (n : ℕ) (t m j : List ℕ) (tag d : ℕ) → (splitCall n t m j tag d .number ≡ 13)
     ↔ ((inOrder (layerChecks n t m j d) ≡ pass) × ((g : ℕ) × Marked (sheet n t d) g × Marked (sheet n t d) (link t 1 g)))
 unfolding doCall checksOf layerChecks mapChecks splitChecks member indexOf
-split-13-exactly n t m j d =
-    given-exactly n (lent t m j) (Call.split d) 13 (λ q. omega arith) (layerChecks n t m j d) _ _ refl refl refl refl
+split-13-exactly n t m j tag d =
+    given-exactly n (lent t m j) (Call.op tag (Op.split d)) 13 (λ q. omega arith) (layerChecks n t m j d) _ _ refl refl refl refl
     (λ h. crossing-fails t (sheet n t d))
 
 pub undo-17-exactly : (n : ℕ) (t j : List ℕ) → (undoCall n t j .number ≡ 17)

@@ -15,7 +15,7 @@ use Rattle.model.specs.Checks.{Check, pass, refuse, mustAt, andThen, inO
 use Rattle.model.specs.Checks.{checkChecks, orbitChecks, sheetChecks, addChecks, sidesChecks, unsewChecks}
 use Rattle.model.specs.Checks.{layerChecks, stepChecks}
 use Rattle.model.specs.Calls.{Outcome, refused}
-use Rattle.model.specs.Runs.{Call, doCall}
+use Rattle.model.specs.Runs.{Op, Call, doCall}
 use Rattle.model.specs.Meaning.Sizes.{member}
 use Rattle.model.specs.Meaning.Ends.{checksOf, checks, firstChecks, numbers}
 use Rattle.model.specs.Meaning.Maps.{Map, BreaksFirst}
@@ -96,11 +96,11 @@ module _ (n : ℕ) (o : Outcome) where
   begins Call.check = record { behind = _; is = refl; dim = refl; clear = refl }
   begins (Call.orbit mask d) = record { behind = _; is = refl; dim = refl; clear = refl }
   begins (Call.sheet d) = record { behind = _; is = refl; dim = refl; clear = refl }
-  begins Call.add = record { behind = _; is = refl; dim = refl; clear = refl }
-  begins (Call.sew i d e) = record { behind = _; is = refl; dim = refl; clear = refl }
-  begins (Call.unsew i d) = record { behind = _; is = refl; dim = refl; clear = refl }
-  begins (Call.remove d) = record { behind = _; is = refl; dim = refl; clear = refl }
-  begins (Call.split d) = record { behind = _; is = refl; dim = refl; clear = refl }
+  begins (Call.op tag Op.add) = record { behind = _; is = refl; dim = refl; clear = refl }
+  begins (Call.op tag (Op.sew i d e)) = record { behind = _; is = refl; dim = refl; clear = refl }
+  begins (Call.op tag (Op.unsew i d)) = record { behind = _; is = refl; dim = refl; clear = refl }
+  begins (Call.op tag (Op.remove d)) = record { behind = _; is = refl; dim = refl; clear = refl }
+  begins (Call.op tag (Op.split d)) = record { behind = _; is = refl; dim = refl; clear = refl }
   begins Call.undo = record { behind = _; is = refl; dim = refl; clear = refl }
   begins Call.redo = record { behind = _; is = refl; dim = refl; clear = refl }
 

@@ -12,8 +12,8 @@ use Rattle.model.specs.Checks.{Check, pass, refuse, andThen, inOrder, di
 use Rattle.model.specs.Checks.{mapChecks, checkChecks, orbitChecks, sheetChecks, addChecks, sidesChecks, unsewChecks}
 use Rattle.model.specs.Checks.{layerChecks, splitChecks, stepChecks}
 use Rattle.model.specs.Calls.{Outcome, refused}
-use Rattle.model.specs.Runs.{Call, doCall}
-use Rattle.model.specs.Meaning.Ends.{stepOk, checksOf, checks, numbers}
+use Rattle.model.specs.Runs.{Op, Call, doCall}
+use Rattle.model.specs.Meaning.Ends.{stepOk, checksOf, checks, opNumbers, numbers}
 use Rattle.model.specs.Meaning.Maps.{Dim}
 use Rattle.model.specs.Meaning.Numbers.{NumberRow, First, dimRow, tableRow, marksRow, journalRow, mapRows, dartRow, blockRow}
 use Rattle.model.specs.Meaning.Numbers.{stepRow, numberRows}
@@ -155,7 +155,7 @@ module _ (n : ℕ) (o : Outcome) where
   unfolding layerChecks mapChecks indexOf
   with-layer d w =
       dim-fails n next table-fails t next marks-fails t m next journal-fails j next then-map _ (dart-fails t d
-      next (λ h. let q = passed-number (numbers (Call.remove d)) _ h in
+      next (λ h. let q = passed-number (opNumbers (Op.remove d)) _ h in
       block-fails n t (table-of n t (q 1) (q 2) (rules-pass n t (q 5) (q 24) (q 25) (q 26))))
       next-passed w)
 
@@ -167,15 +167,15 @@ module _ (n : ℕ) (o : Outcome) where
       next (λ h. let q = passed-number (numbers (Call.sheet d)) _ h in
       block-fails n t (table-of n t (q 1) (q 2) (rules-pass n t (q 5) (q 24) (q 25) (q 26))))
       next-passed no-more)
-  meets Call.add = with-journal (add-room-fails n t next record-fails t _ j next no-more)
-  meets (Call.sew i d e) = with-journal (index-fails n i next dart-fails t d next dart-fails t e next apart-fails n t i d e
+  meets (Call.op tag Op.add) = with-journal (add-room-fails n t next record-fails tag t _ j next no-more)
+  meets (Call.op tag (Op.sew i d e)) = with-journal (index-fails n i next dart-fails t d next dart-fails t e next apart-fails n t i d e
       next free-fails t i d e next (λ h. pairing-fails n t i d e (sides-passed n t j i d e h))
-      next-passed record-fails t _ j next no-more)
-  meets (Call.unsew i d) = with-journal (index-fails n i next dart-fails t d next sewn-fails t i d
-      next record-fails t _ j next no-more)
-  meets (Call.remove d) = with-layer d (record-fails t _ j next no-more)
-  meets (Call.split d) = with-layer d (crossing-fails t (sheet n t d) next split-room-fails n t (ones (sheet n t d))
-      next record-fails t _ j next no-more)
+      next-passed record-fails tag t _ j next no-more)
+  meets (Call.op tag (Op.unsew i d)) = with-journal (index-fails n i next dart-fails t d next sewn-fails t i d
+      next record-fails tag t _ j next no-more)
+  meets (Call.op tag (Op.remove d)) = with-layer d (record-fails tag t _ j next no-more)
+  meets (Call.op tag (Op.split d)) = with-layer d (crossing-fails t (sheet n t d) next split-room-fails n t (ones (sheet n t d))
+      next record-fails tag t _ j next no-more)
   meets Call.undo = with-journal (undo-fails j next step-row false _ _ _ next-passed no-more)
   meets Call.redo = with-journal (redo-fails j next step-row true _ _ _ next-passed no-more)
 
@@ -184,11 +184,11 @@ module _ (n : ℕ) (o : Outcome) where
   rows-numbers Call.check = refl
   rows-numbers (Call.orbit mask d) = refl
   rows-numbers (Call.sheet d) = refl
-  rows-numbers Call.add = refl
-  rows-numbers (Call.sew i d e) = refl
-  rows-numbers (Call.unsew i d) = refl
-  rows-numbers (Call.remove d) = refl
-  rows-numbers (Call.split d) = refl
+  rows-numbers (Call.op tag Op.add) = refl
+  rows-numbers (Call.op tag (Op.sew i d e)) = refl
+  rows-numbers (Call.op tag (Op.unsew i d)) = refl
+  rows-numbers (Call.op tag (Op.remove d)) = refl
+  rows-numbers (Call.op tag (Op.split d)) = refl
   rows-numbers Call.undo = refl
   rows-numbers Call.redo = refl
 

@@ -9,7 +9,7 @@ use mathlib.Core.Logic.{⊎-elim, _≢_}
 use native.Mathlib.Omega.{arith}
 use Rattle.model.specs.Cell.{leastWrong}
 use Rattle.model.specs.Calls.{Outcome, refused}
-use Rattle.model.specs.Runs.{Call, doCall}
+use Rattle.model.specs.Runs.{Op, Call, doCall}
 use Rattle.model.specs.Meaning.Ends.{Untouched, done, refusalPlace, Sheeted, layerMarks, refusalMarks, doneOf}
 use Rattle.model.specs.Meaning.Ends.{Reading, reads-check, reads-orbit, reads-sheet}
 use Rattle.model.specs.Meaning.Maps.{byRule}
@@ -72,10 +72,12 @@ module _ (n : ℕ) (o : Outcome) (d : ℕ) where
   unfolding doneOf
   sheet-marks h = ap (λ (r : Outcome). r .marks) (call-done n o (Call.sheet d) h)
 
-  pub remove-marks : Sheeted (doCall n o (Call.remove d) .number) → doCall n o (Call.remove d) .marks ≡ marksOf n (o .table) d
+  pub remove-marks : (tag : ℕ) → Sheeted (doCall n o (Call.op tag (Op.remove d)) .number)
+      → doCall n o (Call.op tag (Op.remove d)) .marks ≡ marksOf n (o .table) d
   unfolding doneOf refusalMarks
-  remove-marks = left (Call.remove d) refl (λ k. refl)
+  remove-marks tag = left (Call.op tag (Op.remove d)) refl (λ k. refl)
 
-  pub split-marks : Sheeted (doCall n o (Call.split d) .number) → doCall n o (Call.split d) .marks ≡ marksOf n (o .table) d
+  pub split-marks : (tag : ℕ) → Sheeted (doCall n o (Call.op tag (Op.split d)) .number)
+      → doCall n o (Call.op tag (Op.split d)) .marks ≡ marksOf n (o .table) d
   unfolding doneOf refusalMarks
-  split-marks = left (Call.split d) refl (λ k. refl)
+  split-marks tag = left (Call.op tag (Op.split d)) refl (λ k. refl)

@@ -1,5 +1,6 @@
 -- What calls write into the journal. `op-recorded`: an accepted operation writes its record at the cursor, cursor and end
--- go behind it, and other words stay. `undo-words`, `redo-words`: undo and redo change only the cursor word.
+-- go behind it, and other words stay. `undo-words`, `redo-words`: undo and redo change only the cursor word. `undo-record-tag`,
+-- `redo-record-tag`: they give the tag of their record.
 use Prim.Native.Nat.{ℕ, _+_, _*_, _-_, _≤_, _<_}
 use mathlib.Core.Path.{_≡_, refl, ap, _∙_}
 use mathlib.Core.List.{List, _++_}
@@ -7,11 +8,11 @@ use native.Mathlib.Omega.{arith}
 use lib.ListN.{length, getD, set, take, drop, length-append, length-drop, length-set, List·getD-append}
 use lib.Seq.{length-take-le, getD-append-add, getD-take, getD-drop, getD-set-same, getD-set-other}
 use Rattle.model.specs.Lists.{indexOf}
-use Rattle.model.specs.Journal.{cursor, end, changesFrom, recordOf, written}
+use Rattle.model.specs.Journal.{cursor, end, changesFrom, recordOf, recordLength, written, tagAt}
 use Rattle.model.specs.Checks.{pass, journalOk, inOrder, addChecks, sidesChecks, unsewChecks, layerChecks, stepChecks}
 use Rattle.model.specs.Calls.{Outcome}
-use Rattle.model.specs.Runs.{Call, doCall, Op, callOf}
-use Rattle.model.specs.Meaning.Ends.{checks, numbers, done, Recorded, CursorMoved, checksOf, doneOf}
+use Rattle.model.specs.Runs.{Op, Call, doCall}
+use Rattle.model.specs.Meaning.Ends.{checks, numbers, undoStart, done, Recorded, CursorMoved, checksOf, doneOf}
 use Rattle.model.specs.Meaning.Numbers.{JournalRule}
 use Rattle.model.proofs.Lists.Scan.{if-eq}
 use Rattle.model.proofs.Calls.Checks.{passed-number}
@@ -92,29 +93,29 @@ module _ (j r : List ℕ) (rule : JournalRule j) (room : length r ≤ length j -
       }
 
 -- the check 4 has passed
-op-journal : (n : ℕ) (o : Outcome) (p : Op) → inOrder (checks n o (callOf p)) ≡ pass → journalOk (o .journal) ≡ pass
-unfolding checksOf callOf indexOf addChecks sidesChecks unsewChecks layerChecks
-op-journal n o p h = journal p (passed-number (numbers (callOf p)) (checks n o (callOf p)) h 4)
+op-journal : (n : ℕ) (o : Outcome) (tag : ℕ) (p : Op) → inOrder (checks n o (Call.op tag p)) ≡ pass → journalOk (o .journal) ≡ pass
+unfolding checksOf indexOf addChecks sidesChecks unsewChecks layerChecks
+op-journal n o tag p h = journal p (passed-number (numbers (Call.op tag p)) (checks n o (Call.op tag p)) h 4)
   where
-    journal : (p : Op) → getD (checks n o (callOf p)) (indexOf 4 (numbers (callOf p))) pass ≡ pass → journalOk (o .journal) ≡ pass
+    journal : (p : Op) → getD (checks n o (Call.op tag p)) (indexOf 4 (numbers (Call.op tag p))) pass ≡ pass → journalOk (o .journal) ≡ pass
     journal Op.add q = q
     journal (Op.sew i d e) q = q
     journal (Op.unsew i d) q = q
     journal (Op.remove d) q = q
     journal (Op.split d) q = q
 
-module _ (n : ℕ) (o : Outcome) (p : Op) (accepted : doCall n o (callOf p) .number ≡ 0) where
-  -- the record of the changes that the operation made
+module _ (n : ℕ) (o : Outcome) (tag : ℕ) (p : Op) (accepted : doCall n o (Call.op tag p) .number ≡ 0) where
+  -- the record of the changes that the operation made, with its tag
   abbrev record-of : List ℕ
-  record-of = recordOf (changesFrom 0 (o .table) (doCall n o (callOf p) .table))
+  record-of = recordOf tag (changesFrom 0 (o .table) (doCall n o (Call.op tag p) .table))
 
-  pub op-written : doCall n o (callOf p) .journal ≡ written (o .journal) record-of
-  op-written = let r = op-accepted n o p accepted in rw (r .table) (r .journal)
+  pub op-written : doCall n o (Call.op tag p) .journal ≡ written (o .journal) record-of
+  op-written = let r = op-accepted n o tag p accepted in rw (r .table) (r .journal)
 
-  pub op-recorded : Recorded record-of (o .journal) (doCall n o (callOf p) .journal)
+  pub op-recorded : Recorded record-of (o .journal) (doCall n o (Call.op tag p) .journal)
   op-recorded =
-      let r = op-accepted n o p accepted in
-      let rule = journal-pass (o .journal) (op-journal n o p (call-passed n o (callOf p) accepted)) in
+      let r = op-accepted n o tag p accepted in
+      let rule = journal-pass (o .journal) (op-journal n o tag p (call-passed n o (Call.op tag p) accepted)) in
       rw (r .table, r .journal) (written-recorded (o .journal) _ rule (r .room))
 
 -- ---- undo and redo
@@ -142,7 +143,7 @@ module _ (n : ℕ) (o : Outcome) where
 
   -- the cursor goes to the beginning of the record that was undone ..
   pub undo-cursor : doCall n o Call.undo .number ≡ 0
-      → cursor (doCall n o Call.undo .journal) ≡ cursor (o .journal) - (3 * doCall n o Call.undo .count + 2)
+      → cursor (doCall n o Call.undo .journal) ≡ cursor (o .journal) - recordLength (doCall n o Call.undo .count)
   unfolding doneOf checksOf stepChecks indexOf
   undo-cursor h =
       let ok = passed-number (numbers Call.undo) (checks n o Call.undo) (call-passed n o Call.undo h) 4 in
@@ -150,8 +151,17 @@ module _ (n : ℕ) (o : Outcome) where
 
   -- .. and behind the one that was redone
   pub redo-cursor : doCall n o Call.redo .number ≡ 0
-      → cursor (doCall n o Call.redo .journal) ≡ cursor (o .journal) + (3 * doCall n o Call.redo .count + 2)
+      → cursor (doCall n o Call.redo .journal) ≡ cursor (o .journal) + recordLength (doCall n o Call.redo .count)
   unfolding doneOf checksOf stepChecks indexOf
   redo-cursor h =
       let ok = passed-number (numbers Call.redo) (checks n o Call.redo) (call-passed n o Call.redo h) 4 in
       rw (call-done n o Call.redo h) (cursor-to (o .journal) _ ok)
+
+  -- the place is the tag of the record: the word behind its first count
+  pub undo-record-tag : doCall n o Call.undo .number ≡ 0 → doCall n o Call.undo .place ≡ tagAt (o .journal) (undoStart (o .journal))
+  unfolding doneOf
+  undo-record-tag h = ap (λ (r : Outcome). r .place) (call-done n o Call.undo h)
+
+  pub redo-record-tag : doCall n o Call.redo .number ≡ 0 → doCall n o Call.redo .place ≡ tagAt (o .journal) (cursor (o .journal))
+  unfolding doneOf
+  redo-record-tag h = ap (λ (r : Outcome). r .place) (call-done n o Call.redo h)

@@ -14,10 +14,10 @@ use Rattle.model.specs.Cell.{cellSize, isBlock}
 use Rattle.model.specs.Orbit.{orbit}
 use Rattle.model.specs.Sheet.{sheet}
 use Rattle.model.specs.Remove.{countMarked}
-use Rattle.model.specs.Journal.{end, changesFrom, changesAt, readChanges, put, sound, unbroken}
+use Rattle.model.specs.Journal.{end, changesFrom, recordLength, changesAt, readChanges, put, sound, unbroken}
 use Rattle.model.specs.Checks.{stepChecks, undoOk, redoOk}
 use Rattle.model.specs.Calls.{Outcome}
-use Rattle.model.specs.Runs.{Call, doCall, Op, callOf, effect}
+use Rattle.model.specs.Runs.{Op, Call, doCall, effect}
 use Rattle.model.specs.Meaning.Ends.{Passed, done, CountsChanges, checksOf, doneOf}
 use Rattle.model.proofs.Lists.Scan.{and-l, and-r}
 use Rattle.model.proofs.Sets.Sizes.{length-ones}
@@ -34,30 +34,31 @@ pub effect-changes-some : (n : ℕ) (t m j : List ℕ) (p : Op) → Passed n t m
 effect-changes-some n t m j p passed = changes-some t (effect n t p) (sym (effect-length n t p)) (op-changes n t m j p passed)
 
 module _ (n : ℕ) (o : Outcome) where
-  pub op-changes-some : (p : Op) → doCall n o (callOf p) .number ≡ 0
-      → 0 < length (changesFrom 0 (o .table) (doCall n o (callOf p) .table))
-  op-changes-some p h =
-      let r = op-accepted n o p h in
+  pub op-changes-some : (tag : ℕ) (p : Op) → doCall n o (Call.op tag p) .number ≡ 0
+      → 0 < length (changesFrom 0 (o .table) (doCall n o (Call.op tag p) .table))
+  op-changes-some tag p h =
+      let r = op-accepted n o tag p h in
       rw (r .table) (effect-changes-some n (o .table) (o .marks) (o .journal) p (r .passed))
 
   abbrev Counted : Call → Type 0
   Counted c = doCall n o c .number ≡ 0 → CountsChanges (o .table) (doCall n o c .table) (doCall n o c .count)
 
-  op-counted : (p : Op) → done n o (callOf p) .count ≡ length (changesFrom 0 (o .table) (done n o (callOf p) .table))
-      → Counted (callOf p)
-  op-counted p e h =
-      let is = call-done n o (callOf p) h in
+  op-counted : (tag : ℕ) (p : Op)
+      → done n o (Call.op tag p) .count ≡ length (changesFrom 0 (o .table) (done n o (Call.op tag p) .table))
+      → Counted (Call.op tag p)
+  op-counted tag p e h =
+      let is = call-done n o (Call.op tag p) h in
       let changes : Outcome → ℕ = λ r. length (changesFrom 0 (o .table) (r .table)) in
       let size = ap (λ (r : Outcome). r .count) is ∙ e ∙ sym (ap changes is) in
-      record { size = size; some = rw size (op-changes-some p h) }
+      record { size = size; some = rw size (op-changes-some tag p h) }
 
-  pub sew-count : (i d e : ℕ) → Counted (Call.sew i d e)
-  unfolding doneOf callOf
-  sew-count i d e = op-counted (Op.sew i d e) refl
+  pub sew-count : (tag i d e : ℕ) → Counted (Call.op tag (Op.sew i d e))
+  unfolding doneOf
+  sew-count tag i d e = op-counted tag (Op.sew i d e) refl
 
-  pub unsew-count : (i d : ℕ) → Counted (Call.unsew i d)
-  unfolding doneOf callOf
-  unsew-count i d = op-counted (Op.unsew i d) refl
+  pub unsew-count : (tag i d : ℕ) → Counted (Call.op tag (Op.unsew i d))
+  unfolding doneOf
+  unsew-count tag i d = op-counted tag (Op.unsew i d) refl
 
 -- ---- undo and redo
 
@@ -75,10 +76,10 @@ module _ (redo : Bool) (t j : List ℕ) (a k : ℕ) (whole : unbroken redo t j a
   behind-2 = leb 2 a
 
   abbrev before-end : Bool
-  before-end = leb (a + (3 * k + 2)) (end j)
+  before-end = leb (a + recordLength k) (end j)
 
   abbrev counts-agree : Bool
-  counts-agree = eqb (getD j a 0) (getD j (a + (3 * k + 1)) 0)
+  counts-agree = eqb (getD j a 0) (getD j (a + (3 * k + 2)) 0)
 
   unbroken-sound : sound redo t 0 (changesAt j a k) ≡ true
   unfolding unbroken
@@ -140,19 +141,20 @@ module _ (n : ℕ) (o : Outcome) where
   sheet-count d h = ap (λ (r : Outcome). r .count) (call-done n o (Call.sheet d) h)
 
   -- "Count: 8 or 48"
-  pub add-count : doCall n o Call.add .number ≡ 0 → doCall n o Call.add .count ≡ cellSize n
+  pub add-count : (tag : ℕ) → doCall n o (Call.op tag Op.add) .number ≡ 0 → doCall n o (Call.op tag Op.add) .count ≡ cellSize n
   unfolding doneOf
-  add-count h = ap (λ (r : Outcome). r .count) (call-done n o Call.add h)
+  add-count tag h = ap (λ (r : Outcome). r .count) (call-done n o (Call.op tag Op.add) h)
 
   -- "Count: darts removed": those with marks 1 or 2
-  pub remove-count : (d : ℕ) → doCall n o (Call.remove d) .number ≡ 0
-      → doCall n o (Call.remove d) .count
-      ≡ count 1 (doCall n o (Call.remove d) .marks) + count 2 (doCall n o (Call.remove d) .marks)
+  pub remove-count : (tag d : ℕ) → doCall n o (Call.op tag (Op.remove d)) .number ≡ 0
+      → doCall n o (Call.op tag (Op.remove d)) .count
+      ≡ count 1 (doCall n o (Call.op tag (Op.remove d)) .marks) + count 2 (doCall n o (Call.op tag (Op.remove d)) .marks)
   unfolding doneOf countMarked
-  remove-count d h = rw (call-done n o (Call.remove d) h)
+  remove-count tag d h = rw (call-done n o (Call.op tag (Op.remove d)) h)
 
   -- "Count: darts added": n for each dart of S
-  pub split-count : (d : ℕ) → doCall n o (Call.split d) .number ≡ 0
-      → doCall n o (Call.split d) .count ≡ n * count 1 (sheet n (o .table) d)
+  pub split-count : (tag d : ℕ) → doCall n o (Call.op tag (Op.split d)) .number ≡ 0
+      → doCall n o (Call.op tag (Op.split d)) .count ≡ n * count 1 (sheet n (o .table) d)
   unfolding doneOf
-  split-count d h = rw (call-done n o (Call.split d) h) (ap (λ (k : ℕ). n * k) (length-ones (sheet n (o .table) d) 0))
+  split-count tag d h =
+      rw (call-done n o (Call.op tag (Op.split d)) h) (ap (λ (k : ℕ). n * k) (length-ones (sheet n (o .table) d) 0))

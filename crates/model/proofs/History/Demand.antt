@@ -1,12 +1,14 @@
 -- Demand 3. `demand-3`: after any run of calls from a map and a fresh journal, the table is what the operations that stand
--- make of the first one, and undo and redo answer accordingly.
+-- make of the first one, and undo and redo answer accordingly, with the tags of these operations.
+-- `history-called`: these are the tags that they were called with. `op-tag`: undo and redo give the tag of the last call back.
 -- `undo-newest`, `undo-everything`, `undo-run`: undoing the newest operations, or all, takes them back.
 -- `redo-after-undo`: table, journal and history come back. `refused-alike`: a refused call changes none of them.
 use Prim.Native.Nat.{ℕ, zero, suc, _+_, _%_, _≤_}
 use mathlib.Core.Path.{_≡_, refl, sym, ap, ap₂, _∙_}
-use mathlib.Core.Logic.{_≢_, _↔_}
+use mathlib.Core.Logic.{_⊎_, inl, inr, ⊎-elim, _≢_, _↔_}
 use mathlib.Core.Bool.{_||_}
-use mathlib.Core.List.{List, [], _∷_}
+use mathlib.Core.List.{List, [], _∷_, List·Memᴰ as In, List·Memᴰ·not-nil as not-nil}
+use mathlib.Core.List.{List·Memᴰ·head as here, List·Memᴰ·tail as there}
 use native.Mathlib.Omega.{arith}
 use lib.ListN.{length, drop, replicate, drop-of-length-le}
 use lib.Seq.{drop-drop}
@@ -15,9 +17,9 @@ use borrow.Author.Tests.{le-leb}
 use Rattle.model.specs.Journal.{cursor, end}
 use Rattle.model.specs.Checks.{pass, must, dimOk, tableOk}
 use Rattle.model.specs.Calls.{Outcome}
-use Rattle.model.specs.Runs.{Call, doCall, keeping, Op, replay, History, afterUndo, afterRedo, afterOp, accepted, answered}
-use Rattle.model.specs.Runs.{Step, State, answer, stepped, run, start}
-use Rattle.model.specs.Meaning.Demand.{FreshStart, calling, numberOf, Stands, Alike}
+use Rattle.model.specs.Runs.{Op, Call, doCall, keeping, Tagged, replay, History, afterUndo, afterRedo, afterOp, accepted}
+use Rattle.model.specs.Runs.{answered, Step, State, answer, stepped, run, start}
+use Rattle.model.specs.Meaning.Demand.{FreshStart, calling, numberOf, placeOf, Recalled, Called, Stands, GivesBack, Alike}
 use Rattle.model.specs.Meaning.Maps.{Dim}
 use Rattle.model.proofs.Maps.Dim.{two-cases}
 use Rattle.model.proofs.Lists.Scan.{clash}
@@ -25,23 +27,23 @@ use Rattle.model.proofs.Calls.Checks.{Says, NoRule, rule-not-0}
 use Rattle.model.proofs.Calls.Ends.{call-says, call-refused}
 use Rattle.model.proofs.Calls.Untouched.{call-untouched}
 use Rattle.model.proofs.History.Log.{journalOf, stepsTo}
-use Rattle.model.proofs.History.Invariant.{historyOf, standingWords, undoneWords, historyWords, Invariant, stepNumber}
-use Rattle.model.proofs.History.Invariant.{undo-moves, redo-undone, undo-number, redo-number}
+use Rattle.model.proofs.History.Invariant.{historyOf, standingWords, undoneWords, historyWords, Invariant, stepNumber, stepPlace}
+use Rattle.model.proofs.History.Invariant.{undo-moves, redo-undone, undo-number, redo-number, undo-place, redo-place}
 use Rattle.model.proofs.History.Invariant.{refused-history, rule-now, journal-now, call-keeps}
 
 -- ---- the number of undo and redo
 
-step-16 : (ps : List Op) → (stepNumber ps ≡ 16) ↔ (ps ≡ [])
+step-16 : (ps : List Tagged) → (stepNumber ps ≡ 16) ↔ (ps ≡ [])
 unfolding stepNumber
 step-16 [] = (λ _. refl, λ _. refl)
 step-16 (p ∷ ps) = (λ e. absurd (omega arith), λ e. absurd (let z : _≡_ {A = ℕ} 0 1 = cc in omega arith))
 
-step-0 : (ps : List Op) → ps ≢ [] → stepNumber ps ≡ 0
+step-0 : (ps : List Tagged) → ps ≢ [] → stepNumber ps ≡ 0
 unfolding stepNumber
 step-0 [] h = absurd (h refl)
 step-0 (p ∷ ps) h = refl
 
-step-17 : (ps : List Op) → stepNumber ps ≢ 17
+step-17 : (ps : List Tagged) → stepNumber ps ≢ 17
 unfolding stepNumber
 step-17 [] e = omega arith
 step-17 (p ∷ ps) e = omega arith
@@ -63,6 +65,14 @@ module _ {n : ℕ} {first : List ℕ} (s : State) (inv : InvariantAt n first s) 
   redo-gives : (m : List ℕ) → numberOf n s Call.redo m ≡ stepNumber (s .history .undone)
   unfolding numberOf answer doCall keeping
   redo-gives m = redo-number n first (s .history .standing) (s .history .undone) inv
+
+  undo-says : (m : List ℕ) → placeOf n s Call.undo m ≡ stepPlace (s .history .standing)
+  unfolding placeOf answer doCall keeping
+  undo-says m = undo-place n first (s .history .standing) (s .history .undone) inv
+
+  redo-says : (m : List ℕ) → placeOf n s Call.redo m ≡ stepPlace (s .history .undone)
+  unfolding placeOf answer doCall keeping
+  redo-says m = redo-place n first (s .history .standing) (s .history .undone) inv
 
   -- what a refusal says of the next call
   call-refusal : (c : Call) (m : List ℕ) → numberOf n s c m ≢ 0
@@ -88,13 +98,18 @@ module _ {n : ℕ} {first : List ℕ} (s : State) (inv : InvariantAt n first s) 
     redo-16 = λ m. given-16 (redo-gives m);
     undo-0 = λ m h. undo-gives m ∙ step-0 _ h;
     redo-0 = λ m h. redo-gives m ∙ step-0 _ h;
+    undo-tag = λ m p ps e. undo-says m ∙ place-of e;
+    redo-tag = λ m p ps e. redo-says m ∙ place-of e;
     undo-17 = λ m e. step-17 _ (sym (undo-gives m) ∙ e);
     redo-17 = λ m e. step-17 _ (sym (redo-gives m) ∙ e);
     never-4 = no-4;
     never-broken = no-rule;
   }
     where
-      given-16 : {k : ℕ} {ps : List Op} → k ≡ stepNumber ps → (k ≡ 16) ↔ (ps ≡ [])
+      place-of : {p : Tagged} {ps qs : List Tagged} → qs ≡ p ∷ ps → stepPlace qs ≡ p .tag
+      place-of e = unfold stepPlace in rw e
+
+      given-16 : {k : ℕ} {ps : List Tagged} → k ≡ stepNumber ps → (k ≡ 16) ↔ (ps ≡ [])
       given-16 {k} {ps} e = (λ q. step-16 ps .0 (sym e ∙ q), λ q. e ∙ step-16 ps .1 q)
 
 run-invariant : {n : ℕ} {first : List ℕ} (cs : List Step) (s : State) → InvariantAt n first s → InvariantAt n first (run n s cs)
@@ -128,7 +143,7 @@ start-invariant n t (c ∷ e ∷ rest) fresh = record {
 
 -- ---- undo again and again, and redo after undo
 
-abbrev stateOf : Outcome → List Op → List Op → State
+abbrev stateOf : Outcome → List Tagged → List Tagged → State
 stateOf o ds us = record { outcome = o; history = historyOf ds us }
 
 module _ {n : ℕ} {first : List ℕ} where
@@ -137,7 +152,7 @@ module _ {n : ℕ} {first : List ℕ} where
   unfolding stepped stepNumber answered accepted afterUndo numberOf
   undo-standing m s inv = go (s .history .standing) (s .history .undone) (undo-gives s inv m)
     where
-      go : {k : ℕ} (ds us : List Op) → k ≡ stepNumber ds → answered k Call.undo (historyOf ds us) .standing ≡ drop 1 ds
+      go : {k : ℕ} (ds us : List Tagged) → k ≡ stepNumber ds → answered k Call.undo (historyOf ds us) .standing ≡ drop 1 ds
       go [] us e = rw e
       go (p ∷ ds) us e = rw e
 
@@ -151,7 +166,7 @@ module _ {n : ℕ} {first : List ℕ} where
       ∙ ap (drop k) (undo-standing m s inv) ∙ drop-drop k 1 (s .history .standing)
       ∙ ap (λ (i : ℕ). drop i (s .history .standing)) one
 
-  undo-redo : (o : Outcome) (ds us : List Op) (m m′ : List ℕ) → InvariantAt n first (stateOf o ds us)
+  undo-redo : (o : Outcome) (ds us : List Tagged) (m m′ : List ℕ) → InvariantAt n first (stateOf o ds us)
       → numberOf n (stateOf o ds us) Call.undo m ≡ 0
       → Alike (run n (stateOf o ds us) (calling Call.undo m ∷ calling Call.redo m′ ∷ [])) (stateOf o ds us)
   unfolding stepNumber run stepped answer doCall keeping stepsTo answered accepted afterUndo afterRedo replay
@@ -160,6 +175,35 @@ module _ {n : ℕ} {first : List ℕ} where
       rw (undo-moves n first p ds us inv, redo-undone n first p ds us inv)
       (record { table = sym (inv .table); journal = sym (inv .journal); history = refl })
 
+-- ---- the tag of an operation that was accepted just now
+
+op-history : (n : ℕ) (s : State) (tag : ℕ) (p : Op) (m : List ℕ) → numberOf n s (Call.op tag p) m ≡ 0
+    → stepped n s (calling (Call.op tag p) m) .history ≡ afterOp (record { tag = tag; op = p }) (s .history)
+unfolding numberOf stepped answered accepted
+op-history n s tag p m h = rw h
+
+undo-history : (n : ℕ) (s : State) (p : Tagged) (ds us : List Tagged) (m : List ℕ) → s .history ≡ historyOf (p ∷ ds) us
+    → numberOf n s Call.undo m ≡ 0 → stepped n s (calling Call.undo m) .history ≡ historyOf ds (p ∷ us)
+unfolding numberOf stepped answered accepted afterUndo
+undo-history n s p ds us m e h = rw (h, e)
+
+gives-back : {n : ℕ} {first : List ℕ} (s : State) → InvariantAt n first s → (p : Tagged) (ds us : List Tagged)
+    → s .history ≡ historyOf (p ∷ ds) us → GivesBack n s (p .tag)
+unfolding stepNumber stepPlace
+gives-back {n} s inv p ds us e =
+    let undo-0 : (m : List ℕ) → numberOf n s Call.undo m ≡ 0
+    = λ m. undo-gives s inv m ∙ ap (λ (h : History). stepNumber (h .standing)) e in
+    let next : (m : List ℕ) → stepped n s (calling Call.undo m) .history ≡ historyOf ds (p ∷ us)
+    = λ m. undo-history n s p ds us m e (undo-0 m) in
+    record {
+      undo-0 = undo-0;
+      undo-tag = λ m. undo-says s inv m ∙ ap (λ (h : History). stepPlace (h .standing)) e;
+      redo-0 = λ m m′.
+          redo-gives _ (step-invariant s inv (calling Call.undo m)) m′ ∙ ap (λ (h : History). stepNumber (h .undone)) (next m);
+      redo-tag = λ m m′.
+          redo-says _ (step-invariant s inv (calling Call.undo m)) m′ ∙ ap (λ (h : History). stepPlace (h .undone)) (next m);
+    }
+
 -- a call adds at most one operation to those that stand
 history-grows : (k : ℕ) (c : Call) (h : History) → length (answered k c h .standing) ≤ suc (length (h .standing))
 unfolding answered accepted afterOp
@@ -167,19 +211,15 @@ history-grows (suc k) c h = omega arith
 history-grows zero Call.check h = omega arith
 history-grows zero (Call.orbit mask d) h = omega arith
 history-grows zero (Call.sheet d) h = omega arith
-history-grows zero Call.add h = omega arith
-history-grows zero (Call.sew i d e) h = omega arith
-history-grows zero (Call.unsew i d) h = omega arith
-history-grows zero (Call.remove d) h = omega arith
-history-grows zero (Call.split d) h = omega arith
+history-grows zero (Call.op tag p) h = omega arith
 history-grows zero Call.undo h = go (h .standing) (h .undone)
   where
-    go : (ds us : List Op) → length (afterUndo ds us .standing) ≤ suc (length ds)
+    go : (ds us : List Tagged) → length (afterUndo ds us .standing) ≤ suc (length ds)
     go [] us = unfold afterUndo in omega arith
     go (p ∷ ds) us = unfold afterUndo in omega arith
 history-grows zero Call.redo h = go (h .standing) (h .undone)
   where
-    go : (ds us : List Op) → length (afterRedo ds us .standing) ≤ suc (length ds)
+    go : (ds us : List Tagged) → length (afterRedo ds us .standing) ≤ suc (length ds)
     go ds [] = unfold afterRedo in omega arith
     go ds (p ∷ us) = unfold afterRedo in omega arith
 
@@ -191,6 +231,47 @@ run-grows n (c ∷ cs) s =
     let a = run-grows n cs (stepped n s c) in
     let b = history-grows (answer n s c .number) (c .call) (s .history) in
     omega arith
+
+-- ---- the operations of the history are those that were called
+
+undo-from : (p : Tagged) (ds us : List Tagged) → Recalled p (afterUndo ds us) → Recalled p (historyOf ds us)
+unfolding afterUndo
+undo-from p [] us r = r
+undo-from p (q ∷ ds) us (inl i) = inl (there i)
+undo-from p (q ∷ ds) us (inr (here e)) = inl (here e)
+undo-from p (q ∷ ds) us (inr (there i)) = inr i
+
+redo-from : (p : Tagged) (ds us : List Tagged) → Recalled p (afterRedo ds us) → Recalled p (historyOf ds us)
+unfolding afterRedo
+redo-from p ds [] r = r
+redo-from p ds (q ∷ us) (inl (here e)) = inr (here e)
+redo-from p ds (q ∷ us) (inl (there i)) = inl i
+redo-from p ds (q ∷ us) (inr i) = inr (there i)
+
+-- a call leaves those that there were, and adds itself where it is an operation that is accepted
+abbrev CalledNow : ℕ → Call → Tagged → Type 0
+CalledNow k c p = (c ≡ Call.op (p .tag) (p .op)) × (k ≡ 0)
+
+history-from : (k : ℕ) (c : Call) (h : History) (p : Tagged) → Recalled p (answered k c h) → CalledNow k c p ⊎ Recalled p h
+unfolding answered accepted afterOp
+history-from (suc k) c h p r = inr r
+history-from zero Call.check h p r = inr r
+history-from zero (Call.orbit mask d) h p r = inr r
+history-from zero (Call.sheet d) h p r = inr r
+history-from zero (Call.op tag q) h p (inl (here e)) = inl (rw e, refl)
+history-from zero (Call.op tag q) h p (inl (there i)) = inr (inl i)
+history-from zero (Call.op tag q) h p (inr i) = absurd (not-nil i)
+history-from zero Call.undo h p r = inr (undo-from p (h .standing) (h .undone) r)
+history-from zero Call.redo h p r = inr (redo-from p (h .standing) (h .undone) r)
+
+run-called : (n : ℕ) (cs : List Step) (s : State) (p : Tagged) → Recalled p (run n s cs .history)
+    → Called n s cs p ⊎ Recalled p (s .history)
+unfolding run stepped
+run-called n [] s p r = inr r
+run-called n (c ∷ cs) s p r =
+    ⊎-elim (λ later. inl (inr later))
+    (λ i. ⊎-elim (λ now. inl (inl now)) (λ before. inr before) (history-from (answer n s c .number) (c .call) (s .history) p i))
+    (run-called n cs (stepped n s c) p r)
 
 -- ---- demand 3
 
@@ -211,6 +292,20 @@ module _ (n : ℕ) (t j : List ℕ) (fresh : FreshStart n t j) (cs : List Step) 
 
   pub demand-3 : Stands n t reached
   demand-3 = invariant-stands reached reached-invariant
+
+  -- what stands or was undone was called in the run with the tag that it has
+  pub history-called : (p : Tagged) → Recalled p (reached .history) → Called n (start t j) cs p
+  unfolding start
+  history-called p r =
+      ⊎-elim (λ called. called) (λ none. absurd (⊎-elim not-nil not-nil none)) (run-called n cs (start t j) p r)
+
+  -- an operation that is accepted has its tag given back, by undo and then by redo
+  pub op-tag : (tag : ℕ) (p : Op) (m : List ℕ) → numberOf n reached (Call.op tag p) m ≡ 0
+      → GivesBack n (stepped n reached (calling (Call.op tag p) m)) tag
+  unfolding afterOp
+  op-tag tag p m h =
+      let inv = step-invariant reached reached-invariant (calling (Call.op tag p) m) in
+      gives-back _ inv (record { tag = tag; op = p }) (reached .history .standing) [] (op-history n reached tag p m h)
 
   -- k undos take the k newest operations back ..
   pub undo-newest : (m : List ℕ) (k : ℕ)

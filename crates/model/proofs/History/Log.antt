@@ -12,7 +12,8 @@ use lib.Seq.{getD-at, getD-append-seam, getD-append-add, take-append-seam, drop-
 use lib.Dec.{eqb}
 use borrow.Author.Tests.{eq-eqb, ne-eqb, le-leb}
 use Rattle.model.specs.Map.{links-live, links-return, pairs-commute, stays-flat, isMap}
-use Rattle.model.specs.Journal.{Change, triples, readChanges, changesAt, recordOf, written, cursor, end, put, sound, unbroken}
+use Rattle.model.specs.Journal.{Change, triples, readChanges, changesAt, tagAt, recordOf, recordLength, written, cursor, end, put, sound}
+use Rattle.model.specs.Journal.{unbroken}
 use Rattle.model.specs.Checks.{Check, pass, refuse, andThen, must, inOrder, dimOk, tableOk, journalOk, mapChecks}
 use Rattle.model.specs.Checks.{undoOk, redoOk, stepChecks}
 use Rattle.model.specs.Calls.{Outcome, stepOutcome, undoCall, redoCall, refused}
@@ -60,9 +61,9 @@ module _ (standing undone rest : List ℕ) where
 
 -- ---- a record among other words, behind a cursor and an end
 
-module _ (first second : ℕ) (before : List ℕ) (cs : List Change) (behind : List ℕ) where
+module _ (first second : ℕ) (before : List ℕ) (tag : ℕ) (cs : List Change) (behind : List ℕ) where
   abbrev journal-words : List ℕ
-  journal-words = first ∷ second ∷ (before ++ (recordOf cs ++ behind))
+  journal-words = first ∷ second ∷ (before ++ (recordOf tag cs ++ behind))
 
   abbrev record-start : ℕ
   record-start = suc (suc (length before))
@@ -71,30 +72,36 @@ module _ (first second : ℕ) (before : List ℕ) (cs : List Change) (behind : L
   unfolding recordOf
   first-count = getD-append-seam before (length cs) _ 0
 
-  last-count : (x : ℕ) → x ≡ record-start + (3 * length cs + 1) → getD journal-words x 0 ≡ length cs
+  last-count : (x : ℕ) → x ≡ record-start + (3 * length cs + 2) → getD journal-words x 0 ≡ length cs
   unfolding recordOf
   last-count x h =
       let l = length-triples cs in
-      let q : x ≡ suc (suc (length before + suc (3 * length cs))) = omega arith in
-      ap (λ (k : ℕ). getD journal-words k 0) q ∙ getD-append-add before (recordOf cs ++ behind) (suc (3 * length cs)) 0
+      let q : x ≡ suc (suc (length before + suc (suc (3 * length cs)))) = omega arith in
+      ap (λ (k : ℕ). getD journal-words k 0) q ∙ getD-append-add before (recordOf tag cs ++ behind) (suc (suc (3 * length cs))) 0
       ∙ ap (λ (l : List ℕ). getD l (3 * length cs) 0) (append-assoc (triples cs) (length cs ∷ []) behind)
       ∙ getD-at (triples cs) (length cs) behind 0 (3 * length cs) l
 
   record-read : changesAt journal-words record-start (length cs) ≡ cs
   unfolding recordOf changesAt
   record-read =
-      let q : suc (length before) ≡ length before + 1 = omega arith in
-      let from-count = ap (λ (k : ℕ). drop k (before ++ (recordOf cs ++ behind))) q in
-      let from-triples = drop-append-add before (recordOf cs ++ behind) 1 ∙ append-assoc (triples cs) (length cs ∷ []) behind in
+      let q : record-start + 2 ≡ suc (suc (length before + 2)) = omega arith in
+      let from-count = ap (λ (k : ℕ). drop k journal-words) q in
+      let from-triples = drop-append-add before (recordOf tag cs ++ behind) 2 ∙ append-assoc (triples cs) (length cs ∷ []) behind in
       ap (readChanges (length cs)) (from-count ∙ from-triples) ∙ read-triples cs _
 
-  record-unbroken : (redo : Bool) (t : List ℕ) → 0 < length cs → record-start + (3 * length cs + 2) ≤ second
+  record-tag : tagAt journal-words record-start ≡ tag
+  unfolding recordOf tagAt
+  record-tag =
+      let q : record-start + 1 ≡ suc (suc (length before + 1)) = omega arith in
+      ap (λ (k : ℕ). getD journal-words k 0) q ∙ getD-append-add before (recordOf tag cs ++ behind) 1 0
+
+  record-unbroken : (redo : Bool) (t : List ℕ) → 0 < length cs → record-start + recordLength (length cs) ≤ second
       → sound redo t 0 cs ≡ true → unbroken redo t journal-words record-start (length cs) ≡ true
   unfolding end unbroken
   record-unbroken redo t some fits s =
       let not-0 = ap not (ne-eqb (length cs) 0 (λ q. omega arith)) in
       let behind-2 = le-leb 2 record-start (omega arith) in
-      let within = le-leb (record-start + (3 * length cs + 2)) second fits in
+      let within = le-leb (record-start + recordLength (length cs)) second fits in
       let counts = eq-eqb _ _ (first-count ∙ sym (last-count _ refl)) in
       and-i (and-i (and-i (and-i not-0 behind-2) within) counts) (ap (sound redo t 0) record-read ∙ s)
 
@@ -135,83 +142,84 @@ pub record StepMakes (redo : Bool) (n : ℕ) (t u : List ℕ) (cs : List Change)
   pub puts : put redo cs t ≡ u
   pub map : isMap n u ≡ true
 
--- an undo or a redo that is accepted
-unfoldable pub stepsTo : ℕ → List ℕ → List ℕ → Outcome
-stepsTo k u j = record { number = 0; place = 0; count = k; table = u; marks = []; journal = j }
+-- an undo or a redo that is accepted: the tag of its record is the place
+unfoldable pub stepsTo : ℕ → ℕ → List ℕ → List ℕ → Outcome
+stepsTo tag k u j = record { number = 0; place = tag; count = k; table = u; marks = []; journal = j }
 
 -- the journal with the cursor behind a record, and before it: they differ in the first word
-module _ (standing undone rest : List ℕ) (cs : List Change) where
+module _ (standing undone rest : List ℕ) (tag : ℕ) (cs : List Change) where
   abbrev cursor-behind : ℕ
-  cursor-behind = suc (suc (length standing + length (recordOf cs)))
+  cursor-behind = suc (suc (length standing + length (recordOf tag cs)))
 
   abbrev cursor-before : ℕ
   cursor-before = suc (suc (length standing))
 
   abbrev end-word : ℕ
-  end-word = suc (suc (length standing + length (recordOf cs) + length undone))
+  end-word = suc (suc (length standing + length (recordOf tag cs) + length undone))
 
   abbrev journal-at : ℕ → List ℕ
-  journal-at c = journal-words c end-word standing cs (undone ++ rest)
+  journal-at c = journal-words c end-word standing tag cs (undone ++ rest)
 
-  journal-behind : journalOf (standing ++ recordOf cs) undone rest ≡ journal-at cursor-behind
+  journal-behind : journalOf (standing ++ recordOf tag cs) undone rest ≡ journal-at cursor-behind
   unfolding journalOf
-  journal-behind = rw (append-assoc standing (recordOf cs) (undone ++ rest), length-append standing (recordOf cs))
+  journal-behind = rw (append-assoc standing (recordOf tag cs) (undone ++ rest), length-append standing (recordOf tag cs))
 
-  journal-before : journalOf standing (recordOf cs ++ undone) rest ≡ journal-at cursor-before
+  journal-before : journalOf standing (recordOf tag cs ++ undone) rest ≡ journal-at cursor-before
   unfolding journalOf
   journal-before =
-      let r = length (recordOf cs) in
+      let r = length (recordOf tag cs) in
       let q : length standing + (r + length undone) ≡ length standing + r + length undone = omega arith in
-      rw (append-assoc (recordOf cs) undone rest, length-append (recordOf cs) undone, q)
+      rw (append-assoc (recordOf tag cs) undone rest, length-append (recordOf tag cs) undone, q)
 
-  pub journal-same : length (journalOf standing (recordOf cs ++ undone) rest)
-      ≡ length (journalOf (standing ++ recordOf cs) undone rest)
+  pub journal-same : length (journalOf standing (recordOf tag cs ++ undone) rest)
+      ≡ length (journalOf (standing ++ recordOf tag cs) undone rest)
   journal-same = ap length journal-before ∙ sym (ap length journal-behind)
 
   step-from : {redo : Bool} {n : ℕ} {t u : List ℕ} → StepMakes redo n t u cs → (from to : ℕ)
-      → stepOutcome redo n t (journal-at from) cursor-before (length cs) to ≡ stepsTo (length cs) u (journal-at to)
+      → stepOutcome redo n t (journal-at from) cursor-before (length cs) to ≡ stepsTo tag (length cs) u (journal-at to)
   unfolding stepOutcome stepsTo
   step-from {redo} {n} {t} leads from to =
-      let l = length-record cs in
-      let changes = record-read from end-word standing cs (undone ++ rest) in
+      let l = length-record tag cs in
+      let changes = record-read from end-word standing tag cs (undone ++ rest) in
       let result = ap (λ (ds : List Change). put redo ds t) changes ∙ leads .puts in
-      let whole = record-unbroken from end-word standing cs (undone ++ rest) redo t (leads .some) (omega arith) (leads .sound) in
-      rw (whole, ap (isMap n) result ∙ leads .map, stepOutcome) (rw result)
+      let whole = record-unbroken from end-word standing tag cs (undone ++ rest) redo t (leads .some) (omega arith) (leads .sound) in
+      rw (whole, ap (isMap n) result ∙ leads .map, stepOutcome)
+      (rw (result, record-tag from end-word standing tag cs (undone ++ rest)))
 
   undo-at : {n : ℕ} {t u : List ℕ} → StepMakes false n t u cs → journalOk (journal-at cursor-behind) ≡ pass
-      → undoCall n t (journal-at cursor-behind) ≡ stepsTo (length cs) u (journal-at cursor-before)
+      → undoCall n t (journal-at cursor-behind) ≡ stepsTo tag (length cs) u (journal-at cursor-before)
   unfolding undoCall undoOk cursor
   undo-at leads ok =
-      let l = length-record cs in
-      let back : cursor-behind - (3 * length cs + 2) ≡ cursor-before = omega arith in
+      let l = length-record tag cs in
+      let back : cursor-behind - recordLength (length cs) ≡ cursor-before = omega arith in
       let passes = step-checks _ _ (leads .rule) ok ∙ not-equal-ok cursor-behind 2 (λ q. omega arith) in
-      let counted = last-count cursor-behind end-word standing cs (undone ++ rest) (cursor-behind - 1) (omega arith) in
+      let counted = last-count cursor-behind end-word standing tag cs (undone ++ rest) (cursor-behind - 1) (omega arith) in
       rw (passes, undoCall, counted, back) (step-from leads cursor-behind cursor-before)
 
   redo-at : {n : ℕ} {t u : List ℕ} → StepMakes true n t u cs → journalOk (journal-at cursor-before) ≡ pass
-      → redoCall n t (journal-at cursor-before) ≡ stepsTo (length cs) u (journal-at cursor-behind)
+      → redoCall n t (journal-at cursor-before) ≡ stepsTo tag (length cs) u (journal-at cursor-behind)
   unfolding redoCall redoOk cursor end
   redo-at leads ok =
-      let l = length-record cs in
-      let on : cursor-before + (3 * length cs + 2) ≡ cursor-behind = omega arith in
+      let l = length-record tag cs in
+      let on : cursor-before + recordLength (length cs) ≡ cursor-behind = omega arith in
       let passes = step-checks _ _ (leads .rule) ok ∙ not-equal-ok cursor-before end-word (λ q. omega arith) in
-      rw (passes, redoCall, first-count cursor-before end-word standing cs (undone ++ rest), on)
+      rw (passes, redoCall, first-count cursor-before end-word standing tag cs (undone ++ rest), on)
       (step-from leads cursor-before cursor-behind)
 
   pub undo-steps : {n : ℕ} {t u : List ℕ} → StepMakes false n t u cs
-      → length (journalOf (standing ++ recordOf cs) undone rest) ≤ 1048576
-      → undoCall n t (journalOf (standing ++ recordOf cs) undone rest)
-      ≡ stepsTo (length cs) u (journalOf standing (recordOf cs ++ undone) rest)
+      → length (journalOf (standing ++ recordOf tag cs) undone rest) ≤ 1048576
+      → undoCall n t (journalOf (standing ++ recordOf tag cs) undone rest)
+      ≡ stepsTo tag (length cs) u (journalOf standing (recordOf tag cs ++ undone) rest)
   undo-steps leads few =
-      let ok = rw journal-behind at (journal-ok (standing ++ recordOf cs) undone rest few) in
+      let ok = rw journal-behind at (journal-ok (standing ++ recordOf tag cs) undone rest few) in
       rw (journal-behind, journal-before) (undo-at leads ok)
 
   pub redo-steps : {n : ℕ} {t u : List ℕ} → StepMakes true n t u cs
-      → length (journalOf standing (recordOf cs ++ undone) rest) ≤ 1048576
-      → redoCall n t (journalOf standing (recordOf cs ++ undone) rest)
-      ≡ stepsTo (length cs) u (journalOf (standing ++ recordOf cs) undone rest)
+      → length (journalOf standing (recordOf tag cs ++ undone) rest) ≤ 1048576
+      → redoCall n t (journalOf standing (recordOf tag cs ++ undone) rest)
+      ≡ stepsTo tag (length cs) u (journalOf (standing ++ recordOf tag cs) undone rest)
   redo-steps leads few =
-      let ok = rw journal-before at (journal-ok standing (recordOf cs ++ undone) rest few) in
+      let ok = rw journal-before at (journal-ok standing (recordOf tag cs ++ undone) rest few) in
       rw (journal-behind, journal-before) (redo-at leads ok)
 
 module _ {n : ℕ} {t : List ℕ} (rule : InRule n t) where

@@ -19,7 +19,7 @@ use Rattle.model.specs.Sew.{side, partners, sewn, sewTable, unsewn, unse
 use Rattle.model.specs.Remove.{removed, removeTable}
 use Rattle.model.specs.Split.{halved, splitTable}
 use Rattle.model.specs.Calls.{Outcome}
-use Rattle.model.specs.Runs.{doCall, keeping, Op, callOf, effect}
+use Rattle.model.specs.Runs.{Op, Call, doCall, keeping, effect}
 use Rattle.model.specs.Meaning.Ends.{Passed}
 use Rattle.model.specs.Meaning.Maps.{Dim}
 use Rattle.model.specs.Meaning.Sets.{Marked}
@@ -120,10 +120,11 @@ op-changes n t m j (Op.split d) a =
 
 -- ---- an accepted operation leaves a map
 
-pub op-map : (n : ℕ) (o : Outcome) (p : Op) → doCall n o (callOf p) .number ≡ 0 → isMap n (doCall n o (callOf p) .table) ≡ true
-unfolding doCall callOf keeping
-op-map n o Op.add h = add-call n (o .table) (o .journal) h .0
-op-map n o (Op.sew i d e) h = sew-call n (o .table) (o .journal) i d e h .0
-op-map n o (Op.unsew i d) h = unsew-call n (o .table) (o .journal) i d h .0
-op-map n o (Op.remove d) h = remove-call n (o .table) (o .marks) (o .journal) d h .0
-op-map n o (Op.split d) h = split-call n (o .table) (o .marks) (o .journal) d h .0
+pub op-map : (n : ℕ) (o : Outcome) (tag : ℕ) (p : Op) → doCall n o (Call.op tag p) .number ≡ 0
+    → isMap n (doCall n o (Call.op tag p) .table) ≡ true
+unfolding doCall keeping
+op-map n o tag Op.add h = add-call n (o .table) (o .journal) tag h .0
+op-map n o tag (Op.sew i d e) h = sew-call n (o .table) (o .journal) tag i d e h .0
+op-map n o tag (Op.unsew i d) h = unsew-call n (o .table) (o .journal) tag i d h .0
+op-map n o tag (Op.remove d) h = remove-call n (o .table) (o .marks) (o .journal) tag d h .0
+op-map n o tag (Op.split d) h = split-call n (o .table) (o .marks) (o .journal) tag d h .0

@@ -11,7 +11,7 @@ use lib.ListN.{length, set, length-append}
 use lib.Seq.{set-at}
 use lib.Dec.{eqb}
 use borrow.Author.Tests.{eqb-true, eqb-false, eq-eqb, ne-eqb}
-use Rattle.model.specs.Journal.{Change, changesFrom, putNew, putOld, triples, readChanges, recordOf}
+use Rattle.model.specs.Journal.{Change, changesFrom, putNew, putOld, triples, readChanges, recordOf, recordLength}
 use Rattle.model.proofs.Lists.Scan.{bool-cases, test}
 
 module _ (e x y : ℕ) (xs ys : List ℕ) where
@@ -92,9 +92,9 @@ unfolding triples
 length-triples [] = refl
 length-triples (c ∷ cs) = let h = length-triples cs in omega arith
 
-pub length-record : (cs : List Change) → length (recordOf cs) ≡ 3 * length cs + 2
+pub length-record : (tag : ℕ) (cs : List Change) → length (recordOf tag cs) ≡ recordLength (length cs)
 unfolding recordOf
-length-record cs =
+length-record tag cs =
     let h = length-triples cs in
     let a = length-append (triples cs) (length cs ∷ []) in
     omega arith

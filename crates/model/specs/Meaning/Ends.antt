@@ -16,13 +16,13 @@ use Rattle.model.specs.Add.{addSlots, addTable}
 use Rattle.model.specs.Sew.{sewTable, unsewTable}
 use Rattle.model.specs.Remove.{countMarked, removeTable}
 use Rattle.model.specs.Split.{splitSlots, splitTable}
-use Rattle.model.specs.Journal.{cursor, end, changesFrom, recordOf, written, changesAt, put, unbroken}
+use Rattle.model.specs.Journal.{cursor, end, changesFrom, recordOf, recordLength, written, changesAt, tagAt, put, unbroken}
 use Rattle.model.specs.Checks.{Check, pass, refuse, must, inOrder}
 use Rattle.model.specs.Checks.{dimOk, tableOk, marksOk, journalOk, pairingOk, undoOk, redoOk}
 use Rattle.model.specs.Checks.{checkChecks, orbitChecks, sheetChecks}
 use Rattle.model.specs.Checks.{addChecks, sidesChecks, sewChecks, unsewChecks, layerChecks, splitChecks, stepChecks}
 use Rattle.model.specs.Calls.{Outcome, refused}
-use Rattle.model.specs.Runs.{Call, doCall, Op, effect}
+use Rattle.model.specs.Runs.{Op, Call, doCall, effect}
 use Rattle.model.specs.Meaning.Maps.{byRule}
 use Rattle.model.specs.Meaning.Sizes.{member}
 
@@ -33,8 +33,8 @@ lent t m j = record { number = 0; place = 0; count = 0; table = t; marks = m; jo
 -- ---- the checks of a call, with 15 and 17
 
 -- 15: "record longer than the words from cursor to length", where u is the new table
-unfoldable pub recordOk : List ℕ → List ℕ → List ℕ → Check
-recordOk t u j = must (leb (length (recordOf (changesFrom 0 t u))) (length j - cursor j)) 15
+unfoldable pub recordOk : ℕ → List ℕ → List ℕ → List ℕ → Check
+recordOk tag t u j = must (leb (length (recordOf tag (changesFrom 0 t u))) (length j - cursor j)) 15
 
 -- 17: "record broken, or result no map", of the record of k changes at the word a
 unfoldable pub stepOk : Bool → ℕ → List ℕ → List ℕ → ℕ → ℕ → Check
@@ -45,7 +45,7 @@ abbrev pub undoCount : List ℕ → ℕ
 undoCount j = getD j (cursor j - 1) 0
 
 abbrev pub undoStart : List ℕ → ℕ
-undoStart j = cursor j - (3 * undoCount j + 2)
+undoStart j = cursor j - recordLength (undoCount j)
 
 -- the record at the cursor: its number of changes
 abbrev pub redoCount : List ℕ → ℕ
@@ -56,14 +56,14 @@ unfoldable pub checksOf : ℕ → List ℕ → List ℕ → List ℕ → Call �
 checksOf n t m j Call.check = checkChecks n t
 checksOf n t m j (Call.orbit mask d) = orbitChecks n t m mask d
 checksOf n t m j (Call.sheet d) = sheetChecks n t m d
-checksOf n t m j Call.add = addChecks n t j ++ (recordOk t (addTable n t) j ∷ [])
-checksOf n t m j (Call.sew i d e) =
-    sidesChecks n t j i d e ++ (pairingOk n t i d e ∷ recordOk t (sewTable n t i d e) j ∷ [])
-checksOf n t m j (Call.unsew i d) = unsewChecks n t j i d ++ (recordOk t (unsewTable n t i d) j ∷ [])
-checksOf n t m j (Call.remove d) = layerChecks n t m j d ++ (recordOk t (removeTable n t d) j ∷ [])
-checksOf n t m j (Call.split d) =
+checksOf n t m j (Call.op tag Op.add) = addChecks n t j ++ (recordOk tag t (addTable n t) j ∷ [])
+checksOf n t m j (Call.op tag (Op.sew i d e)) =
+    sidesChecks n t j i d e ++ (pairingOk n t i d e ∷ recordOk tag t (sewTable n t i d e) j ∷ [])
+checksOf n t m j (Call.op tag (Op.unsew i d)) = unsewChecks n t j i d ++ (recordOk tag t (unsewTable n t i d) j ∷ [])
+checksOf n t m j (Call.op tag (Op.remove d)) = layerChecks n t m j d ++ (recordOk tag t (removeTable n t d) j ∷ [])
+checksOf n t m j (Call.op tag (Op.split d)) =
     let s = sheet n t d in
-    layerChecks n t m j d ++ (splitChecks n t s (ones s) ++ (recordOk t (splitTable n t d) j ∷ []))
+    layerChecks n t m j d ++ (splitChecks n t s (ones s) ++ (recordOk tag t (splitTable n t d) j ∷ []))
 checksOf n t m j Call.undo = stepChecks n t j (undoOk j) ++ (stepOk false n t j (undoStart j) (undoCount j) ∷ [])
 checksOf n t m j Call.redo = stepChecks n t j (redoOk j) ++ (stepOk true n t j (cursor j) (redoCount j) ∷ [])
 
@@ -75,24 +75,27 @@ abbrev pub firstChecks : ℕ → Outcome → Call → List Check
 firstChecks n o Call.check = dimOk n ∷ tableOk (o .table) ∷ []
 firstChecks n o (Call.orbit mask d) = dimOk n ∷ tableOk (o .table) ∷ marksOk (o .table) (o .marks) ∷ []
 firstChecks n o (Call.sheet d) = dimOk n ∷ tableOk (o .table) ∷ marksOk (o .table) (o .marks) ∷ []
-firstChecks n o Call.add = dimOk n ∷ tableOk (o .table) ∷ journalOk (o .journal) ∷ []
-firstChecks n o (Call.sew i d e) = dimOk n ∷ tableOk (o .table) ∷ journalOk (o .journal) ∷ []
-firstChecks n o (Call.unsew i d) = dimOk n ∷ tableOk (o .table) ∷ journalOk (o .journal) ∷ []
-firstChecks n o (Call.remove d) = dimOk n ∷ tableOk (o .table) ∷ marksOk (o .table) (o .marks) ∷ journalOk (o .journal) ∷ []
-firstChecks n o (Call.split d) = dimOk n ∷ tableOk (o .table) ∷ marksOk (o .table) (o .marks) ∷ journalOk (o .journal) ∷ []
+firstChecks n o (Call.op tag Op.add) = dimOk n ∷ tableOk (o .table) ∷ journalOk (o .journal) ∷ []
+firstChecks n o (Call.op tag (Op.sew i d e)) = dimOk n ∷ tableOk (o .table) ∷ journalOk (o .journal) ∷ []
+firstChecks n o (Call.op tag (Op.unsew i d)) = dimOk n ∷ tableOk (o .table) ∷ journalOk (o .journal) ∷ []
+firstChecks n o (Call.op tag (Op.remove d)) = dimOk n ∷ tableOk (o .table) ∷ marksOk (o .table) (o .marks) ∷ journalOk (o .journal) ∷ []
+firstChecks n o (Call.op tag (Op.split d)) = dimOk n ∷ tableOk (o .table) ∷ marksOk (o .table) (o .marks) ∷ journalOk (o .journal) ∷ []
 firstChecks n o Call.undo = dimOk n ∷ tableOk (o .table) ∷ journalOk (o .journal) ∷ []
 firstChecks n o Call.redo = dimOk n ∷ tableOk (o .table) ∷ journalOk (o .journal) ∷ []
 
 -- the numbers of a call's checks: the column "Calls" of 01's table, and 02's R-3. sew has 7 twice, for d and for e
+abbrev pub opNumbers : Op → List ℕ
+opNumbers Op.add = 1 ∷ 2 ∷ 4 ∷ 5 ∷ 24 ∷ 25 ∷ 26 ∷ 14 ∷ 15 ∷ []
+opNumbers (Op.sew i d e) = 1 ∷ 2 ∷ 4 ∷ 5 ∷ 24 ∷ 25 ∷ 26 ∷ 6 ∷ 7 ∷ 7 ∷ 9 ∷ 10 ∷ 12 ∷ 15 ∷ []
+opNumbers (Op.unsew i d) = 1 ∷ 2 ∷ 4 ∷ 5 ∷ 24 ∷ 25 ∷ 26 ∷ 6 ∷ 7 ∷ 11 ∷ 15 ∷ []
+opNumbers (Op.remove d) = 1 ∷ 2 ∷ 3 ∷ 4 ∷ 5 ∷ 24 ∷ 25 ∷ 26 ∷ 7 ∷ 8 ∷ 15 ∷ []
+opNumbers (Op.split d) = 1 ∷ 2 ∷ 3 ∷ 4 ∷ 5 ∷ 24 ∷ 25 ∷ 26 ∷ 7 ∷ 8 ∷ 13 ∷ 14 ∷ 15 ∷ []
+
 abbrev pub numbers : Call → List ℕ
 numbers Call.check = 1 ∷ 2 ∷ 5 ∷ 24 ∷ 25 ∷ 26 ∷ []
 numbers (Call.orbit mask d) = 1 ∷ 2 ∷ 3 ∷ 5 ∷ 24 ∷ 25 ∷ 26 ∷ 6 ∷ 7 ∷ []
 numbers (Call.sheet d) = 1 ∷ 2 ∷ 3 ∷ 5 ∷ 24 ∷ 25 ∷ 26 ∷ 7 ∷ 8 ∷ []
-numbers Call.add = 1 ∷ 2 ∷ 4 ∷ 5 ∷ 24 ∷ 25 ∷ 26 ∷ 14 ∷ 15 ∷ []
-numbers (Call.sew i d e) = 1 ∷ 2 ∷ 4 ∷ 5 ∷ 24 ∷ 25 ∷ 26 ∷ 6 ∷ 7 ∷ 7 ∷ 9 ∷ 10 ∷ 12 ∷ 15 ∷ []
-numbers (Call.unsew i d) = 1 ∷ 2 ∷ 4 ∷ 5 ∷ 24 ∷ 25 ∷ 26 ∷ 6 ∷ 7 ∷ 11 ∷ 15 ∷ []
-numbers (Call.remove d) = 1 ∷ 2 ∷ 3 ∷ 4 ∷ 5 ∷ 24 ∷ 25 ∷ 26 ∷ 7 ∷ 8 ∷ 15 ∷ []
-numbers (Call.split d) = 1 ∷ 2 ∷ 3 ∷ 4 ∷ 5 ∷ 24 ∷ 25 ∷ 26 ∷ 7 ∷ 8 ∷ 13 ∷ 14 ∷ 15 ∷ []
+numbers (Call.op tag p) = opNumbers p
 numbers Call.undo = 1 ∷ 2 ∷ 4 ∷ 5 ∷ 24 ∷ 25 ∷ 26 ∷ 16 ∷ 17 ∷ []
 numbers Call.redo = 1 ∷ 2 ∷ 4 ∷ 5 ∷ 24 ∷ 25 ∷ 26 ∷ 16 ∷ 17 ∷ []
 
@@ -132,11 +135,11 @@ unfoldable pub refusalMarks : ℕ → Outcome → Call → ℕ → List ℕ
 refusalMarks n o Call.check k = o .marks
 refusalMarks n o (Call.orbit mask d) k = o .marks
 refusalMarks n o (Call.sheet d) k = o .marks
-refusalMarks n o Call.add k = o .marks
-refusalMarks n o (Call.sew i d e) k = o .marks
-refusalMarks n o (Call.unsew i d) k = o .marks
-refusalMarks n o (Call.remove d) k = layerMarks n o d k
-refusalMarks n o (Call.split d) k = layerMarks n o d k
+refusalMarks n o (Call.op tag Op.add) k = o .marks
+refusalMarks n o (Call.op tag (Op.sew i d e)) k = o .marks
+refusalMarks n o (Call.op tag (Op.unsew i d)) k = o .marks
+refusalMarks n o (Call.op tag (Op.remove d)) k = layerMarks n o d k
+refusalMarks n o (Call.op tag (Op.split d)) k = layerMarks n o d k
 refusalMarks n o Call.undo k = o .marks
 refusalMarks n o Call.redo k = o .marks
 
@@ -164,22 +167,22 @@ pub data Reading : Call → Type 0 where
 abbrev pub marking : List ℕ → List ℕ → ℕ → ℕ → List ℕ → Outcome
 marking t j p k m = record { number = 0; place = p; count = k; table = t; marks = m; journal = j }
 
--- an operation: the new table u, the place, the count and the marks
-abbrev pub changing : List ℕ → List ℕ → List ℕ → ℕ → ℕ → List ℕ → Outcome
-changing t j u p k m = record {
+-- an operation: its tag, the new table u, the place, the count and the marks
+abbrev pub changing : List ℕ → List ℕ → ℕ → List ℕ → ℕ → ℕ → List ℕ → Outcome
+changing t j tag u p k m = record {
   number = 0;
   place = p;
   count = k;
   table = u;
   marks = m;
-  journal = written j (recordOf (changesFrom 0 t u));
+  journal = written j (recordOf tag (changesFrom 0 t u));
 }
 
--- undo or redo of the record of k changes at the word a; the cursor goes to c
+-- undo or redo of the record of k changes at the word a, whose tag is the place; the cursor goes to c
 abbrev pub stepping : Bool → List ℕ → List ℕ → List ℕ → ℕ → ℕ → ℕ → Outcome
 stepping redo t m j a k c = record {
   number = 0;
-  place = 0;
+  place = tagAt j a;
   count = k;
   table = put redo (changesAt j a k) t;
   marks = m;
@@ -190,17 +193,17 @@ unfoldable pub doneOf : ℕ → List ℕ → List ℕ → List ℕ → Call → 
 doneOf n t m j Call.check = marking t j 0 (elim (isBlock n t) [ true ↦ 2 | false ↦ 1 ]) m
 doneOf n t m j (Call.orbit mask d) = let s = orbit n t mask d in marking t j (orbitPlace n mask) (count 1 s) s
 doneOf n t m j (Call.sheet d) = let s = sheet n t d in marking t j 0 (count 1 s) (sheetMarks n t s)
-doneOf n t m j Call.add = changing t j (addTable n t) (getD (addSlots n t) 0 0) (cellSize n) m
-doneOf n t m j (Call.sew i d e) = let u = sewTable n t i d e in changing t j u 0 (length (changesFrom 0 t u)) m
-doneOf n t m j (Call.unsew i d) = let u = unsewTable n t i d in changing t j u 0 (length (changesFrom 0 t u)) m
-doneOf n t m j (Call.remove d) =
+doneOf n t m j (Call.op tag Op.add) = changing t j tag (addTable n t) (getD (addSlots n t) 0 0) (cellSize n) m
+doneOf n t m j (Call.op tag (Op.sew i d e)) = let u = sewTable n t i d e in changing t j tag u 0 (length (changesFrom 0 t u)) m
+doneOf n t m j (Call.op tag (Op.unsew i d)) = let u = unsewTable n t i d in changing t j tag u 0 (length (changesFrom 0 t u)) m
+doneOf n t m j (Call.op tag (Op.remove d)) =
     let marks = sheetMarks n t (sheet n t d) in
-    changing t j (removeTable n t d) 0 (countMarked marks) marks
-doneOf n t m j (Call.split d) =
+    changing t j tag (removeTable n t d) 0 (countMarked marks) marks
+doneOf n t m j (Call.op tag (Op.split d)) =
     let s = sheet n t d in
-    changing t j (splitTable n t d) (getD (splitSlots n t (ones s)) 0 0) (n * length (ones s)) (sheetMarks n t s)
+    changing t j tag (splitTable n t d) (getD (splitSlots n t (ones s)) 0 0) (n * length (ones s)) (sheetMarks n t s)
 doneOf n t m j Call.undo = stepping false t m j (undoStart j) (undoCount j) (undoStart j)
-doneOf n t m j Call.redo = stepping true t m j (cursor j) (redoCount j) (cursor j + (3 * redoCount j + 2))
+doneOf n t m j Call.redo = stepping true t m j (cursor j) (redoCount j) (cursor j + recordLength (redoCount j))
 
 abbrev pub done : ℕ → Outcome → Call → Outcome
 done n o c = doneOf n (o .table) (o .marks) (o .journal) c
@@ -215,13 +218,14 @@ pub record Behind (cs : List Check) (y : Outcome) (f : ℕ → ℕ → ℕ → O
 abbrev pub Ends : ℕ → Outcome → Call → Type 0
 Ends n o c = Behind (checks n o c) (done n o c) (refusedBy n o c) (doCall n o c)
 
--- of the outcome r of an accepted operation p on o: it has passed its checks, and leaves its effect and the record of
--- the changes, for which there was room
-pub record OpAccepted (n : ℕ) (o : Outcome) (p : Op) (r : Outcome) : Type 0 where
+-- of the outcome r of an accepted operation p on o, with its tag: it has passed its checks, and leaves its effect and the
+-- record of the changes, for which there was room
+pub record OpAccepted (n : ℕ) (o : Outcome) (tag : ℕ) (p : Op) (r : Outcome) : Type 0 where
   pub passed : Passed n (o .table) (o .marks) (o .journal) p
   pub table : r .table ≡ effect n (o .table) p
-  pub journal : r .journal ≡ written (o .journal) (recordOf (changesFrom 0 (o .table) (effect n (o .table) p)))
-  pub room : length (recordOf (changesFrom 0 (o .table) (effect n (o .table) p))) ≤ length (o .journal) - cursor (o .journal)
+  pub journal : r .journal ≡ written (o .journal) (recordOf tag (changesFrom 0 (o .table) (effect n (o .table) p)))
+  pub room : length (recordOf tag (changesFrom 0 (o .table) (effect n (o .table) p)))
+      ≤ length (o .journal) - cursor (o .journal)
 
 -- "writes its record .. at the cursor; cursor and end go behind it .. Other journal words stay": of the journal j and the
 -- journal k after it, where r is the record

@@ -17,7 +17,7 @@ use Rattle.model.specs.Remove.{removeTable}
 use Rattle.model.specs.Split.{splitTable}
 use Rattle.model.specs.Journal.{cursor, end, changesFrom, recordOf, changesAt, put, unbroken}
 use Rattle.model.specs.Checks.{ruleNumber}
-use Rattle.model.specs.Runs.{Call}
+use Rattle.model.specs.Runs.{Op, Call}
 use Rattle.model.specs.Meaning.Ends.{undoCount, undoStart, redoCount}
 use Rattle.model.specs.Meaning.Maps.{Map, BreaksFirst, Block}
 use Rattle.model.specs.Meaning.Pairings.{Pairing}
@@ -105,8 +105,8 @@ abbrev pub roomRow : List ℕ → ℕ → NumberRow
 roomRow t k = record { number = 14; given = length (unusedSlots t) < k }
 
 -- "record longer than the words from cursor to length", where u is the new table
-abbrev pub recordRow : List ℕ → List ℕ → List ℕ → NumberRow
-recordRow t u j = record { number = 15; given = length j - cursor j < length (recordOf (changesFrom 0 t u)) }
+abbrev pub recordRow : ℕ → List ℕ → List ℕ → List ℕ → NumberRow
+recordRow tag t u j = record { number = 15; given = length j - cursor j < length (recordOf tag (changesFrom 0 t u)) }
 
 -- "cursor 2 (undo); cursor = end (redo)"
 abbrev pub undoRow : List ℕ → NumberRow
@@ -129,20 +129,20 @@ numberRows n t m j Call.check = dimRow n ∷ tableRow t ∷ mapRows n t
 numberRows n t m j (Call.orbit mask d) =
     dimRow n ∷ tableRow t ∷ marksRow t m ∷ (mapRows n t ++ (maskRow n mask ∷ dartRow t d ∷ []))
 numberRows n t m j (Call.sheet d) = dimRow n ∷ tableRow t ∷ marksRow t m ∷ (mapRows n t ++ (dartRow t d ∷ blockRow n t ∷ []))
-numberRows n t m j Call.add =
-    dimRow n ∷ tableRow t ∷ journalRow j ∷ (mapRows n t ++ (roomRow t (cellSize n) ∷ recordRow t (addTable n t) j ∷ []))
-numberRows n t m j (Call.sew i d e) =
+numberRows n t m j (Call.op tag Op.add) =
+    dimRow n ∷ tableRow t ∷ journalRow j ∷ (mapRows n t ++ (roomRow t (cellSize n) ∷ recordRow tag t (addTable n t) j ∷ []))
+numberRows n t m j (Call.op tag (Op.sew i d e)) =
     dimRow n ∷ tableRow t ∷ journalRow j ∷ (mapRows n t ++ (indexRow n i ∷ dartRow t d ∷ dartRow t e ∷ apartRow n t i d e
-    ∷ freeRow t i d e ∷ pairingRow n t i d e ∷ recordRow t (sewTable n t i d e) j ∷ []))
-numberRows n t m j (Call.unsew i d) =
+    ∷ freeRow t i d e ∷ pairingRow n t i d e ∷ recordRow tag t (sewTable n t i d e) j ∷ []))
+numberRows n t m j (Call.op tag (Op.unsew i d)) =
     dimRow n ∷ tableRow t ∷ journalRow j ∷ (mapRows n t ++ (indexRow n i ∷ dartRow t d ∷ sewnRow t i d
-    ∷ recordRow t (unsewTable n t i d) j ∷ []))
-numberRows n t m j (Call.remove d) =
+    ∷ recordRow tag t (unsewTable n t i d) j ∷ []))
+numberRows n t m j (Call.op tag (Op.remove d)) =
     dimRow n ∷ tableRow t ∷ marksRow t m ∷ journalRow j ∷ (mapRows n t ++ (dartRow t d ∷ blockRow n t
-    ∷ recordRow t (removeTable n t d) j ∷ []))
-numberRows n t m j (Call.split d) =
+    ∷ recordRow tag t (removeTable n t d) j ∷ []))
+numberRows n t m j (Call.op tag (Op.split d)) =
     dimRow n ∷ tableRow t ∷ marksRow t m ∷ journalRow j ∷ (mapRows n t ++ (dartRow t d ∷ blockRow n t ∷ crossingRow n t d
-    ∷ roomRow t (n * length (ones (sheet n t d))) ∷ recordRow t (splitTable n t d) j ∷ []))
+    ∷ roomRow t (n * length (ones (sheet n t d))) ∷ recordRow tag t (splitTable n t d) j ∷ []))
 numberRows n t m j Call.undo =
     dimRow n ∷ tableRow t ∷ journalRow j
     ∷ (mapRows n t ++ (undoRow j ∷ stepRow false n t j (undoStart j) (undoCount j) ∷ []))
