@@ -8,7 +8,7 @@ use native.Mathlib.Numerals.{add-one}
 use native.Mathlib.Omega.{arith}
 use lib.ListN.{length}
 use Rattle.model.specs.Table.{unused, slots, link}
-use Rattle.model.specs.Journal.{Change, cursor}
+use Rattle.model.specs.Journal.{Change, cursor, recordLength}
 use Rattle.journal.specs.Records.{changesBelow, drafted, Scanned}
 use Rattle.journal.proofs.Changes.{below-same, below-count, below-most, below-alike}
 use Rattle.journal.proofs.Drafts.{draft-keeps}
@@ -88,7 +88,7 @@ module _ (t u : List ℕ) (long : length t ≡ length u) (fits : length t ≡ 4 
 
     module _ (from : ℕ) (w₀ : List ℕ) (done : ℕ) (w : List ℕ) (wrote : Writes t u (4 * x) from w₀ (4 * x + j) done w) where
       -- what `write_entry` requires
-      pub writes-room : Writing t u (4 * x) from w₀ → old ≢ new → cursor w + (3 * done + 5) ≤ length w
+      pub writes-room : Writing t u (4 * x) from w₀ → old ≢ new → cursor w + recordLength (done + 1) ≤ length w
       unfolding link
       writes-room g h =
           scan-room t u (g .journal) long (4 * x + j) done w (omega arith) unused (wrote (g .journal) (g .scanned))

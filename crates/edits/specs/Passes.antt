@@ -5,7 +5,7 @@ use mathlib.Core.Logic.{_≢_}
 use mathlib.Core.List.{List}
 use lib.ListN.{length, getD}
 use Rattle.model.specs.Table.{unused, link}
-use Rattle.model.specs.Journal.{cursor, changesFrom}
+use Rattle.model.specs.Journal.{cursor, changesFrom, recordLength}
 use Rattle.journal.specs.Records.{changesBelow, Scanned}
 
 -- l has the links of the slot x of u, a table as long as t
@@ -25,7 +25,7 @@ Counts t u e e′ k = length (changesBelow e t u) + k ≡ length (changesBelow e
 
 -- in j the record of the changes from t to u has room
 abbrev pub Room : (t u j : List ℕ) → Type 0
-Room t u j = cursor j + (3 * length (changesFrom 0 t u) + 2) ≤ length j
+Room t u j = cursor j + recordLength (length (changesFrom 0 t u)) ≤ length j
 
 -- whatever tables have the values x and y at the entry e: the pass that has met the entries below e, and has met e then
 abbrev pub Passes : (e x y done : ℕ) (w : List ℕ) (next : ℕ) (w′ : List ℕ) → Type 0

@@ -7,7 +7,7 @@ ghost use mathlib.Core.List.{List};
 ghost use lib.ListN.{length};
 ghost use lib.Dec.{leb};
 ghost use Rattle.model.specs.Meaning.Numbers.{JournalRule};
-ghost use Rattle.model.specs.Journal.{cursor, changesFrom};
+ghost use Rattle.model.specs.Journal.{cursor, changesFrom, recordLength};
 ghost use Rattle.model.specs.Table.{slots, relinkAt};
 ghost use Rattle.model.specs.Sew.{sewnLink, unsewnLink};
 ghost use Rattle.layers.specs.Four.{four};
@@ -153,7 +153,7 @@ fn count_changes(
 
 // Writes the change of the entry e, if it is one, as the triple number `done`; the number of the next triple.
 fn write_entry(journal: &mut [u32], done: usize, e: u32, old: u32, new: u32) -> usize
-    requires { ⌜ (old ≢ new → cursor (now journal) + (3 * done + 5) ≤ length (now journal)) ⌝ }
+    requires { ⌜ (old ≢ new → cursor (now journal) + recordLength (done + 1) ≤ length (now journal)) ⌝ }
     ensures { λ r. ⌜ Passes e old new done (now (journal .entry)) r (now (journal .exit)) ⌝ }
 {
     if old == new {
@@ -302,8 +302,8 @@ fn has_room(
     requires { ⌜ Fit edit n (now table) (now marks) (now a) (now b) (now c) size ⌝ }
     requires { ⌜ (Sized (now table)) × (JournalRule (now journal)) ⌝ }
     ensures { λ r. ⌜ r ≡ leb
-        (3 * length (changesFrom 0 (now (table .entry))
-        (editTable edit n (now (table .entry)) (now (marks .entry)) (now (a .entry)) (now (b .entry)) size)) + 2)
+        (recordLength (length (changesFrom 0 (now (table .entry))
+        (editTable edit n (now (table .entry)) (now (marks .entry)) (now (a .entry)) (now (b .entry)) size))))
         (length (now (journal .entry)) - cursor (now (journal .entry))) ⌝ }
 {
     if journal::record_fits(journal, table.len() as u32) {
@@ -319,13 +319,14 @@ pub struct Committed {
     pub changes: u32,
 }
 
-// Carries out the edit: where its record fits, that is written at the cursor and its new values put into the table; where
-// not, table and journal stay.
+// Carries out the edit: where its record fits, that is written at the cursor, with the tag, and its new values put into the
+// table; where not, table and journal stay.
 pub fn commit(
     edit: Edit,
     n: u32,
     table: &mut [u32],
     journal: &mut [u32],
+    tag: u32,
     marks: &[u8],
     a: &[u32],
     b: &[u32],
@@ -336,7 +337,7 @@ pub fn commit(
     requires { ⌜ (Sized (now table)) × (JournalRule (now journal)) ⌝ }
     ensures { λ r. ⌜ Carried (now (table .entry))
         (editTable edit n (now (table .entry)) (now (marks .entry)) (now (a .entry)) (now (b .entry)) size)
-        (now (journal .entry)) (now (table .exit)) (now (journal .exit)) (r .fits) (r .changes) ⌝ }
+        (now (journal .entry)) tag (now (table .exit)) (now (journal .exit)) (r .fits) (r .changes) ⌝ }
 {
     if !has_room(edit, n, table, journal, marks, a, b, c, size) {
         return Committed {
@@ -346,7 +347,7 @@ pub fn commit(
     }
     let start = journal[0] as usize;
     let changes = write_changes(edit, n, table, journal, marks, a, b, c, size);
-    journal::close_record(journal, changes);
+    journal::close_record(journal, changes, tag);
     journal::put_record(true, table, journal, start, changes as usize);
     Committed {
         fits: true,

@@ -9,7 +9,7 @@ use native.Mathlib.Numerals.{add-one}
 use lib.ListN.{length, getD, drop}
 use lib.Dec.{leb, ltb, eqb}
 use borrow.Author.Tests.{leb-true, ltb-true, eqb-true, le-leb, lt-leb, lt-ltb, le-ltb, eq-eqb, ne-eqb}
-use Rattle.model.specs.Journal.{Change, end, readChanges, changesAt, sound, unbroken}
+use Rattle.model.specs.Journal.{Change, end, recordLength, readChanges, changesAt, sound, unbroken}
 use Rattle.model.proofs.Lists.Scan.{and-l, and-r, and-i}
 use Rattle.journal.specs.Records.{changeAt, valuePut, within}
 use Rattle.journal.proofs.Puts.{read-next}
@@ -71,20 +71,20 @@ module _ (redo : Bool) (t j : List ℕ) (a k : ℕ) where
   unfolding unbroken
   broken-low h = rw (lt-leb 2 a h, and-false)
 
-  pub broken-long : end j < a + (3 * k + 2) → unbroken redo t j a k ≡ false
+  pub broken-long : end j < a + recordLength k → unbroken redo t j a k ≡ false
   unfolding unbroken
-  broken-long h = rw (lt-leb (a + (3 * k + 2)) (end j) h, and-false)
+  broken-long h = rw (lt-leb (a + recordLength k) (end j) h, and-false)
 
-  pub broken-counts : (getD j a 0 ≡ getD j (a + (3 * k + 1)) 0 → ⊥) → unbroken redo t j a k ≡ false
+  pub broken-counts : (getD j a 0 ≡ getD j (a + (3 * k + 2)) 0 → ⊥) → unbroken redo t j a k ≡ false
   unfolding unbroken
-  broken-counts h = rw (ne-eqb (getD j a 0) (getD j (a + (3 * k + 1)) 0) h, and-false)
+  broken-counts h = rw (ne-eqb (getD j a 0) (getD j (a + (3 * k + 2)) 0) h, and-false)
 
   -- r is what the test of the changes gave
-  pub unbroken-tested : (k ≡ 0 → ⊥) → 2 ≤ a → a + (3 * k + 2) ≤ end j → getD j a 0 ≡ getD j (a + (3 * k + 1)) 0
+  pub unbroken-tested : (k ≡ 0 → ⊥) → 2 ≤ a → a + recordLength k ≤ end j → getD j a 0 ≡ getD j (a + (3 * k + 2)) 0
       → (r : Bool) → r ≡ sound redo t 0 (changesAt j a k) → r ≡ unbroken redo t j a k
   unfolding unbroken
   unbroken-tested some low fits counts r h =
-      rw (h, ne-eqb k 0 some, le-leb 2 a low, le-leb (a + (3 * k + 2)) (end j) fits, eq-eqb _ _ counts)
+      rw (h, ne-eqb k 0 some, le-leb 2 a low, le-leb (a + recordLength k) (end j) fits, eq-eqb _ _ counts)
 
 -- ---- a turn of the loop over the triples: the one at the word w, of as many as are left
 
@@ -125,15 +125,15 @@ sound-parts redo t e c cs h =
 
 -- an unbroken record ends within the words that stand, and is sound
 pub record Unbroken (redo : Bool) (t j : List ℕ) (a k : ℕ) : Type 0 where
-  pub fits : a + (3 * k + 2) ≤ end j
+  pub fits : a + recordLength k ≤ end j
   pub sounds : sound redo t 0 (changesAt j a k) ≡ true
 
 pub unbroken-parts : (redo : Bool) (t j : List ℕ) (a k : ℕ) → unbroken redo t j a k ≡ true → Unbroken redo t j a k
 unfolding unbroken
 unbroken-parts redo t j a k h =
     let placed = not (eqb k 0) && leb 2 a in
-    let fits = leb (a + (3 * k + 2)) (end j) in
-    let counts = eqb (getD j a 0) (getD j (a + (3 * k + 1)) 0) in
+    let fits = leb (a + recordLength k) (end j) in
+    let counts = eqb (getD j a 0) (getD j (a + (3 * k + 2)) 0) in
     let (tests, sounds) = both (placed && fits && counts) (sound redo t 0 (changesAt j a k)) h in
     record { fits = leb-true _ _ (and-r placed fits (and-l (placed && fits) counts tests)); sounds = sounds }
 

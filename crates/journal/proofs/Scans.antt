@@ -1,12 +1,12 @@
 -- The pass that writes a record: it begins with `scan-none`, goes over an entry by `scan-same` or, with a call of `write_change`,
 -- by `scan-more`, passes over alike entries by `scan-alike`, and has the whole draft by `scan-all` at the end.
-use Prim.Native.Nat.{ℕ, suc, _+_, _*_, _≤_, _<_}
+use Prim.Native.Nat.{ℕ, suc, _+_, _≤_, _<_}
 use mathlib.Core.Path.{_≡_, sym, ap, _∙_}
 use mathlib.Core.List.{List, [], _∷_, _++_}
 use native.Mathlib.Numerals.{add-one}
 use native.Mathlib.Omega.{arith}
 use lib.ListN.{length, getD}
-use Rattle.model.specs.Journal.{Change, cursor, changesFrom}
+use Rattle.model.specs.Journal.{Change, cursor, changesFrom, recordLength}
 use Rattle.journal.specs.Records.{drafted, changesBelow, Scanned}
 use Rattle.journal.proofs.Changes.{no-changes, below-all, below-most, below-same, below-other}
 use Rattle.journal.proofs.Changes.{below-count, below-alike}
@@ -41,7 +41,7 @@ module _ (t u j : List ℕ) (long : length t ≡ length u) where
       longer = let c = s .count in let b = below-count t u long e inside d differs in omega arith
 
       -- what `write_change` requires
-      pub scan-room : cursor j + (3 * length (changesFrom 0 t u) + 2) ≤ length j → cursor w + (3 * k + 5) ≤ length w
+      pub scan-room : cursor j + recordLength (length (changesFrom 0 t u)) ≤ length j → cursor w + recordLength (k + 1) ≤ length w
       scan-room h =
           let c = s .count in
           let l = longer in

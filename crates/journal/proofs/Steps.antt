@@ -1,6 +1,6 @@
 -- What undo and redo need of a record: where it is unbroken it can be put (`unbroken-fits`) and taken back (`unbroken-again`,
 -- `unbroken-back`), and `stepOutcome` is one of three (`step-broken`, `step-no-map`, `step-taken`).
-use Prim.Native.Nat.{ℕ, suc, _+_, _*_, _≤_, _<_}
+use Prim.Native.Nat.{ℕ, suc, _+_, _≤_, _<_}
 use mathlib.Core.Path.{_≡_, sym, ap, _∙_}
 use mathlib.Core.Bool.{Bool, true, false, not}
 use mathlib.Core.List.{List, [], _∷_}
@@ -8,7 +8,7 @@ use native.Mathlib.Omega.{arith}
 use lib.ListN.{length, set}
 use lib.Seq.{set-comm, set-set, set-getD}
 use Rattle.model.specs.Map.{isMap}
-use Rattle.model.specs.Journal.{Change, end, changesAt, put, sound, unbroken}
+use Rattle.model.specs.Journal.{Change, end, recordLength, changesAt, tagAt, put, sound, unbroken}
 use Rattle.model.specs.Calls.{stepOutcome, refused}
 use Rattle.journal.specs.Records.{valuePut, within}
 use Rattle.journal.proofs.Puts.{put-none, put-next, put-length}
@@ -65,12 +65,12 @@ module _ (redo : Bool) (t j : List ℕ) (a k : ℕ) (r : Bool) (tested : r ≡ u
     parts : Unbroken redo t j a k
     parts = unbroken-parts redo t j a k (sym tested ∙ whole)
 
-    pub unbroken-fits : end j ≤ length j → (a + (3 * k + 2) ≤ length j) × (within (length t) (changesAt j a k) ≡ true)
+    pub unbroken-fits : end j ≤ length j → (a + recordLength k ≤ length j) × (within (length t) (changesAt j a k) ≡ true)
     unbroken-fits h = let f = parts .fits in (omega arith, sound-within redo t 0 cs (parts .sounds))
 
     -- put into t, giving t′, it still lies within the table, and can be taken back
     module _ (t′ : List ℕ) (done : t′ ≡ put redo (changesAt j a k) t) where
-      pub unbroken-again : end j ≤ length j → (a + (3 * k + 2) ≤ length j) × (within (length t′) (changesAt j a k) ≡ true)
+      pub unbroken-again : end j ≤ length j → (a + recordLength k ≤ length j) × (within (length t′) (changesAt j a k) ≡ true)
       unbroken-again h = rw (done, put-length redo cs t) (unbroken-fits h)
 
       pub unbroken-back : (t″ : List ℕ) → t″ ≡ put (not redo) (changesAt j a k) t′ → t″ ≡ t
@@ -82,6 +82,6 @@ module _ (redo : Bool) (t j : List ℕ) (a k : ℕ) (r : Bool) (tested : r ≡ u
         step-no-map h = rw (← tested, whole, ← done, h, stepOutcome)
 
         pub step-taken : isMap n t′ ≡ true → stepOutcome redo n t j a k c
-            ≡ record { number = 0; place = 0; count = k; table = t′; marks = []; journal = set j 0 c }
+            ≡ record { number = 0; place = tagAt j a; count = k; table = t′; marks = []; journal = set j 0 c }
         unfolding stepOutcome
         step-taken h = rw (← tested, whole, ← done, h, stepOutcome) (rw done)

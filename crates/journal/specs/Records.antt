@@ -12,7 +12,7 @@ use Rattle.model.specs.Journal.{Change, cursor, changesFrom, triples}
 -- the journal j in which the triples of cs stand where a record at the cursor has them; all else as in j
 unfoldable pub drafted : List ℕ → List Change → List ℕ
 drafted j cs =
-    let a = suc (cursor j) in
+    let a = suc (suc (cursor j)) in
     take a j ++ triples cs ++ drop (a + 3 * length cs) j
 
 -- the triple at the word w

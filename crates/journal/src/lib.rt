@@ -6,40 +6,42 @@ ghost use mathlib.Core.List.{List, [], _∷_, _++_};
 ghost use Prim.Native.Nat.{ℕ, _+_, _*_, _-_, _<_, _≤_};
 ghost use lib.ListN.{length, getD};
 ghost use lib.Dec.{leb};
-ghost use Rattle.model.specs.Journal.{Change, cursor, end, changesAt, put, recordOf, sound, unbroken, written};
+ghost use Rattle.model.specs.Journal.{Change, cursor, end, changesAt, put, recordLength, recordOf, sound, unbroken, written};
 ghost use Rattle.journal.specs.Records.{changeAt, drafted, valuePut, within};
 
 // Whether a record of k changes is no longer than the words from the cursor to the journal's length.
 pub fn record_fits(journal: &[u32], k: u32) -> bool
     requires { ⌜ (0 < length (now journal)) × (cursor (now journal) ≤ length (now journal)) ⌝ }
-    ensures { λ r. ⌜ r ≡ leb (3 * k + 2) (length (now (journal .entry)) - cursor (now (journal .entry))) ⌝ }
+    ensures { λ r. ⌜ r ≡ leb (recordLength k) (length (now (journal .entry)) - cursor (now (journal .entry))) ⌝ }
 {
-    3 * (k as usize) + 2 <= journal.len() - journal[0] as usize
+    3 * (k as usize) + 3 <= journal.len() - journal[0] as usize
 }
 
 // Writes the triple number `done` of the record at the cursor: a draft of `done` changes has one more.
 pub fn write_change(journal: &mut [u32], done: usize, entry: u32, old: u32, new: u32)
-    requires { ⌜ cursor (now journal) + (3 * done + 5) ≤ length (now journal) ⌝ }
+    requires { ⌜ cursor (now journal) + recordLength (done + 1) ≤ length (now journal) ⌝ }
     ensures { λ _.
         ⌜ ((j : List ℕ) (cs : List Change) → now (journal .entry) ≡ drafted j cs → done ≡ length cs
         → now (journal .exit) ≡ drafted j (cs ++ record { entry = entry; old = old; new = new } ∷ [])) ⌝ }
 {
-    let w = journal[0] as usize + 3 * done + 1;
+    let w = journal[0] as usize + 3 * done + 2;
     journal[w] = entry;
     journal[w + 1] = old;
     journal[w + 2] = new;
 }
 
-// Writes k before and behind the k triples of a draft; the cursor and the end go behind it: the record is written.
-pub fn close_record(journal: &mut [u32], k: u32)
-    requires { ⌜ (cursor (now journal) + (3 * k + 2) ≤ length (now journal)) × (length (now journal) ≤ 1048576) ⌝ }
+// Writes k and the tag before the k triples of a draft, and k behind them; the cursor and the end go behind it: the record is
+// written.
+pub fn close_record(journal: &mut [u32], k: u32, tag: u32)
+    requires { ⌜ (cursor (now journal) + recordLength k ≤ length (now journal)) × (length (now journal) ≤ 1048576) ⌝ }
     ensures { λ _.
         ⌜ ((j : List ℕ) (cs : List Change) → now (journal .entry) ≡ drafted j cs → k ≡ length cs
-        → now (journal .exit) ≡ written j (recordOf cs)) ⌝ }
+        → now (journal .exit) ≡ written j (recordOf tag cs)) ⌝ }
 {
     let start = journal[0] as usize;
-    let last = start + 3 * (k as usize) + 1;
+    let last = start + 3 * (k as usize) + 2;
     journal[start] = k;
+    journal[start + 1] = tag;
     journal[last] = k;
     let behind = last as u32 + 1;
     journal[0] = behind;
@@ -56,10 +58,10 @@ fn value_put(redo: bool, journal: &[u32], w: usize) -> u32
 
 // Puts the new values (redo), or the old ones, of the k changes of the record at the word a into the table.
 pub fn put_record(redo: bool, table: &mut [u32], journal: &[u32], a: usize, k: usize)
-    requires { ⌜ (a + (3 * k + 2) ≤ length (now journal)) × (within (length (now table)) (changesAt (now journal) a k) ≡ true) ⌝ }
+    requires { ⌜ (a + recordLength k ≤ length (now journal)) × (within (length (now table)) (changesAt (now journal) a k) ≡ true) ⌝ }
     ensures { λ _. ⌜ now (table .exit) ≡ put redo (changesAt (now (journal .entry)) a k) (now (table .entry)) ⌝ }
 {
-    let mut w = a + 1;
+    let mut w = a + 2;
     let mut left = k;
     while 0 < left {
         let e = journal[w] as usize;
@@ -90,10 +92,10 @@ fn sound_change(redo: bool, table: &[u32], journal: &[u32], w: usize, least: usi
 
 // The same of all k changes of the record at the word a, whose entries rise.
 fn sound_changes(redo: bool, table: &[u32], journal: &[u32], a: usize, k: usize) -> bool
-    requires { ⌜ a + (3 * k + 2) ≤ length (now journal) ⌝ }
+    requires { ⌜ a + recordLength k ≤ length (now journal) ⌝ }
     ensures { λ r. ⌜ r ≡ sound redo (now (table .entry)) 0 (changesAt (now (journal .entry)) a k) ⌝ }
 {
-    let mut w = a + 1;
+    let mut w = a + 2;
     let mut left = k;
     let mut least = 0;
     while 0 < left {
@@ -112,7 +114,7 @@ pub fn unbroken(redo: bool, table: &[u32], journal: &[u32], a: usize, k: u32) ->
     requires { ⌜ (2 ≤ length (now journal)) × (end (now journal) ≤ length (now journal)) ⌝ }
     ensures { λ r. ⌜ r ≡ unbroken redo (now (table .entry)) (now (journal .entry)) a k ⌝ }
 {
-    let last = 3 * (k as usize) + 1;
+    let last = 3 * (k as usize) + 2;
     let end = journal[1] as usize;
     if k == 0 {
         return false;
@@ -142,11 +144,11 @@ pub struct RecordAt {
 pub fn undo_start(journal: &[u32]) -> RecordAt
     requires { ⌜ (2 ≤ cursor (now journal)) × (cursor (now journal) ≤ length (now journal)) ⌝ }
     ensures count { λ r. ⌜ r .count ≡ getD (now (journal .entry)) (cursor (now (journal .entry)) - 1) 0 ⌝ }
-    ensures start { λ r. ⌜ r .start ≡ cursor (now (journal .entry)) - (3 * r .count + 2) ⌝ }
+    ensures start { λ r. ⌜ r .start ≡ cursor (now (journal .entry)) - recordLength (r .count) ⌝ }
 {
     let cursor = journal[0] as usize;
     let k = journal[cursor - 1];
-    let size = 3 * (k as usize) + 2;
+    let size = 3 * (k as usize) + 3;
     if cursor < size {
         return RecordAt { start: 0, count: k };
     }

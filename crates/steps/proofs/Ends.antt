@@ -1,10 +1,10 @@
 -- How undo and redo end, from their checks: `undo-refused`, `undo-accepted` and the like; `step-refused` for `step`.
-use Prim.Native.Nat.{ℕ, _+_, _*_, _-_}
+use Prim.Native.Nat.{ℕ, _+_, _-_}
 use mathlib.Core.Path.{_≡_, sym, ap, _∙_}
 use mathlib.Core.Bool.{Bool, true, false}
 use mathlib.Core.List.{List, []}
 use lib.ListN.{getD}
-use Rattle.model.specs.Journal.{cursor}
+use Rattle.model.specs.Journal.{cursor, recordLength}
 use Rattle.model.specs.Checks.{pass, refuse, inOrder, stepChecks, undoOk, redoOk}
 use Rattle.model.specs.Calls.{Outcome, refused, stepOutcome, undoCall, redoCall}
 use Rattle.answers.specs.Answers.{outcome, refusal}
@@ -22,7 +22,7 @@ module _ (n : ℕ) (t j : List ℕ) where
   undo-refused e = rw (e, undoCall)
 
   pub undo-accepted : {r : Outcome} (a k : ℕ) → inOrder (stepChecks n t j (undoOk j)) ≡ pass → k ≡ getD j (cursor j - 1) 0
-      → a ≡ cursor j - (3 * k + 2) → r ≡ stepOutcome false n t j a k a → r ≡ undoCall n t j
+      → a ≡ cursor j - recordLength k → r ≡ stepOutcome false n t j a k a → r ≡ undoCall n t j
   unfolding undoCall
   undo-accepted a k e count start step = step ∙ rw (e, undoCall, start, count)
 
@@ -32,7 +32,7 @@ module _ (n : ℕ) (t j : List ℕ) where
   redo-refused e = rw (e, redoCall)
 
   pub redo-accepted : {r : Outcome} (to : ℕ) → inOrder (stepChecks n t j (redoOk j)) ≡ pass
-      → to ≡ cursor j + (3 * getD j (cursor j) 0 + 2)
+      → to ≡ cursor j + recordLength (getD j (cursor j) 0)
       → r ≡ stepOutcome true n t j (cursor j) (getD j (cursor j) 0) to → r ≡ redoCall n t j
   unfolding redoCall
   redo-accepted to e behind step = step ∙ rw (e, redoCall, behind)

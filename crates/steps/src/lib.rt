@@ -1,15 +1,16 @@
 // undo and redo: the record before the cursor is taken back, or the one at the cursor put again. `step` is both.
 use answers::Answer;
 use answers::numbers;
-ghost use Prim.Native.Nat.{_+_, _*_, _≤_};
+ghost use Prim.Native.Nat.{_+_, _≤_};
 ghost use mathlib.Core.Path.{_≡_};
 ghost use mathlib.Core.List.{[]};
+ghost use Rattle.model.specs.Journal.{recordLength};
 ghost use Rattle.model.specs.Checks.{pass, dimOk, tableOk, journalOk};
 ghost use Rattle.model.specs.Calls.{stepOutcome, undoCall, redoCall};
 ghost use Rattle.answers.specs.Answers.{outcome};
 
-// Puts the new values (redo), or the old ones, of the record of k changes at the word a, and moves the cursor to `to`. If
-// the record is broken or the result no map, table and journal are left as they were: 17.
+// Puts the new values (redo), or the old ones, of the record of k changes at the word a, and moves the cursor to `to`; the
+// record's tag is the place. If it is broken or the result no map, table and journal are left as they were: 17.
 fn step(
     redo: bool,
     n: u32,
@@ -20,7 +21,7 @@ fn step(
     to: usize,
 ) -> Answer
     requires { ⌜ (dimOk n ≡ pass) × (tableOk (now table) ≡ pass) × (journalOk (now journal) ≡ pass) ⌝ }
-    requires { ⌜ to ≤ a + (3 * k + 2) ⌝ }
+    requires { ⌜ to ≤ a + recordLength k ⌝ }
     ensures { λ r. ⌜ outcome r (now (table .exit)) [] (now (journal .exit))
         ≡ stepOutcome redo n (now (table .entry)) (now (journal .entry)) a k to ⌝ }
 {
@@ -32,15 +33,17 @@ fn step(
         journal::put_record(!redo, table, journal, a, k as usize);
         return numbers::BROKEN_RECORD;
     }
+    let tag = journal[a + 1];
     journal[0] = to as u32;
     Answer {
         number: 0,
-        place: 0,
+        place: tag,
         count: k,
     }
 }
 
-// Puts back the old values of the record before the cursor, and moves the cursor before it. "Count: entries changed."
+// Puts back the old values of the record before the cursor, and moves the cursor before it. The record's tag is the place.
+// "Count: entries changed."
 pub fn undo(n: u32, table: &mut [u32], journal: &mut [u32]) -> Answer
     ensures { λ r. ⌜ outcome r (now (table .exit)) [] (now (journal .exit))
         ≡ undoCall n (now (table .entry)) (now (journal .entry)) ⌝ }
@@ -64,7 +67,8 @@ pub fn undo(n: u32, table: &mut [u32], journal: &mut [u32]) -> Answer
     )
 }
 
-// Puts back the new values of the record at the cursor, and moves the cursor behind it. "Count: entries changed."
+// Puts back the new values of the record at the cursor, and moves the cursor behind it. The record's tag is the place.
+// "Count: entries changed."
 pub fn redo(n: u32, table: &mut [u32], journal: &mut [u32]) -> Answer
     ensures { λ r. ⌜ outcome r (now (table .exit)) [] (now (journal .exit))
         ≡ redoCall n (now (table .entry)) (now (journal .entry)) ⌝ }
@@ -78,5 +82,5 @@ pub fn redo(n: u32, table: &mut [u32], journal: &mut [u32]) -> Answer
     }
     let a = journal[0] as usize;
     let k = journal[a];
-    step(true, n, table, journal, a, k, a + 3 * (k as usize) + 2)
+    step(true, n, table, journal, a, k, a + 3 * (k as usize) + 3)
 }

@@ -24,7 +24,7 @@ same-length-2 : tie.Need-same-length-2
 same-length-2 c = search needs
 
 returns : tie.Need-returns
-returns c = let f = c .before in refusal-carried _ _ _ _ (f .has-room .ensures) (not-true _ (c .if1 .taken))
+returns c = let f = c .before in refusal-carried _ _ _ _ _ (f .has-room .ensures) (not-true _ (c .if1 .taken))
 
 slice-read-start : tie.Need-slice-read-start
 slice-read-start c = search needs
@@ -52,7 +52,7 @@ close-record-requires c κs =
     let e = written w in
     let f = e .before in
     let (count, draft) = w .write-changes .ensures in
-    draft-closes _ _ _ _ (f .has-room .ensures) (edit-long _ _ _ _ _ _ _) (start f .pre .1 .1) (not-false _ (e .if1 .left))
+    draft-closes _ _ _ 0 _ (f .has-room .ensures) (edit-long _ _ _ _ _ _ _) (start f .pre .1 .1) (not-false _ (e .if1 .left))
     _ count _ draft
 
 cast-put-record : tie.Need-cast-put-record
@@ -66,7 +66,7 @@ put-record-requires c κs =
     let e = written w in
     let f = e .before in
     let (count, draft) = w .write-changes .ensures in
-    record-puts _ _ _ _ (f .has-room .ensures) (edit-long _ _ _ _ _ _ _) (start f .pre .1 .1) (not-false _ (e .if1 .left))
+    record-puts _ _ _ _ _ (f .has-room .ensures) (edit-long _ _ _ _ _ _ _) (start f .pre .1 .1) (not-false _ (e .if1 .left))
     _ count _ (k .close-record .ensures _ _ draft count)
 
 same-length-3 : tie.Need-same-length-3
@@ -84,7 +84,7 @@ returns-2 c =
     let e = written w in
     let f = e .before in
     let (count, draft) = w .write-changes .ensures in
-    record-carried _ _ _ _ (f .has-room .ensures) (edit-long _ _ _ _ _ _ _) (start f .pre .1 .1) (not-false _ (e .if1 .left))
+    record-carried _ _ _ _ _ (f .has-room .ensures) (edit-long _ _ _ _ _ _ _) (start f .pre .1 .1) (not-false _ (e .if1 .left))
     _ count _ (k .close-record .ensures _ _ draft count) _ (p .put-record .ensures)
 
 pub commit-spec : {M : Type 1} → statement M

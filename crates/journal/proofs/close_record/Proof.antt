@@ -32,6 +32,10 @@ slice-write-journal : tie.Need-slice-write-journal
 unfolding cursor
 slice-write-journal c = search needs
 
+add-journal : tie.Need-add-journal
+unfolding cursor
+add-journal c = search needs
+
 mul-journal-2 : tie.Need-mul-journal-2
 unfolding cursor
 mul-journal-2 c = search needs
@@ -39,6 +43,14 @@ mul-journal-2 c = search needs
 slice-write-journal-2 : tie.Need-slice-write-journal-2
 unfolding cursor
 slice-write-journal-2 c = simp length-set (omega arith)
+
+mul-journal-3 : tie.Need-mul-journal-3
+unfolding cursor
+mul-journal-3 c = search needs
+
+slice-write-journal-3 : tie.Need-slice-write-journal-3
+unfolding cursor
+slice-write-journal-3 c = simp length-set (omega arith)
 
 cast-behind : tie.Need-cast-behind
 unfolding cursor
@@ -48,18 +60,18 @@ add-behind : tie.Need-add-behind
 unfolding cursor
 add-behind c = omega arith
 
-slice-write-journal-3 : tie.Need-slice-write-journal-3
-slice-write-journal-3 c = simp length-set (omega arith)
-
 slice-write-journal-4 : tie.Need-slice-write-journal-4
 slice-write-journal-4 c = simp length-set (omega arith)
+
+slice-write-journal-5 : tie.Need-slice-write-journal-5
+slice-write-journal-5 c = simp length-set (omega arith)
 
 same-length : tie.Need-same-length
 same-length c = simp length-set
 
 returns : tie.Need-returns
 unfolding cursor
-returns c j cs draft count = draft-closed _ j cs _ draft count (c .before .pre .0)
+returns c j cs draft count = draft-closed _ j cs _ draft count _ (c .before .pre .0)
 
 pub close-record-spec : {M : Type 1} → statement M
 close-record-spec =
@@ -72,11 +84,14 @@ close-record-spec =
     add-last-2
     mul-journal
     slice-write-journal
+    add-journal
     mul-journal-2
     slice-write-journal-2
+    mul-journal-3
+    slice-write-journal-3
     cast-behind
     add-behind
-    slice-write-journal-3
     slice-write-journal-4
+    slice-write-journal-5
     same-length
     returns)

@@ -1,9 +1,8 @@
 -- `put_record` meets its contract. The loop's invariant: what is left to be put leads to what the whole record leads to, and
 -- lies within the table and the journal.
-use Prim.Native.Nat.{ℕ, _+_, _*_, _-_, _<_}
-use mathlib.Core.Path.{_≡_, ap, sym, _∙_}
+use Prim.Native.Nat.{_+_, _*_, _-_, _<_}
+use mathlib.Core.Path.{_≡_, refl, ap, sym, _∙_}
 use mathlib.Core.Bool.{true}
-use native.Mathlib.Numerals.{add-one}
 use native.Mathlib.Omega.{arith}
 use lib.ListN.{length, getD, drop, length-set}
 use borrow.Author.Needs.{needs}
@@ -29,12 +28,7 @@ loop-holds : tie.Need-loop-holds Inv-loop μ-loop
 unfolding changesAt
 loop-holds c =
     let s = c .before .before in
-    let a = s .args in
-    let first = add-one (a .a) in (
-      ap (λ (w : ℕ). put (a .redo) (readChanges (a .k) (drop w (a .journal .now))) (a .table .now)) first,
-      ap (λ (w : ℕ). within (length (a .table .now)) (readChanges (a .k) (drop w (a .journal .now)))) first ∙ s .pre .1,
-      omega arith,
-    )
+    (refl, s .pre .1, omega arith)
 
 -- in a turn the entry lies in the table, and so do those behind it
 inside : (c : tie.In-loop Inv-loop μ-loop)

@@ -1,7 +1,7 @@
 -- What calls write into the journal. `op-recorded`: an accepted operation writes its record at the cursor, cursor and end
 -- go behind it, and other words stay. `undo-words`, `redo-words`: undo and redo change only the cursor word. `undo-record-tag`,
 -- `redo-record-tag`: they give the tag of their record.
-use Prim.Native.Nat.{ℕ, _+_, _*_, _-_, _≤_, _<_}
+use Prim.Native.Nat.{ℕ, _+_, _-_, _≤_, _<_}
 use mathlib.Core.Path.{_≡_, refl, ap, _∙_}
 use mathlib.Core.List.{List, _++_}
 use native.Mathlib.Omega.{arith}

@@ -1,8 +1,11 @@
 -- `steps::step` meets its contract, by the three ends of `stepOutcome`.
+use Prim.Native.Nat.{_+_, _≤_}
 use mathlib.Core.Path.{refl, sym, _∙_}
 use native.Mathlib.Omega.{arith}
+use lib.ListN.{length}
 use borrow.Author.Needs.{needs}
 use borrow.Author.Tests.{not-true, not-false}
+use Rattle.model.specs.Journal.{recordLength, tagAt}
 use Rattle.model.specs.Meaning.Numbers.{JournalRule}
 use Rattle.model.proofs.Calls.Pass.{journal-pass}
 use Rattle.journal.proofs.Steps.{unbroken-fits, unbroken-again, unbroken-back, step-broken, step-no-map, step-taken}
@@ -67,20 +70,36 @@ returns-2 c =
     (step-no-map _ _ _ _ _ _ (e .before .unbroken .ensures) whole _ (put .put-record .ensures) _ _
     (sym (no-map .before .is-map .ensures) ∙ not-true _ (no-map .if2 .taken)))
 
+-- where the record is unbroken, from where its result is a map
+abbrev unbroken : tie.Else2 → tie.Else1
+unbroken c = c .before .before .before .before .before .before .before .before
+
+-- it ends within the journal, which is not too long
+fits : (c : tie.Else2)
+    → let p = start (unbroken c) .args in
+    (p .a + recordLength (p .k) ≤ length (p .journal .now)) × (length (p .journal .now) ≤ 1048576)
+fits c =
+    let e = unbroken c in
+    let j = rule (start e) in
+    (unbroken-fits _ _ _ _ _ _ (e .before .unbroken .ensures) (not-false _ (e .if1 .left)) (j .within) .0, j .few)
+
+add-tag : tie.Need-add-tag
+add-tag c = let (ends, few) = fits c in omega arith
+
+mul-tag : tie.Need-mul-tag
+mul-tag c = let (ends, few) = fits c in omega arith
+
+slice-read-tag : tie.Need-slice-read-tag
+slice-read-tag c = let (ends, few) = fits (c .before) in omega arith
+
 cast-journal : tie.Need-cast-journal
 cast-journal c =
-    let e = c .before .before .before .before .before .before .before .before in
-    let j = rule (start e) in
-    let few = j .few in
-    let fits = unbroken-fits _ _ _ _ _ _ (e .before .unbroken .ensures) (not-false _ (e .if1 .left)) (j .within) .0 in
-    let low = start e .pre .1 in
+    let (ends, few) = fits (c .before) in
+    let low = start (unbroken (c .before)) .pre .1 in
     omega arith
 
 slice-write-journal : tie.Need-slice-write-journal
-slice-write-journal c =
-    let e = c .before .before .before .before .before .before .before .before in
-    let long = rule (start e) .long in
-    omega arith
+slice-write-journal c = let (ends, few) = fits (c .before) in omega arith
 
 same-length-5 : tie.Need-same-length-5
 same-length-5 c = search needs
@@ -89,11 +108,13 @@ same-length-6 : tie.Need-same-length-6
 same-length-6 c = search needs
 
 returns-3 : tie.Need-returns-3
+unfolding tagAt
 returns-3 c =
-    let put = c .before .before .before .before .before in
-    let e = put .before .before .before in
+    let map = c .before in
+    let put = map .before .before .before .before .before in
+    let e = unbroken map in
     sym (step-taken _ _ _ _ _ _ (e .before .unbroken .ensures) (not-false _ (e .if1 .left)) _ (put .put-record .ensures) _ _
-    (sym (c .before .is-map .ensures) ∙ not-false _ (c .if2 .left)))
+    (sym (map .before .is-map .ensures) ∙ not-false _ (map .if2 .left)))
 
 pub step-spec : {M : Type 1} → statement M
 step-spec =
@@ -109,6 +130,9 @@ step-spec =
     same-length-3
     same-length-4
     returns-2
+    add-tag
+    mul-tag
+    slice-read-tag
     cast-journal
     slice-write-journal
     same-length-5
