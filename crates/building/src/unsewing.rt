@@ -18,6 +18,7 @@ fn unsew_with(
     n: u32,
     table: &mut [u32],
     journal: &mut [u32],
+    tag: u32,
     i: u32,
     d: u32,
     marks: &mut [u8],
@@ -26,7 +27,7 @@ fn unsew_with(
     requires { ⌜ inOrder (sideChecks n (now table) (now journal) i d) ≡ pass ⌝ }
     requires { ⌜ (length (now marks) ≡ slots (now table)) × (length (now queue) ≡ slots (now table)) ⌝ }
     ensures { λ r. ⌜ outcome r (now (table .exit)) [] (now (journal .exit))
-        ≡ unsewCall n (now (table .entry)) (now (journal .entry)) i d ⌝ }
+        ≡ unsewCall n (now (table .entry)) (now (journal .entry)) tag i d ⌝ }
 {
     if is_free(table, i, d) {
         return numbers::FREE;
@@ -37,6 +38,7 @@ fn unsew_with(
         n,
         table,
         journal,
+        tag,
         marks,
         queue,
         queue,
@@ -58,6 +60,7 @@ fn unsew_in(
     n: u32,
     table: &mut [u32],
     journal: &mut [u32],
+    tag: u32,
     i: u32,
     d: u32,
     marks: &mut [u8],
@@ -66,16 +69,16 @@ fn unsew_in(
     requires { ⌜ inOrder (sideChecks n (now table) (now journal) i d) ≡ pass ⌝ }
     requires { ⌜ (slots (now table) ≤ length (now marks)) × (slots (now table) ≤ length (now queue)) ⌝ }
     ensures { λ r. ⌜ outcome r (now (table .exit)) [] (now (journal .exit))
-        ≡ unsewCall n (now (table .entry)) (now (journal .entry)) i d ⌝ }
+        ≡ unsewCall n (now (table .entry)) (now (journal .entry)) tag i d ⌝ }
 {
     let k = table.len() / 4;
-    unsew_with(n, table, journal, i, d, &mut marks[..k], &mut queue[..k])
+    unsew_with(n, table, journal, tag, i, d, &mut marks[..k], &mut queue[..k])
 }
 
 // "Count: entries changed." A small table does not pay for clearing large buffers.
-pub fn unsew(n: u32, table: &mut [u32], journal: &mut [u32], i: u32, d: u32) -> Answer
+pub fn unsew(n: u32, table: &mut [u32], journal: &mut [u32], tag: u32, i: u32, d: u32) -> Answer
     ensures { λ r. ⌜ outcome r (now (table .exit)) [] (now (journal .exit))
-        ≡ unsewCall n (now (table .entry)) (now (journal .entry)) i d ⌝ }
+        ≡ unsewCall n (now (table .entry)) (now (journal .entry)) tag i d ⌝ }
 {
     let opened = answers::opening_side(n, table, reading::journal_fits(journal), i, d);
     if opened.number != 0 {
@@ -84,9 +87,9 @@ pub fn unsew(n: u32, table: &mut [u32], journal: &mut [u32], i: u32, d: u32) -> 
     if table.len() <= 32768 {
         let mut marks = [0u8; 8192];
         let mut queue = [0u32; 8192];
-        return unsew_in(n, table, journal, i, d, &mut marks, &mut queue);
+        return unsew_in(n, table, journal, tag, i, d, &mut marks, &mut queue);
     }
     let mut marks = [0u8; 65536];
     let mut queue = [0u32; 65536];
-    unsew_in(n, table, journal, i, d, &mut marks, &mut queue)
+    unsew_in(n, table, journal, tag, i, d, &mut marks, &mut queue)
 }

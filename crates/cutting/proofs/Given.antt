@@ -8,8 +8,8 @@ use lib.ListN.{length}
 use Rattle.model.specs.Lists.{indexOf}
 use Rattle.model.specs.Table.{slots}
 use Rattle.model.specs.Checks.{pass, inOrder, layerChecks, dimOk, tableOk, marksOk, mapChecks, dartOk}
-use Rattle.model.specs.Runs.{Call}
-use Rattle.model.specs.Meaning.Ends.{numbers}
+use Rattle.model.specs.Runs.{Op}
+use Rattle.model.specs.Meaning.Ends.{opNumbers}
 use Rattle.model.specs.Meaning.Numbers.{JournalRule}
 use Rattle.model.specs.Meaning.Sheets.{BlockDart, marksOf}
 use Rattle.model.specs.Meaning.Walks.{Layer}
@@ -34,7 +34,7 @@ module _ {n d : ℕ} {t m j : List ℕ} where
   pub layered : inOrder (layerChecks n t m j d) ≡ pass → Layered n t m j d
   unfolding layerChecks mapChecks indexOf
   layered h =
-      let q = passed-number (numbers (Call.remove d)) (layerChecks n t m j d) h in
+      let q = passed-number (opNumbers (Op.remove d)) (layerChecks n t m j d) h in
       record {
         dim = q 1;
         table = q 2;

@@ -31,13 +31,14 @@ fn remove_in(
     table: &mut [u32],
     marks: &mut [u8],
     journal: &mut [u32],
+    tag: u32,
     d: u32,
     queue: &mut [u32],
 ) -> Answer
     requires { ⌜ inOrder (layerChecks n (now table) (now marks) (now journal) d) ≡ pass ⌝ }
     requires { ⌜ slots (now table) ≤ length (now queue) ⌝ }
     ensures { λ r. ⌜ outcome r (now (table .exit)) (now (marks .exit)) (now (journal .exit))
-        ≡ removeCall n (now (table .entry)) (now (marks .entry)) (now (journal .entry)) d ⌝ }
+        ≡ removeCall n (now (table .entry)) (now (marks .entry)) (now (journal .entry)) tag d ⌝ }
 {
     reach::sheet(n, table, marks, queue, d);
     let darts = count_marked(marks);
@@ -46,6 +47,7 @@ fn remove_in(
         n,
         table,
         journal,
+        tag,
         marks,
         queue,
         queue,
@@ -63,9 +65,9 @@ fn remove_in(
 }
 
 // "cells with marks 1 or 2 become unused." "Count: darts removed." A small table does not pay for a queue of 65,536 words.
-pub fn remove(n: u32, table: &mut [u32], marks: &mut [u8], journal: &mut [u32], d: u32) -> Answer
+pub fn remove(n: u32, table: &mut [u32], marks: &mut [u8], journal: &mut [u32], tag: u32, d: u32) -> Answer
     ensures { λ r. ⌜ outcome r (now (table .exit)) (now (marks .exit)) (now (journal .exit))
-        ≡ removeCall n (now (table .entry)) (now (marks .entry)) (now (journal .entry)) d ⌝ }
+        ≡ removeCall n (now (table .entry)) (now (marks .entry)) (now (journal .entry)) tag d ⌝ }
 {
     let opened = answers::opening_layer(
         n,
@@ -79,12 +81,12 @@ pub fn remove(n: u32, table: &mut [u32], marks: &mut [u8], journal: &mut [u32], 
     }
     if table.len() <= 8192 {
         let mut queue = [0u32; 2048];
-        return remove_in(n, table, marks, journal, d, &mut queue);
+        return remove_in(n, table, marks, journal, tag, d, &mut queue);
     }
     if table.len() <= 32768 {
         let mut queue = [0u32; 8192];
-        return remove_in(n, table, marks, journal, d, &mut queue);
+        return remove_in(n, table, marks, journal, tag, d, &mut queue);
     }
     let mut queue = [0u32; 65536];
-    remove_in(n, table, marks, journal, d, &mut queue)
+    remove_in(n, table, marks, journal, tag, d, &mut queue)
 }

@@ -31,10 +31,10 @@ use Rattle.edits.proofs.Carrying.{carried-same, carried-accepted, carried-refus
 use Rattle.answers.specs.Answers.{outcome, refusal, accepted}
 use Rattle.cutting.proofs.Given.{Sheeted, given, marks-few}
 
-pub split-refused : (n : ℕ) (t m j : List ℕ) (d : ℕ) {k p q : ℕ} → inOrder (layerChecks n t m j d) ≡ refuse k p q
-    → outcome (refusal k p q) t m j ≡ splitCall n t m j d
+pub split-refused : (n : ℕ) (t m j : List ℕ) (tag d : ℕ) {k p q : ℕ} → inOrder (layerChecks n t m j d) ≡ refuse k p q
+    → outcome (refusal k p q) t m j ≡ splitCall n t m j tag d
 unfolding splitCall refused
-split-refused n t m j d e = rw (e, splitCall)
+split-refused n t m j tag d e = rw (e, splitCall)
 
 -- the darts of S
 abbrev dartsOf : ℕ → List ℕ → ℕ → List ℕ
@@ -44,10 +44,10 @@ dartsOf n t d = ones (sheet n t d)
 module _ {n d : ℕ} {t m j s : List ℕ} (H : Sheeted n t m j d s)
     {size : ℕ} {darts₀ darts rank₀ rank₁ : List ℕ} (G : Lists (ones s) size darts₀ darts rank₀ rank₁)
   where
-    split-stops : {k p q : ℕ} → inOrder (splitChecks n t (sheet n t d) (dartsOf n t d)) ≡ refuse k p q
-        → outcome (refusal k p q) t s j ≡ splitCall n t m j d
+    split-stops : (tag : ℕ) {k p q : ℕ} → inOrder (splitChecks n t (sheet n t d) (dartsOf n t d)) ≡ refuse k p q
+        → outcome (refusal k p q) t s j ≡ splitCall n t m j tag d
     unfolding splitCall refused
-    split-stops e = rw (H .passed, splitCall, e, splitCall, H .marked)
+    split-stops tag e = rw (H .passed, splitCall, e, splitCall, H .marked)
 
     listed : take size darts ≡ dartsOf n t d
     listed = G .front ∙ ap ones (H .marked) ∙ marks-ones (given H .dart)
@@ -58,10 +58,10 @@ module _ {n d : ℕ} {t m j s : List ℕ} (H : Sheeted n t m j d s)
     crossed : {b : Bool} → b ≡ crosses t s (take size darts) → crosses t (sheet n t d) (dartsOf n t d) ≡ b
     crossed is = sym (is ∙ ap₂ (crosses t) (H .marked) listed ∙ marks-crosses (given H .dart) (dartsOf n t d))
 
-    pub split-crosses : {b : Bool} → b ≡ crosses t s (take size darts) → b ≡ true
-        → outcome (refusal 13 0 0) t s j ≡ splitCall n t m j d
+    pub split-crosses : (tag : ℕ) {b : Bool} → b ≡ crosses t s (take size darts) → b ≡ true
+        → outcome (refusal 13 0 0) t s j ≡ splitCall n t m j tag d
     unfolding splitChecks crossingOk inOrder andThen must
-    split-crosses is h = split-stops (rw (crossed is, h))
+    split-crosses tag is h = split-stops tag (rw (crossed is, h))
 
     size-few : size ≤ 65536
     size-few = let most = ones-few s 0 in let is = G .size in let few = marks-few H in omega arith
@@ -87,9 +87,9 @@ module _ {n d : ℕ} {t m j s : List ℕ} (H : Sheeted n t m j d s)
         new-number : length (splitSlots n t (dartsOf n t d)) ≡ r
         new-number = sym (F .size ∙ ap length slots-new)
 
-        pub split-few : r ≢ n * size → outcome (refusal 14 0 0) t s j ≡ splitCall n t m j d
+        pub split-few : (tag : ℕ) → r ≢ n * size → outcome (refusal 14 0 0) t s j ≡ splitCall n t m j tag d
         unfolding splitChecks crossingOk splitRoomOk inOrder andThen must
-        split-few h = split-stops (rw (crossed is, uncrossed, new-number, ← size-is, ne-eqb r (n * size) h))
+        split-few tag h = split-stops tag (rw (crossed is, uncrossed, new-number, ← size-is, ne-eqb r (n * size) h))
 
         -- they are enough
         module _ (room : r ≡ n * size) where
@@ -99,11 +99,11 @@ module _ {n d : ℕ} {t m j s : List ℕ} (H : Sheeted n t m j d s)
           pub lists-fit : FitSplit n darts fresh rank size
           lists-fit = fit-split n size t s halving G F room
 
-          split-goes : splitCall n t m j d
-              ≡ commit t (splitTable n t d) (marksOf n t d) j (getD (splitSlots n t (dartsOf n t d)) 0 0)
+          split-goes : (tag : ℕ) → splitCall n t m j tag d
+              ≡ commit t (splitTable n t d) (marksOf n t d) j tag (getD (splitSlots n t (dartsOf n t d)) 0 0)
               (λ cs. n * length (dartsOf n t d))
           unfolding splitCall splitChecks crossingOk splitRoomOk inOrder andThen must
-          split-goes =
+          split-goes tag =
               let enough = eq-eqb _ _ (new-number ∙ room ∙ ap (λ (k : ℕ). n * k) size-is) in
               rw (H .passed, splitCall, crossed is, uncrossed, enough, splitCall)
 
@@ -113,15 +113,15 @@ module _ {n d : ℕ} {t m j s : List ℕ} (H : Sheeted n t m j d s)
           place : getD fresh 0 0 ≡ getD (splitSlots n t (dartsOf n t d)) 0 0
           place = sym (getD-take (n * size) fresh 0 0 some) ∙ ap (λ (l : List ℕ). getD l 0 0) taken
 
-          module _ {t′ j′ : List ℕ} {fits : Bool} {k : ℕ}
-              (C : Carried t (editTable Split n t s darts fresh size) j t′ j′ fits k)
+          module _ {tag : ℕ} {t′ j′ : List ℕ} {fits : Bool} {k : ℕ}
+              (C : Carried t (editTable Split n t s darts fresh size) j tag t′ j′ fits k)
             where
-              carried : Carried t (splitTable n t d) j t′ j′ fits k
+              carried : Carried t (splitTable n t d) j tag t′ j′ fits k
               carried = carried-same (edit-split n t s darts fresh size d listed taken) C
 
-              pub split-no-room : fits ≡ false → outcome (refusal 15 0 0) t′ s j′ ≡ splitCall n t m j d
+              pub split-no-room : fits ≡ false → outcome (refusal 15 0 0) t′ s j′ ≡ splitCall n t m j tag d
               unfolding refused
-              split-no-room h = rw (split-goes, H .marked) (sym (carried-refused carried _ _ _ h))
+              split-no-room h = rw (split-goes tag, H .marked) (sym (carried-refused carried _ _ _ h))
 
-              pub split-done : fits ≡ true → outcome (accepted (getD fresh 0 0) (n * size)) t′ s j′ ≡ splitCall n t m j d
-              split-done h = rw (split-goes, place, size-is, H .marked) (sym (carried-accepted carried _ _ _ h))
+              pub split-done : fits ≡ true → outcome (accepted (getD fresh 0 0) (n * size)) t′ s j′ ≡ splitCall n t m j tag d
+              split-done h = rw (split-goes tag, place, size-is, H .marked) (sym (carried-accepted carried _ _ _ h))

@@ -17,6 +17,7 @@ fn split_in(
     table: &mut [u32],
     marks: &mut [u8],
     journal: &mut [u32],
+    tag: u32,
     d: u32,
     queue: &mut [u32],
     fresh: &mut [u32],
@@ -26,7 +27,7 @@ fn split_in(
     requires { ⌜ (slots (now table) ≤ length (now queue)) × (slots (now table) ≤ length (now fresh))
         × (slots (now table) ≤ length (now rank)) ⌝ }
     ensures { λ r. ⌜ outcome r (now (table .exit)) (now (marks .exit)) (now (journal .exit))
-        ≡ splitCall n (now (table .entry)) (now (marks .entry)) (now (journal .entry)) d ⌝ }
+        ≡ splitCall n (now (table .entry)) (now (marks .entry)) (now (journal .entry)) tag d ⌝ }
 {
     reach::sheet(n, table, marks, queue, d);
     let size = layers::list_marked(marks, queue, rank);
@@ -42,6 +43,7 @@ fn split_in(
         n,
         table,
         journal,
+        tag,
         marks,
         queue,
         fresh,
@@ -60,9 +62,9 @@ fn split_in(
 
 // "each g in S, rising, gets new darts a, b (for n = 3 also c) in the lowest unused slots in that order." "Place: first new
 // slot. Count: darts added." A small table does not pay for buffers of 65,536 words.
-pub fn split(n: u32, table: &mut [u32], marks: &mut [u8], journal: &mut [u32], d: u32) -> Answer
+pub fn split(n: u32, table: &mut [u32], marks: &mut [u8], journal: &mut [u32], tag: u32, d: u32) -> Answer
     ensures { λ r. ⌜ outcome r (now (table .exit)) (now (marks .exit)) (now (journal .exit))
-        ≡ splitCall n (now (table .entry)) (now (marks .entry)) (now (journal .entry)) d ⌝ }
+        ≡ splitCall n (now (table .entry)) (now (marks .entry)) (now (journal .entry)) tag d ⌝ }
 {
     let opened = answers::opening_layer(
         n,
@@ -83,6 +85,7 @@ pub fn split(n: u32, table: &mut [u32], marks: &mut [u8], journal: &mut [u32], d
             table,
             marks,
             journal,
+            tag,
             d,
             &mut queue,
             &mut fresh,
@@ -98,6 +101,7 @@ pub fn split(n: u32, table: &mut [u32], marks: &mut [u8], journal: &mut [u32], d
             table,
             marks,
             journal,
+            tag,
             d,
             &mut queue,
             &mut fresh,
@@ -112,6 +116,7 @@ pub fn split(n: u32, table: &mut [u32], marks: &mut [u8], journal: &mut [u32], d
         table,
         marks,
         journal,
+        tag,
         d,
         &mut queue,
         &mut fresh,

@@ -19,6 +19,7 @@ fn sew_with(
     n: u32,
     table: &mut [u32],
     journal: &mut [u32],
+    tag: u32,
     i: u32,
     d: u32,
     e: u32,
@@ -31,7 +32,7 @@ fn sew_with(
     requires { ⌜ (length (now marks) ≡ slots (now table)) × (length (now there) ≡ slots (now table)) ⌝ }
     requires { ⌜ (length (now back) ≡ slots (now table)) × (length (now queue) ≡ slots (now table)) ⌝ }
     ensures { λ r. ⌜ outcome r (now (table .exit)) [] (now (journal .exit))
-        ≡ sewCall n (now (table .entry)) (now (journal .entry)) i d e ⌝ }
+        ≡ sewCall n (now (table .entry)) (now (journal .entry)) tag i d e ⌝ }
 {
     if !reading::live(table, e) {
         return numbers::NOT_LIVE;
@@ -52,6 +53,7 @@ fn sew_with(
         n,
         table,
         journal,
+        tag,
         marks,
         there,
         back,
@@ -73,6 +75,7 @@ fn sew_in(
     n: u32,
     table: &mut [u32],
     journal: &mut [u32],
+    tag: u32,
     i: u32,
     d: u32,
     e: u32,
@@ -85,13 +88,14 @@ fn sew_in(
     requires { ⌜ (slots (now table) ≤ length (now marks)) × (slots (now table) ≤ length (now there)) ⌝ }
     requires { ⌜ (slots (now table) ≤ length (now back)) × (slots (now table) ≤ length (now queue)) ⌝ }
     ensures { λ r. ⌜ outcome r (now (table .exit)) [] (now (journal .exit))
-        ≡ sewCall n (now (table .entry)) (now (journal .entry)) i d e ⌝ }
+        ≡ sewCall n (now (table .entry)) (now (journal .entry)) tag i d e ⌝ }
 {
     let k = table.len() / 4;
     sew_with(
         n,
         table,
         journal,
+        tag,
         i,
         d,
         e,
@@ -103,9 +107,9 @@ fn sew_in(
 }
 
 // "Count: entries changed." A small table does not pay for clearing large buffers.
-pub fn sew(n: u32, table: &mut [u32], journal: &mut [u32], i: u32, d: u32, e: u32) -> Answer
+pub fn sew(n: u32, table: &mut [u32], journal: &mut [u32], tag: u32, i: u32, d: u32, e: u32) -> Answer
     ensures { λ r. ⌜ outcome r (now (table .exit)) [] (now (journal .exit))
-        ≡ sewCall n (now (table .entry)) (now (journal .entry)) i d e ⌝ }
+        ≡ sewCall n (now (table .entry)) (now (journal .entry)) tag i d e ⌝ }
 {
     let opened = answers::opening_side(n, table, reading::journal_fits(journal), i, d);
     if opened.number != 0 {
@@ -120,6 +124,7 @@ pub fn sew(n: u32, table: &mut [u32], journal: &mut [u32], i: u32, d: u32, e: u3
             n,
             table,
             journal,
+            tag,
             i,
             d,
             e,
@@ -138,6 +143,7 @@ pub fn sew(n: u32, table: &mut [u32], journal: &mut [u32], i: u32, d: u32, e: u3
             n,
             table,
             journal,
+            tag,
             i,
             d,
             e,
@@ -155,6 +161,7 @@ pub fn sew(n: u32, table: &mut [u32], journal: &mut [u32], i: u32, d: u32, e: u3
         n,
         table,
         journal,
+        tag,
         i,
         d,
         e,

@@ -43,7 +43,7 @@ same-length-2 c = search needs
 
 returns : tie.Need-returns
 unfolding layerChecks mapChecks
-returns c = handed-on (opening (c .before)) (c .if1 .taken) (split-refused _ _ _ _ _)
+returns c = handed-on (opening (c .before)) (c .if1 .taken) (split-refused _ _ _ _ _ _)
 
 slice-aggregate-split-in : tie.Need-slice-aggregate-split-in
 slice-aggregate-split-in c = search needs

@@ -62,7 +62,7 @@ same-length-4 c = search needs
 returns : tie.Need-returns
 returns c =
     let l = listed (c .before) in
-    split-crosses (sheeted (marked l)) (l .list-marked .ensures) (c .before .crosses .ensures) (c .if1 .taken)
+    split-crosses (sheeted (marked l)) (l .list-marked .ensures) _ (c .before .crosses .ensures) (c .if1 .taken)
 
 mul-darts : tie.Need-mul-darts
 mul-darts c =
@@ -97,7 +97,7 @@ returns-2 c =
     let e = uncrossed f in
     let l = listed (e .before) in
     split-few (sheeted (marked l)) (l .list-marked .ensures) (e .before .crosses .ensures) (e .if1 .left)
-    (f .list-unused .ensures) (c .if2 .taken)
+    (f .list-unused .ensures) _ (c .if2 .taken)
 
 commit-requires : tie.Need-commit-requires
 commit-requires c κs =
@@ -142,8 +142,8 @@ returns-3 c =
     split-no-room (sheeted (marked l)) (l .list-marked .ensures) (e .before .crosses .ensures) (e .if1 .left)
     (f .list-unused .ensures) (enough done .if2 .left) (done .commit .ensures) (not-true _ (c .if3 .taken))
 
-slice-read-t12 : tie.Need-slice-read-t12
-slice-read-t12 c =
+slice-read-t13 : tie.Need-slice-read-t13
+slice-read-t13 c =
     let done = c .before .before .before .before .before .before .before in
     let enough = enough done in
     let f = found enough in
@@ -214,7 +214,7 @@ split-in-spec =
     same-length-14
     same-length-15
     returns-3
-    slice-read-t12
+    slice-read-t13
     same-length-16
     same-length-17
     same-length-18

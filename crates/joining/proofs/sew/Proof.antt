@@ -41,7 +41,7 @@ same-length-2 c = search needs
 
 returns : tie.Need-returns
 unfolding sewChecks sidesChecks mapChecks
-returns c = handed-on (opening (c .before)) (c .if1 .taken) (operation-refused (sew-operates _ _ _ _ _ _))
+returns c = handed-on (opening (c .before)) (c .if1 .taken) (operation-refused (sew-operates _ _ _ _ _ _ _))
 
 slice-aggregate-sew-in : tie.Need-slice-aggregate-sew-in
 slice-aggregate-sew-in c = search needs

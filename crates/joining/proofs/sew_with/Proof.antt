@@ -87,7 +87,7 @@ same-length c = search needs
 returns : tie.Need-returns
 unfolding sewChecks sidesChecks mapChecks
 returns c =
-    operation-refused (sew-operates _ _ _ _ _ _)
+    operation-refused (sew-operates _ _ _ _ _ _ _)
     (out (opened (start (c .before))) (refuses _ 7 (dart-test _ _ (c .before .live .ensures)) (c .if1 .taken)))
 
 side-requires : tie.Need-side-requires
@@ -118,7 +118,7 @@ returns-2 : tie.Need-returns-2
 unfolding sewChecks sidesChecks mapChecks
 returns-2 c =
     let m = marked (c .before) in
-    operation-refused (sew-operates _ _ _ _ _ _)
+    operation-refused (sew-operates _ _ _ _ _ _ _)
     (out (dart (lives m)) (differ-refuses _ _ 9 (apart-test _ _ _ _ _ (m .side .ensures .marks)) (c .if2 .taken)))
 
 is-free-requires : tie.Need-is-free-requires
@@ -140,7 +140,7 @@ returns-3 : tie.Need-returns-3
 unfolding sewChecks sidesChecks mapChecks
 returns-3 c =
     let second = c .before in
-    operation-refused (sew-operates _ _ _ _ _ _)
+    operation-refused (sew-operates _ _ _ _ _ _ _)
     (out (apart (parted second))
     (refuses _ 10 (free-test _ _ _ _ (second .before .before .is-free .ensures) (second .is-free2 .ensures))
     (c .if3 .taken)))
@@ -178,7 +178,7 @@ returns-4 : tie.Need-returns-4
 unfolding sewChecks sidesChecks mapChecks
 returns-4 c =
     let pair = tested (c .before) in
-    operation-refused (sew-operates _ _ _ _ _ _)
+    operation-refused (sew-operates _ _ _ _ _ _ _)
     (out (free (freed pair)) (refuses _ 12 (pairing-test _ _ _ _ _ (pair .pair-sides .ensures)) (c .if4 .taken)))
 
 commit-requires : tie.Need-commit-requires
@@ -222,7 +222,7 @@ returns-5 c =
     let committed = c .before .before .before .before .before .before in
     let has = found committed in
     let sews = tested (has .before) .pair-sides .ensures .sews (not-false _ (has .if4 .left)) in
-    operation-full (sew-operates _ _ _ _ _ _) (all-passed _ (paired has .passed))
+    operation-full (sew-operates _ _ _ _ _ _ _) (all-passed _ (paired has .passed))
     (carried-same (edit-sew _ _ _ _ _ _ _ _ _ sews) (committed .commit .ensures)) (not-true _ (c .if5 .taken))
 
 same-length-19 : tie.Need-same-length-19
@@ -254,7 +254,7 @@ returns-6 c =
     let has = found committed in
     let sews = tested (has .before) .pair-sides .ensures .sews (not-false _ (has .if4 .left)) in
     let done = carried-same (edit-sew _ _ _ _ _ _ _ _ _ sews) (committed .commit .ensures) in
-    operation-done (sew-operates _ _ _ _ _ _) (all-passed _ (paired has .passed)) done
+    operation-done (sew-operates _ _ _ _ _ _ _) (all-passed _ (paired has .passed)) done
     (not-false _ (c .if5 .left)) refl (done .count (not-false _ (c .if5 .left)))
 
 pub sew-with-spec : {M : Type 1} → statement M

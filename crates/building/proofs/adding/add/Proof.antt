@@ -41,7 +41,7 @@ same-length-2 c = search needs
 
 returns : tie.Need-returns
 unfolding addChecks mapChecks
-returns c = handed-on (opening (c .before)) (c .if1 .taken) (operation-refused (add-operates _ _ _))
+returns c = handed-on (opening (c .before)) (c .if1 .taken) (operation-refused (add-operates _ _ _ _))
 
 slice-aggregate-add-in : tie.Need-slice-aggregate-add-in
 slice-aggregate-add-in c = search needs

@@ -65,7 +65,7 @@ unfolding addChecks mapChecks
 returns c =
     let listed = c .before .before .before .before in
     let size = sized listed in
-    operation-refused (add-operates _ _ _)
+    operation-refused (add-operates _ _ _ _)
     (out (map (start size))
     (equal-refuses _ _ 14 (room-test _ _ (size .cell-size .ensures) (listed .list-unused .ensures)) (c .if1 .taken)))
 
@@ -102,12 +102,12 @@ returns-2 c =
     let listed = passed .before .before .before .before in
     let size = sized listed .cell-size .ensures in
     let slots = listed .list-unused .ensures in
-    operation-full (add-operates _ _ _) (all-passed _ (room passed .passed))
+    operation-full (add-operates _ _ _ _) (all-passed _ (room passed .passed))
     (carried-same (listed-table _ _ size slots (passed .if1 .left) _ _) (committed .commit .ensures))
     (not-true _ (c .if2 .taken))
 
-array-read-t9 : tie.Need-array-read-t9
-array-read-t9 c = search needs
+array-read-t10 : tie.Need-array-read-t10
+array-read-t10 c = search needs
 
 same-length-6 : tie.Need-same-length-6
 same-length-6 c = search needs
@@ -127,7 +127,7 @@ returns-3 c =
     let size = sized listed .cell-size .ensures in
     let slots = listed .list-unused .ensures in
     let p = room passed .passed in
-    operation-done (add-operates _ _ _) (all-passed _ p)
+    operation-done (add-operates _ _ _ _) (all-passed _ p)
     (carried-same (listed-table _ _ size slots (passed .if1 .left) _ _) (committed .commit .ensures))
     (not-false _ (c .if2 .left)) (listed-first _ _ size slots (passed .if1 .left) (search)) size
 
@@ -148,7 +148,7 @@ add-in-spec =
     same-length-4
     same-length-5
     returns-2
-    array-read-t9
+    array-read-t10
     same-length-6
     same-length-7
     same-length-8

@@ -41,7 +41,7 @@ same-length-2 c = search needs
 
 returns : tie.Need-returns
 unfolding unsewChecks mapChecks
-returns c = handed-on (opening (c .before)) (c .if1 .taken) (operation-refused (unsew-operates _ _ _ _ _))
+returns c = handed-on (opening (c .before)) (c .if1 .taken) (operation-refused (unsew-operates _ _ _ _ _ _))
 
 slice-aggregate-unsew-in : tie.Need-slice-aggregate-unsew-in
 slice-aggregate-unsew-in c = search needs

@@ -46,7 +46,7 @@ same-length c = search needs
 returns : tie.Need-returns
 unfolding unsewChecks mapChecks
 returns c =
-    operation-refused (unsew-operates _ _ _ _ _)
+    operation-refused (unsew-operates _ _ _ _ _ _)
     (out (opened (start (c .before))) (clear-refuses _ 11 (sewn-test _ _ _ (c .before .is-free .ensures)) (c .if1 .taken)))
 
 side-requires : tie.Need-side-requires
@@ -77,7 +77,7 @@ unfolding unsewChecks mapChecks
 returns-2 c =
     let committed = c .before .before .before .before .before .before in
     let marked = committed .before .before .before .before .before .before .before .before .before in
-    operation-full (unsew-operates _ _ _ _ _) (all-passed _ (sewn (passed marked) .passed))
+    operation-full (unsew-operates _ _ _ _ _ _) (all-passed _ (sewn (passed marked) .passed))
     (carried-same (edit-unsew _ _ _ _ _ _ _ _ (marked .side .ensures .marks)) (committed .commit .ensures))
     (not-true _ (c .if2 .taken))
 
@@ -99,7 +99,7 @@ returns-3 c =
     let committed = c .before .before .before .before .before .before in
     let marked = committed .before .before .before .before .before .before .before .before .before in
     let done = carried-same (edit-unsew _ _ _ _ _ _ _ _ (marked .side .ensures .marks)) (committed .commit .ensures) in
-    operation-done (unsew-operates _ _ _ _ _) (all-passed _ (sewn (passed marked) .passed)) done
+    operation-done (unsew-operates _ _ _ _ _ _) (all-passed _ (sewn (passed marked) .passed)) done
     (not-false _ (c .if2 .left)) refl (done .count (not-false _ (c .if2 .left)))
 
 pub unsew-with-spec : {M : Type 1} → statement M

@@ -43,7 +43,7 @@ same-length-2 c = search needs
 
 returns : tie.Need-returns
 unfolding layerChecks mapChecks
-returns c = handed-on (opening (c .before)) (c .if1 .taken) (remove-refused _ _ _ _ _)
+returns c = handed-on (opening (c .before)) (c .if1 .taken) (remove-refused _ _ _ _ _ _)
 
 slice-aggregate-remove-in : tie.Need-slice-aggregate-remove-in
 slice-aggregate-remove-in c = search needs

@@ -46,7 +46,7 @@ same-length-4 c = search needs
 returns : tie.Need-returns
 returns c =
     let done = c .before .before .before .before .before .before in
-    remove-no-room (sheeted (marked done)) _ _ _ (done .commit .ensures) (not-true _ (c .if1 .taken))
+    remove-no-room (sheeted (marked done)) _ _ _ _ (done .commit .ensures) (not-true _ (c .if1 .taken))
 
 same-length-5 : tie.Need-same-length-5
 same-length-5 c = search needs
@@ -64,7 +64,7 @@ returns-2 : tie.Need-returns-2
 returns-2 c =
     let done = c .before .before .before .before .before .before in
     let count = done .before .before .before .before .before .count-marked .ensures in
-    remove-done (sheeted (marked done)) _ _ _ (done .commit .ensures) count (not-false _ (c .if1 .left))
+    remove-done (sheeted (marked done)) _ _ _ _ (done .commit .ensures) count (not-false _ (c .if1 .left))
 
 pub remove-in-spec : {M : Type 1} → statement M
 remove-in-spec =
