@@ -32,7 +32,18 @@ fn add_in(n: u32, table: &mut [u32], journal: &mut [u32], tag: u32, rank: &mut [
     if layers::list_unused(table, &mut fresh, rank, size) != size {
         return numbers::TOO_FEW_SLOTS;
     }
-    let committed = edits::commit(Edit::Add, n, table, journal, tag, b"", &fresh, rank, rank, size);
+    let committed = edits::commit(
+        Edit::Add,
+        n,
+        table,
+        journal,
+        tag,
+        b"",
+        &fresh,
+        rank,
+        rank,
+        size,
+    );
     if !committed.fits {
         return numbers::NO_ROOM;
     }

@@ -72,7 +72,16 @@ fn unsew_in(
         ≡ unsewCall n (now (table .entry)) (now (journal .entry)) tag i d ⌝ }
 {
     let k = table.len() / 4;
-    unsew_with(n, table, journal, tag, i, d, &mut marks[..k], &mut queue[..k])
+    unsew_with(
+        n,
+        table,
+        journal,
+        tag,
+        i,
+        d,
+        &mut marks[..k],
+        &mut queue[..k],
+    )
 }
 
 // "Count: entries changed." A small table does not pay for clearing large buffers.

@@ -65,7 +65,14 @@ fn remove_in(
 }
 
 // "cells with marks 1 or 2 become unused." "Count: darts removed." A small table does not pay for a queue of 65,536 words.
-pub fn remove(n: u32, table: &mut [u32], marks: &mut [u8], journal: &mut [u32], tag: u32, d: u32) -> Answer
+pub fn remove(
+    n: u32,
+    table: &mut [u32],
+    marks: &mut [u8],
+    journal: &mut [u32],
+    tag: u32,
+    d: u32,
+) -> Answer
     ensures { λ r. ⌜ outcome r (now (table .exit)) (now (marks .exit)) (now (journal .exit))
         ≡ removeCall n (now (table .entry)) (now (marks .entry)) (now (journal .entry)) tag d ⌝ }
 {

@@ -62,7 +62,14 @@ fn split_in(
 
 // "each g in S, rising, gets new darts a, b (for n = 3 also c) in the lowest unused slots in that order." "Place: first new
 // slot. Count: darts added." A small table does not pay for buffers of 65,536 words.
-pub fn split(n: u32, table: &mut [u32], marks: &mut [u8], journal: &mut [u32], tag: u32, d: u32) -> Answer
+pub fn split(
+    n: u32,
+    table: &mut [u32],
+    marks: &mut [u8],
+    journal: &mut [u32],
+    tag: u32,
+    d: u32,
+) -> Answer
     ensures { λ r. ⌜ outcome r (now (table .exit)) (now (marks .exit)) (now (journal .exit))
         ≡ splitCall n (now (table .entry)) (now (marks .entry)) (now (journal .entry)) tag d ⌝ }
 {

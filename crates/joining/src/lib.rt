@@ -107,7 +107,15 @@ fn sew_in(
 }
 
 // "Count: entries changed." A small table does not pay for clearing large buffers.
-pub fn sew(n: u32, table: &mut [u32], journal: &mut [u32], tag: u32, i: u32, d: u32, e: u32) -> Answer
+pub fn sew(
+    n: u32,
+    table: &mut [u32],
+    journal: &mut [u32],
+    tag: u32,
+    i: u32,
+    d: u32,
+    e: u32,
+) -> Answer
     ensures { λ r. ⌜ outcome r (now (table .exit)) [] (now (journal .exit))
         ≡ sewCall n (now (table .entry)) (now (journal .entry)) tag i d e ⌝ }
 {

@@ -15,7 +15,7 @@ use Rattle.model.specs.Calls.{Outcome}
 use Rattle.model.specs.Runs.{doCall}
 use Rattle.model.specs.Meaning.Worked.{begin}
 use Rattle.model.specs.Text.{bytes, newline, begins, number, upTo, said}
-use Rattle.model.specs.Session.{callOf, behind, reads, left, taken, answered, printed, ending, bad, closing}
+use Rattle.model.specs.Session.{callOf, sessionTag, behind, reads, left, taken, answered, printed, ending, bad, closing}
 use Rattle.model.proofs.Lists.Scan.{test, clash}
 use Rattle.answers.specs.declared.Answer.{Answer}
 use Rattle.answers.specs.Answers.{outcome}
@@ -158,7 +158,7 @@ module _ (s : Session) (v : ℕ) (t m j : List ℕ) where
 
   pub noted-request : (t′ m′ j′ : List ℕ) (r : Answer) → s .key ≡ E
       → outcome r (take (4 * s .slots) t′) (take (s .slots) m′) j′
-      ≡ doCall (s .n) (lent (s .slots) t m j) (callOf (s .op) (s .i) (s .d) v)
+      ≡ doCall (s .n) (lent (s .slots) t m j) (callOf (s .op) sessionTag (s .i) (s .d) v)
       → (before : List ℕ) (at : ℕ) (after : List ℕ) (end : ℕ) → Appended before at (answered (outcome r [] [] [])) after end
       → end ≤ at + 75 → Noted s v t m j t′ m′ j′ before at after end
   unfolding notedAt dueAt taken printed left answered

@@ -4,7 +4,7 @@ ghost use Prim.Native.Nat.{_+_, _*_, _<_, _≤_};
 ghost use lib.ListN.{length, take, replicate};
 ghost use Rattle.model.specs.Runs.{doCall};
 ghost use Rattle.model.specs.Meaning.Worked.{begin};
-ghost use Rattle.model.specs.Session.{callOf};
+ghost use Rattle.model.specs.Session.{callOf, sessionTag};
 ghost use Rattle.answers.specs.Answers.{outcome};
 ghost use Rattle.lines.specs.Held.{lent, due, notedAt, Fits, Noted};
 use crate::Key;
@@ -56,13 +56,16 @@ fn fresh(slots: usize, table: &mut [u32], marks: &mut [u8], journal: &mut [u32])
 
 // ---- a request
 
+// The tag of a session's operations.
+const SESSION_TAG: u32 = 0;
+
 // Runs the request whose `e=` is e.
 fn ask(s: Session, e: u32, table: &mut [u32], marks: &mut [u8], journal: &mut [u32]) -> Answer
     requires { ⌜ (3840 ≤ length (now table)) × (960 ≤ length (now marks)) × (s .slots ≤ 960) ⌝ }
     ensures { λ r. ⌜ outcome r (take (4 * s .slots) (now (table .exit))) (take (s .slots) (now (marks .exit)))
         (now (journal .exit))
         ≡ doCall (s .n) (lent (s .slots) (now (table .entry)) (now (marks .entry)) (now (journal .entry)))
-        (callOf (s .op) (s .i) (s .d) e) ⌝ }
+        (callOf (s .op) sessionTag (s .i) (s .d) e) ⌝ }
 {
     let slots = s.slots;
     let end = 4 * slots;
@@ -72,6 +75,7 @@ fn ask(s: Session, e: u32, table: &mut [u32], marks: &mut [u8], journal: &mut [u
         &mut marks[..slots],
         journal,
         s.op,
+        SESSION_TAG,
         s.i,
         s.d,
         e,

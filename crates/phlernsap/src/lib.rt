@@ -60,13 +60,14 @@ pub extern "C" fn phl_add(
     n: u32,
     table: &mut [u32],
     journal: &mut [u32],
+    tag: u32,
     place: &mut u32,
     count: &mut u32,
 ) -> u32
     ensures { λ r. ⌜ given r (now (place .exit)) (now (count .exit)) (now (table .exit)) [] (now (journal .exit))
-        ≡ addCall n (now (table .entry)) (now (journal .entry)) ⌝ }
+        ≡ addCall n (now (table .entry)) (now (journal .entry)) tag ⌝ }
 {
-    give(kernel::add(n, table, journal), place, count)
+    give(kernel::add(n, table, journal, tag), place, count)
 }
 
 #[no_mangle]
@@ -74,6 +75,7 @@ pub extern "C" fn phl_sew(
     n: u32,
     table: &mut [u32],
     journal: &mut [u32],
+    tag: u32,
     i: u32,
     d: u32,
     e: u32,
@@ -81,9 +83,9 @@ pub extern "C" fn phl_sew(
     count: &mut u32,
 ) -> u32
     ensures { λ r. ⌜ given r (now (place .exit)) (now (count .exit)) (now (table .exit)) [] (now (journal .exit))
-        ≡ sewCall n (now (table .entry)) (now (journal .entry)) i d e ⌝ }
+        ≡ sewCall n (now (table .entry)) (now (journal .entry)) tag i d e ⌝ }
 {
-    give(kernel::sew(n, table, journal, i, d, e), place, count)
+    give(kernel::sew(n, table, journal, tag, i, d, e), place, count)
 }
 
 #[no_mangle]
@@ -91,15 +93,16 @@ pub extern "C" fn phl_unsew(
     n: u32,
     table: &mut [u32],
     journal: &mut [u32],
+    tag: u32,
     i: u32,
     d: u32,
     place: &mut u32,
     count: &mut u32,
 ) -> u32
     ensures { λ r. ⌜ given r (now (place .exit)) (now (count .exit)) (now (table .exit)) [] (now (journal .exit))
-        ≡ unsewCall n (now (table .entry)) (now (journal .entry)) i d ⌝ }
+        ≡ unsewCall n (now (table .entry)) (now (journal .entry)) tag i d ⌝ }
 {
-    give(kernel::unsew(n, table, journal, i, d), place, count)
+    give(kernel::unsew(n, table, journal, tag, i, d), place, count)
 }
 
 #[no_mangle]
@@ -108,14 +111,19 @@ pub extern "C" fn phl_remove(
     table: &mut [u32],
     marks: &mut [u8],
     journal: &mut [u32],
+    tag: u32,
     d: u32,
     place: &mut u32,
     count: &mut u32,
 ) -> u32
     ensures { λ r. ⌜ given r (now (place .exit)) (now (count .exit)) (now (table .exit)) (now (marks .exit)) (now (journal .exit))
-        ≡ removeCall n (now (table .entry)) (now (marks .entry)) (now (journal .entry)) d ⌝ }
+        ≡ removeCall n (now (table .entry)) (now (marks .entry)) (now (journal .entry)) tag d ⌝ }
 {
-    give(kernel::remove(n, table, marks, journal, d), place, count)
+    give(
+        kernel::remove(n, table, marks, journal, tag, d),
+        place,
+        count,
+    )
 }
 
 #[no_mangle]
@@ -124,14 +132,19 @@ pub extern "C" fn phl_split(
     table: &mut [u32],
     marks: &mut [u8],
     journal: &mut [u32],
+    tag: u32,
     d: u32,
     place: &mut u32,
     count: &mut u32,
 ) -> u32
     ensures { λ r. ⌜ given r (now (place .exit)) (now (count .exit)) (now (table .exit)) (now (marks .exit)) (now (journal .exit))
-        ≡ splitCall n (now (table .entry)) (now (marks .entry)) (now (journal .entry)) d ⌝ }
+        ≡ splitCall n (now (table .entry)) (now (marks .entry)) (now (journal .entry)) tag d ⌝ }
 {
-    give(kernel::split(n, table, marks, journal, d), place, count)
+    give(
+        kernel::split(n, table, marks, journal, tag, d),
+        place,
+        count,
+    )
 }
 
 #[no_mangle]

@@ -22,17 +22,17 @@ module _ (r : Answer) (t m j : List ℕ) {o : Outcome} where
   unfolding keeping
   keeps-journal e = ap (λ o. keeping o (o .marks) j) e
 
-pub call-check : (p i d e : ℕ) → p ≢ 1 → p ≢ 2 → p ≢ 3 → p ≢ 4 → p ≢ 5 → p ≢ 6 → p ≢ 7 → p ≢ 8 → p ≢ 9
-    → callOf p i d e ≡ Call.check
+pub call-check : (p tag i d e : ℕ) → p ≢ 1 → p ≢ 2 → p ≢ 3 → p ≢ 4 → p ≢ 5 → p ≢ 6 → p ≢ 7 → p ≢ 8 → p ≢ 9
+    → callOf p tag i d e ≡ Call.check
 unfolding callOf calls
-call-check zero i d e a b c f g h k l m = refl
-call-check (suc zero) i d e a b c f g h k l m = absurd (a refl)
-call-check (suc (suc zero)) i d e a b c f g h k l m = absurd (b refl)
-call-check (suc (suc (suc zero))) i d e a b c f g h k l m = absurd (c refl)
-call-check (suc (suc (suc (suc zero)))) i d e a b c f g h k l m = absurd (f refl)
-call-check (suc (suc (suc (suc (suc zero))))) i d e a b c f g h k l m = absurd (g refl)
-call-check (suc (suc (suc (suc (suc (suc zero)))))) i d e a b c f g h k l m = absurd (h refl)
-call-check (suc (suc (suc (suc (suc (suc (suc zero))))))) i d e a b c f g h k l m = absurd (k refl)
-call-check (suc (suc (suc (suc (suc (suc (suc (suc zero)))))))) i d e a b c f g h k l m = absurd (l refl)
-call-check (suc (suc (suc (suc (suc (suc (suc (suc (suc zero))))))))) i d e a b c f g h k l m = absurd (m refl)
-call-check (suc (suc (suc (suc (suc (suc (suc (suc (suc (suc p)))))))))) i d e a b c f g h k l m = refl
+call-check zero tag i d e a b c f g h k l m = refl
+call-check (suc zero) tag i d e a b c f g h k l m = absurd (a refl)
+call-check (suc (suc zero)) tag i d e a b c f g h k l m = absurd (b refl)
+call-check (suc (suc (suc zero))) tag i d e a b c f g h k l m = absurd (c refl)
+call-check (suc (suc (suc (suc zero)))) tag i d e a b c f g h k l m = absurd (f refl)
+call-check (suc (suc (suc (suc (suc zero))))) tag i d e a b c f g h k l m = absurd (g refl)
+call-check (suc (suc (suc (suc (suc (suc zero)))))) tag i d e a b c f g h k l m = absurd (h refl)
+call-check (suc (suc (suc (suc (suc (suc (suc zero))))))) tag i d e a b c f g h k l m = absurd (k refl)
+call-check (suc (suc (suc (suc (suc (suc (suc (suc zero)))))))) tag i d e a b c f g h k l m = absurd (l refl)
+call-check (suc (suc (suc (suc (suc (suc (suc (suc (suc zero))))))))) tag i d e a b c f g h k l m = absurd (m refl)
+call-check (suc (suc (suc (suc (suc (suc (suc (suc (suc (suc p)))))))))) tag i d e a b c f g h k l m = refl

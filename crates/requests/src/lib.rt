@@ -6,28 +6,29 @@ ghost use Rattle.answers.specs.Answers.{outcome};
 ghost use Rattle.requests.specs.Asked.{lentTo};
 use answers::Answer;
 
-// The call whose op has this place among the names: "i holds the index or mask".
+// The call whose op has this place among the names: "i holds the index or mask". An operation's record has the tag.
 pub fn request(
     n: u32,
     table: &mut [u32],
     marks: &mut [u8],
     journal: &mut [u32],
     op: u32,
+    tag: u32,
     i: u32,
     d: u32,
     e: u32,
 ) -> Answer
     ensures { λ r. ⌜ outcome r (now (table .exit)) (now (marks .exit)) (now (journal .exit))
-        ≡ doCall n (lentTo (now (table .entry)) (now (marks .entry)) (now (journal .entry))) (callOf op i d e) ⌝ }
+        ≡ doCall n (lentTo (now (table .entry)) (now (marks .entry)) (now (journal .entry))) (callOf op tag i d e) ⌝ }
 {
     match op {
         1 => kernel::orbit(n, table, marks, i, d),
         2 => kernel::sheet(n, table, marks, d),
-        3 => kernel::add(n, table, journal),
-        4 => kernel::sew(n, table, journal, i, d, e),
-        5 => kernel::unsew(n, table, journal, i, d),
-        6 => kernel::remove(n, table, marks, journal, d),
-        7 => kernel::split(n, table, marks, journal, d),
+        3 => kernel::add(n, table, journal, tag),
+        4 => kernel::sew(n, table, journal, tag, i, d, e),
+        5 => kernel::unsew(n, table, journal, tag, i, d),
+        6 => kernel::remove(n, table, marks, journal, tag, d),
+        7 => kernel::split(n, table, marks, journal, tag, d),
         8 => kernel::undo(n, table, journal),
         9 => kernel::redo(n, table, journal),
         _ => kernel::check(n, table),

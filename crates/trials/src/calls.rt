@@ -47,7 +47,7 @@ fn asked(row: Row) -> Row {
 fn lend(s: Stage, row: Row, table: &mut [u32], journal: &mut [u32]) {
     let mut marks = [9u8; 65537];
     let slots = few(&marks, s.marks);
-    ask(s.n, row, table, &mut marks[..slots], journal);
+    ask(s.n, s.tag, row, table, &mut marks[..slots], journal);
 }
 
 // So many marks; if there are not so many, a question mark and none.
@@ -61,8 +61,8 @@ fn few(marks: &[u8], most: usize) -> usize
     0
 }
 
-fn ask(n: u32, row: Row, table: &mut [u32], marks: &mut [u8], journal: &mut [u32]) {
-    let a = requests::request(n, table, marks, journal, row.kind, row.a, row.b, row.c);
+fn ask(n: u32, tag: u32, row: Row, table: &mut [u32], marks: &mut [u8], journal: &mut [u32]) {
+    let a = requests::request(n, table, marks, journal, row.kind, tag, row.a, row.b, row.c);
     shows::answer(a.number, a.place, a.count);
     left(row.kind, table, marks, journal);
 }

@@ -36,18 +36,20 @@ pub const LEND: u32 = 20;
 
 pub const DIM: u32 = 21;
 
-pub const UNKNOWN: u32 = 22;
+pub const TAG: u32 = 22;
 
-pub const REMARK: u32 = 23;
+pub const UNKNOWN: u32 = 23;
+
+pub const REMARK: u32 = 24;
 
 // No line, but the script's end.
-pub const END: u32 = 24;
+pub const END: u32 = 25;
 
 // The first words, each with the digit of how many numbers there are.
 fn names(k: usize) -> u8 {
     let all =
-        b"check0 orbit2 sheet1 add0 sew3 unsew2 remove1 split1 undo0 redo0 undo2 redo2 links1 table0 words2 put3 write2 fill3 tile2 scene3 lend3 dim1 ";
-    if k < 140 { all[k] } else { b' ' }
+        b"check0 orbit2 sheet1 add0 sew3 unsew2 remove1 split1 undo0 redo0 undo2 redo2 links1 table0 words2 put3 write2 fill3 tile2 scene3 lend3 dim1 tag1 ";
+    if k < 145 { all[k] } else { b' ' }
 }
 
 // What a line does, and the last three of its numbers.
@@ -148,7 +150,7 @@ fn place(name: u64) -> u32 {
         name: 0,
         found: UNKNOWN,
     };
-    for k in 0..140 {
+    for k in 0..145 {
         search = further(search, name, names(k));
     }
     search.found

@@ -1,4 +1,4 @@
-// The stage: the dimension that calls are given, and how much of the buffers is lent to them.
+// The stage: the dimension that calls are given, how much of the buffers is lent to them, and the tag of operations.
 use crate::lines;
 use crate::lines::Row;
 
@@ -7,6 +7,7 @@ pub struct Stage {
     pub entries: usize,
     pub marks: usize,
     pub words: usize,
+    pub tag: u32,
 }
 
 pub const EMPTY: Stage = Stage {
@@ -14,6 +15,7 @@ pub const EMPTY: Stage = Stage {
     entries: 0,
     marks: 0,
     words: 0,
+    tag: 0,
 };
 
 const UNUSED: u32 = 4294967295;
@@ -27,18 +29,28 @@ pub fn next(s: Stage, row: Row) -> Stage {
             entries: entry(row.b, 0),
             marks: row.b as usize,
             words: row.c as usize,
+            tag: 0,
         },
         lines::LEND => Stage {
             n: s.n,
             entries: row.a as usize,
             marks: row.b as usize,
             words: row.c as usize,
+            tag: s.tag,
         },
         lines::DIM => Stage {
             n: row.c,
             entries: s.entries,
             marks: s.marks,
             words: s.words,
+            tag: s.tag,
+        },
+        lines::TAG => Stage {
+            n: s.n,
+            entries: s.entries,
+            marks: s.marks,
+            words: s.words,
+            tag: row.c,
         },
         _ => s,
     }

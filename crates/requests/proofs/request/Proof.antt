@@ -158,7 +158,7 @@ unfolding doCall
 returns-10 c =
     let r = c .before .before .match .rest in
     let p = c .before .before .before .before .before .before in
-    rw (call-check (p .args .op) (p .args .i) (p .args .d) (p .args .e) (r .0 .0 .0 .0 .0 .0 .0 .0 .1) (r .0 .0 .0 .0 .0 .0 .0 .1) (r .0 .0 .0 .0 .0 .0 .1) (r .0 .0 .0 .0 .0 .1) (r .0 .0 .0 .0 .1) (r .0 .0 .0 .1) (r .0 .0 .1) (r .0 .1) (r .1)) (keeps-both _ _ _ _ (c .check .ensures))
+    rw (call-check (p .args .op) (p .args .tag) (p .args .i) (p .args .d) (p .args .e) (r .0 .0 .0 .0 .0 .0 .0 .0 .1) (r .0 .0 .0 .0 .0 .0 .0 .1) (r .0 .0 .0 .0 .0 .0 .1) (r .0 .0 .0 .0 .0 .1) (r .0 .0 .0 .0 .1) (r .0 .0 .0 .1) (r .0 .0 .1) (r .0 .1) (r .1)) (keeps-both _ _ _ _ (c .check .ensures))
 
 pub request-spec : {M : Type 1} → statement M
 request-spec =
