@@ -26,7 +26,7 @@ typedef struct {
     size_t marks_len;
     uint32_t *journal;
     size_t journal_len;
-    uint32_t i, mask, d, e;
+    uint32_t i, mask, d, e, tag;
 } request;
 
 /* Defines NAME, which runs a request on the implementation of that prefix. The place and the
@@ -44,20 +44,20 @@ typedef struct {
             return PREFIX##sheet(q->n, q->table, q->table_len, q->marks, q->marks_len, q->d,      \
                                  place, count);                                                   \
         case ADD:                                                                                 \
-            return PREFIX##add(q->n, q->table, q->table_len, q->journal, q->journal_len, place,   \
-                               count);                                                            \
+            return PREFIX##add(q->n, q->table, q->table_len, q->journal, q->journal_len, q->tag,  \
+                               place, count);                                                     \
         case SEW:                                                                                 \
-            return PREFIX##sew(q->n, q->table, q->table_len, q->journal, q->journal_len, q->i,    \
-                               q->d, q->e, place, count);                                         \
+            return PREFIX##sew(q->n, q->table, q->table_len, q->journal, q->journal_len, q->tag,  \
+                               q->i, q->d, q->e, place, count);                                   \
         case UNSEW:                                                                               \
-            return PREFIX##unsew(q->n, q->table, q->table_len, q->journal, q->journal_len, q->i,  \
-                                 q->d, place, count);                                             \
+            return PREFIX##unsew(q->n, q->table, q->table_len, q->journal, q->journal_len,        \
+                                 q->tag, q->i, q->d, place, count);                               \
         case REMOVE:                                                                              \
             return PREFIX##remove(q->n, q->table, q->table_len, q->marks, q->marks_len,           \
-                                  q->journal, q->journal_len, q->d, place, count);                \
+                                  q->journal, q->journal_len, q->tag, q->d, place, count);        \
         case SPLIT:                                                                               \
             return PREFIX##split(q->n, q->table, q->table_len, q->marks, q->marks_len,            \
-                                 q->journal, q->journal_len, q->d, place, count);                 \
+                                 q->journal, q->journal_len, q->tag, q->d, place, count);         \
         case UNDO:                                                                                \
             return PREFIX##undo(q->n, q->table, q->table_len, q->journal, q->journal_len, place,  \
                                 count);                                                           \

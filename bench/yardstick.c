@@ -598,17 +598,18 @@ uint32_t YARD(sheet)(uint32_t n, const uint32_t *table, size_t table_len,
 
 /* ---------------------------------------------------------------- records */
 
-/* Begins a record of k triples at the cursor: writes its counts, moves cursor and end behind it
- * and gives the place of the first triple; NULL if there is no room (15). */
-static uint32_t *begin_record(uint32_t *journal, size_t journal_len, uint32_t k)
+/* Begins a record of k triples at the cursor: writes its counts and its tag, moves cursor and end
+ * behind it and gives the place of the first triple; NULL if there is no room (15). */
+static uint32_t *begin_record(uint32_t *journal, size_t journal_len, uint32_t tag, uint32_t k)
 {
-    uint32_t words = 3 * k + 2;
+    uint32_t words = 3 * k + 3;
     uint32_t cursor = journal[0];
     if (words > journal_len - cursor)
         return NULL;
     journal[0] = journal[1] = cursor + words;
     journal[cursor] = journal[cursor + words - 1] = k;
-    return journal + cursor + 1;
+    journal[cursor + 1] = tag;
+    return journal + cursor + 2;
 }
 
 INLINE uint32_t *put(uint32_t *restrict at, uint32_t entry, uint32_t old, uint32_t new)
@@ -639,14 +640,15 @@ INLINE uint32_t *put_old_row(uint32_t *restrict at, const uint32_t *restrict tab
 
 /* ---------------------------------------------------------------- add */
 
-INLINE answer add_in(int n, uint32_t *table, uint32_t slots, uint32_t *journal, size_t journal_len)
+INLINE answer add_in(int n, uint32_t *table, uint32_t slots, uint32_t *journal, size_t journal_len,
+                     uint32_t tag)
 {
     uint32_t slot[48], found = 0;
     if (!map_ok_in(n, table, slots, slot, CELL(n), &found))
         return not_a_map((uint32_t)n, table, slots);
     if (found < CELL(n))
         return refuse(14);
-    uint32_t *at = begin_record(journal, journal_len, 4 * CELL(n));
+    uint32_t *at = begin_record(journal, journal_len, tag, 4 * CELL(n));
     if (!at)
         return refuse(15);
     for (uint32_t k = 0; k < CELL(n); k++) {
@@ -659,7 +661,8 @@ INLINE answer add_in(int n, uint32_t *table, uint32_t slots, uint32_t *journal, 
 }
 
 uint32_t YARD(add)(uint32_t n, uint32_t *table, size_t table_len,
-                   uint32_t *journal, size_t journal_len, uint32_t *place, uint32_t *count)
+                   uint32_t *journal, size_t journal_len, uint32_t tag,
+                   uint32_t *place, uint32_t *count)
 {
     uint32_t no = gate(n, table_len);
     if (!no && !journal_fits(journal, journal_len))
@@ -667,8 +670,8 @@ uint32_t YARD(add)(uint32_t n, uint32_t *table, size_t table_len,
     if (no)
         return give(refuse(no), place, count);
     uint32_t slots = (uint32_t)(table_len / 4);
-    return give(n == 3 ? add_in(3, table, slots, journal, journal_len)
-                       : add_in(2, table, slots, journal, journal_len), place, count);
+    return give(n == 3 ? add_in(3, table, slots, journal, journal_len, tag)
+                       : add_in(2, table, slots, journal, journal_len, tag), place, count);
 }
 
 /* ---------------------------------------------------------------- sew, unsew */
@@ -753,7 +756,8 @@ static uint32_t rising(uint32_t size, uint32_t slots)
 }
 
 static answer sew(uint32_t n, uint32_t *table, size_t table_len,
-                  uint32_t *journal, size_t journal_len, uint32_t i, uint32_t d, uint32_t e)
+                  uint32_t *journal, size_t journal_len, uint32_t tag,
+                  uint32_t i, uint32_t d, uint32_t e)
 {
     uint32_t no = gate(n, table_len);
     if (no)
@@ -780,7 +784,7 @@ static answer sew(uint32_t n, uint32_t *table, size_t table_len,
     if (!paired)
         return refuse(12);
     /* e is not in d's side, so the sides are disjoint; d and e are i-free, so all of them are. */
-    uint32_t *at = begin_record(journal, journal_len, 2 * size);
+    uint32_t *at = begin_record(journal, journal_len, tag, 2 * size);
     if (!at)
         return refuse(15);
     for (uint32_t p = 0; p < size; p++) {
@@ -794,14 +798,14 @@ static answer sew(uint32_t n, uint32_t *table, size_t table_len,
 }
 
 uint32_t YARD(sew)(uint32_t n, uint32_t *table, size_t table_len,
-                   uint32_t *journal, size_t journal_len, uint32_t i, uint32_t d, uint32_t e,
-                   uint32_t *place, uint32_t *count)
+                   uint32_t *journal, size_t journal_len, uint32_t tag,
+                   uint32_t i, uint32_t d, uint32_t e, uint32_t *place, uint32_t *count)
 {
-    return give(sew(n, table, table_len, journal, journal_len, i, d, e), place, count);
+    return give(sew(n, table, table_len, journal, journal_len, tag, i, d, e), place, count);
 }
 
 static answer unsew(uint32_t n, uint32_t *table, size_t table_len,
-                    uint32_t *journal, size_t journal_len, uint32_t i, uint32_t d)
+                    uint32_t *journal, size_t journal_len, uint32_t tag, uint32_t i, uint32_t d)
 {
     uint32_t no = gate(n, table_len);
     if (no)
@@ -825,7 +829,7 @@ static answer unsew(uint32_t n, uint32_t *table, size_t table_len,
     /* d is not i-free, so no dart of its side is: every listed entry changes. A side may be
      * its own partner, and then each dart is listed once. */
     uint32_t len = rising(size, slots);
-    uint32_t *at = begin_record(journal, journal_len, len);
+    uint32_t *at = begin_record(journal, journal_len, tag, len);
     if (!at)
         return refuse(15);
     for (uint32_t x = 0; x < len; x++) {
@@ -837,16 +841,16 @@ static answer unsew(uint32_t n, uint32_t *table, size_t table_len,
 }
 
 uint32_t YARD(unsew)(uint32_t n, uint32_t *table, size_t table_len,
-                     uint32_t *journal, size_t journal_len, uint32_t i, uint32_t d,
-                     uint32_t *place, uint32_t *count)
+                     uint32_t *journal, size_t journal_len, uint32_t tag,
+                     uint32_t i, uint32_t d, uint32_t *place, uint32_t *count)
 {
-    return give(unsew(n, table, table_len, journal, journal_len, i, d), place, count);
+    return give(unsew(n, table, table_len, journal, journal_len, tag, i, d), place, count);
 }
 
 /* ---------------------------------------------------------------- remove */
 
 INLINE answer remove_in(int n, uint32_t *restrict table, uint32_t slots, uint8_t *restrict marks,
-                        uint32_t *restrict journal, size_t journal_len, uint32_t d)
+                        uint32_t *restrict journal, size_t journal_len, uint32_t tag, uint32_t d)
 {
     answer a = sheet_gate(n, table, slots, d);
     if (a.no)
@@ -859,7 +863,7 @@ INLINE answer remove_in(int n, uint32_t *restrict table, uint32_t slots, uint8_t
         removed += marks[x] == 1 || marks[x] == 2;
         edge += marks[x] == 3;
     }
-    uint32_t *rec = begin_record(journal, journal_len, 4 * removed + edge);
+    uint32_t *rec = begin_record(journal, journal_len, tag, 4 * removed + edge);
     if (!rec)
         return refuse(15);
 
@@ -928,7 +932,7 @@ INLINE void set_row(uint32_t *table, uint32_t d, uint32_t l0, uint32_t l1, uint3
 }
 
 INLINE answer split_in(int n, uint32_t *restrict table, uint32_t slots, uint8_t *restrict marks,
-                       uint32_t *restrict journal, size_t journal_len, uint32_t d)
+                       uint32_t *restrict journal, size_t journal_len, uint32_t tag, uint32_t d)
 {
     answer gated = sheet_gate(n, table, slots, d);
     if (gated.no)
@@ -939,7 +943,7 @@ INLINE answer split_in(int n, uint32_t *restrict table, uint32_t slots, uint8_t 
     uint32_t need = NEW(n) * s.size;
     if (find_fresh(slots, need) < need)
         return refuse(14);
-    uint32_t *rec = begin_record(journal, journal_len, s.size * (1 + 4 * NEW(n)));
+    uint32_t *rec = begin_record(journal, journal_len, tag, s.size * (1 + 4 * NEW(n)));
     if (!rec)
         return refuse(15);
 
@@ -995,26 +999,26 @@ static uint32_t layer_gate(uint32_t n, size_t table_len, size_t marks_len,
 
 uint32_t YARD(remove)(uint32_t n, uint32_t *table, size_t table_len,
                       uint8_t *marks, size_t marks_len, uint32_t *journal, size_t journal_len,
-                      uint32_t d, uint32_t *place, uint32_t *count)
+                      uint32_t tag, uint32_t d, uint32_t *place, uint32_t *count)
 {
     uint32_t no = layer_gate(n, table_len, marks_len, journal, journal_len);
     if (no)
         return give(refuse(no), place, count);
     uint32_t slots = (uint32_t)marks_len;
-    return give(n == 3 ? remove_in(3, table, slots, marks, journal, journal_len, d)
-                       : remove_in(2, table, slots, marks, journal, journal_len, d), place, count);
+    return give(n == 3 ? remove_in(3, table, slots, marks, journal, journal_len, tag, d)
+                       : remove_in(2, table, slots, marks, journal, journal_len, tag, d), place, count);
 }
 
 uint32_t YARD(split)(uint32_t n, uint32_t *table, size_t table_len,
                      uint8_t *marks, size_t marks_len, uint32_t *journal, size_t journal_len,
-                     uint32_t d, uint32_t *place, uint32_t *count)
+                     uint32_t tag, uint32_t d, uint32_t *place, uint32_t *count)
 {
     uint32_t no = layer_gate(n, table_len, marks_len, journal, journal_len);
     if (no)
         return give(refuse(no), place, count);
     uint32_t slots = (uint32_t)marks_len;
-    return give(n == 3 ? split_in(3, table, slots, marks, journal, journal_len, d)
-                       : split_in(2, table, slots, marks, journal, journal_len, d), place, count);
+    return give(n == 3 ? split_in(3, table, slots, marks, journal, journal_len, tag, d)
+                       : split_in(2, table, slots, marks, journal, journal_len, tag, d), place, count);
 }
 
 /* ---------------------------------------------------------------- undo, redo */
@@ -1057,12 +1061,12 @@ static answer replay(uint32_t n, uint32_t *table, size_t table_len,
     if (!map_ok(n, table, slots))
         return not_a_map(n, table, slots);
 
-    /* Where the record lies; its two counts. */
+    /* Where the record lies: its first count, its tag, its triples, its last count. */
     uint32_t cursor = journal[0], space = back ? cursor - 2 : journal[1] - cursor;
     if (space == 0)
         return refuse(16);
     uint32_t k = back ? journal[cursor - 1] : journal[cursor];
-    uint64_t words = 3 * (uint64_t)k + 2;
+    uint64_t words = 3 * (uint64_t)k + 3;
     if (k == 0 || words > space)
         return refuse(17);
     uint32_t from = back ? cursor - (uint32_t)words : cursor;
@@ -1071,7 +1075,7 @@ static answer replay(uint32_t n, uint32_t *table, size_t table_len,
         return refuse(17);
 
     /* Soundness of the triples, and the number of slots they touch. */
-    const uint32_t *triples = journal + from + 1;
+    const uint32_t *triples = journal + from + 2;
     uint32_t now = back ? 2 : 1, then = back ? 1 : 2;
     uint32_t touched = 0;
     for (uint32_t t = 0; t < k; t++) {
@@ -1094,7 +1098,7 @@ static answer replay(uint32_t n, uint32_t *table, size_t table_len,
         return refuse(17);
     }
     journal[0] = back ? from : to;
-    return accept(0, k);
+    return accept(journal[from + 1], k);
 }
 
 uint32_t YARD(undo)(uint32_t n, uint32_t *table, size_t table_len,

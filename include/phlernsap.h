@@ -13,6 +13,13 @@
  *            A fresh journal has 2 in both; from then on only the calls write it.
  *   place, count   where the call stores place and count.
  *
+ * Steps. phl_add, phl_sew, phl_unsew, phl_remove and phl_split are operations. An accepted one
+ * writes a record of its changes, a step that can be undone and redone: k, the tag, k triples
+ * (table entry, old value, new value) by rising entry, and k again, 3k+3 words at the cursor. The
+ * tag is any number of the caller's, to name the step by; phl_undo and phl_redo give it back as
+ * place. No operation needs more than 786,437 words in a fresh journal. A journal that was written
+ * before records had a tag is not read: start a fresh one.
+ *
  * What the caller owes: lengths are in elements, not in bytes, and are those of the buffers. No
  * pointer is null, also where its length is 0; each is aligned to its elements; no two of the
  * buffers of one call overlap, place and count included.
@@ -90,42 +97,42 @@ uint32_t phl_sheet(uint32_t n, const uint32_t *table, size_t table_len,
 /* Adds one free cell in the lowest unused slots. Place: its first slot. Count: 8 or 48.
  * Numbers: 1 2 4 5 24 25 26 14 15. */
 uint32_t phl_add(uint32_t n, uint32_t *table, size_t table_len,
-                 uint32_t *journal, size_t journal_len,
+                 uint32_t *journal, size_t journal_len, uint32_t tag,
                  uint32_t *place, uint32_t *count);
 
 /* Sews the side of d to the side of e by link i. Count: entries changed.
  * Numbers: 1 2 4 5 24 25 26 6 7 9 10 12 15. */
 uint32_t phl_sew(uint32_t n, uint32_t *table, size_t table_len,
-                 uint32_t *journal, size_t journal_len, uint32_t i, uint32_t d, uint32_t e,
-                 uint32_t *place, uint32_t *count);
+                 uint32_t *journal, size_t journal_len, uint32_t tag,
+                 uint32_t i, uint32_t d, uint32_t e, uint32_t *place, uint32_t *count);
 
 /* Makes each dart of d's side and its partner i-free. Count: entries changed.
  * Numbers: 1 2 4 5 24 25 26 6 7 11 15. */
 uint32_t phl_unsew(uint32_t n, uint32_t *table, size_t table_len,
-                   uint32_t *journal, size_t journal_len, uint32_t i, uint32_t d,
-                   uint32_t *place, uint32_t *count);
+                   uint32_t *journal, size_t journal_len, uint32_t tag,
+                   uint32_t i, uint32_t d, uint32_t *place, uint32_t *count);
 
 /* Removes the layer of cells that the sheet of d goes through, and links what lay on either side
  * of it. Marks: as phl_sheet gives them before the change; the darts with 1 and 2 are removed, and
  * link n of each dart with 3 changes. Count: darts removed. Numbers: 1 2 3 4 5 24 25 26 7 8 15. */
 uint32_t phl_remove(uint32_t n, uint32_t *table, size_t table_len,
                     uint8_t *marks, size_t marks_len, uint32_t *journal, size_t journal_len,
-                    uint32_t d, uint32_t *place, uint32_t *count);
+                    uint32_t tag, uint32_t d, uint32_t *place, uint32_t *count);
 
 /* Splits each cell of the layer of d in two. Marks: as phl_sheet gives them before the change.
  * Place: the first new slot. Count: darts added. Numbers: 1 2 3 4 5 24 25 26 7 8 13 14 15. */
 uint32_t phl_split(uint32_t n, uint32_t *table, size_t table_len,
                    uint8_t *marks, size_t marks_len, uint32_t *journal, size_t journal_len,
-                   uint32_t d, uint32_t *place, uint32_t *count);
+                   uint32_t tag, uint32_t d, uint32_t *place, uint32_t *count);
 
-/* Puts back the old values of the record before the cursor. Count: entries changed.
- * Numbers: 1 2 4 5 24 25 26 16 17. */
+/* Takes back the newest step that stands: puts back the old values of the record before the cursor.
+ * Place: the step's tag. Count: entries changed. Numbers: 1 2 4 5 24 25 26 16 17. */
 uint32_t phl_undo(uint32_t n, uint32_t *table, size_t table_len,
                   uint32_t *journal, size_t journal_len,
                   uint32_t *place, uint32_t *count);
 
-/* Puts back the new values of the record at the cursor. Count: entries changed.
- * Numbers: 1 2 4 5 24 25 26 16 17. */
+/* Does the step again that was undone last: puts back the new values of the record at the cursor.
+ * Place: the step's tag. Count: entries changed. Numbers: 1 2 4 5 24 25 26 16 17. */
 uint32_t phl_redo(uint32_t n, uint32_t *table, size_t table_len,
                   uint32_t *journal, size_t journal_len,
                   uint32_t *place, uint32_t *count);

@@ -1,5 +1,6 @@
 /* three_quads.c - builds three quads in a row, shows the layer of the middle one with what touches
- * it, takes the layer out, and undoes that. */
+ * it, takes the layer out, undoes two steps and does one again. The tag of a step is the place of
+ * its name: undo and redo give it back. */
 #include <stdio.h>
 #include <stdlib.h>
 
@@ -10,6 +11,10 @@ enum { SLOTS = 24, ENTRIES = 4 * SLOTS, WORDS = 1024 };
 static uint32_t table[ENTRIES];
 static uint8_t marks[SLOTS];
 static uint32_t journal[WORDS];
+
+enum step { QUAD, SEAM, LAYER_OUT };
+
+static const char *const step_name[] = {"add a quad", "sew two quads", "take the layer out"};
 
 /* Prints what a call answered; ends the program if it was refused. */
 static void answered(const char *call, uint32_t number, uint32_t place, uint32_t count)
@@ -22,14 +27,14 @@ static void answered(const char *call, uint32_t number, uint32_t place, uint32_t
 static void add_quad(void)
 {
     uint32_t place, count;
-    uint32_t number = phl_add(2, table, ENTRIES, journal, WORDS, &place, &count);
+    uint32_t number = phl_add(2, table, ENTRIES, journal, WORDS, QUAD, &place, &count);
     answered("add", number, place, count);
 }
 
 static void sew(uint32_t d, uint32_t e)
 {
     uint32_t place, count;
-    uint32_t number = phl_sew(2, table, ENTRIES, journal, WORDS, 2, d, e, &place, &count);
+    uint32_t number = phl_sew(2, table, ENTRIES, journal, WORDS, SEAM, 2, d, e, &place, &count);
     answered("sew", number, place, count);
 }
 
@@ -64,13 +69,22 @@ int main(void)
     answered("sheet of the middle quad", number, place, count);
     show_marks();
 
-    number = phl_remove(2, table, ENTRIES, marks, SLOTS, journal, WORDS, 8, &place, &count);
+    number = phl_remove(2, table, ENTRIES, marks, SLOTS, journal, WORDS, LAYER_OUT, 8, &place, &count);
     answered("remove the middle layer", number, place, count);
     show_edge();
 
     number = phl_undo(2, table, ENTRIES, journal, WORDS, &place, &count);
     answered("undo", number, place, count);
+    printf("  undone: %s\n", step_name[place]);
     show_edge();
+
+    number = phl_undo(2, table, ENTRIES, journal, WORDS, &place, &count);
+    answered("undo", number, place, count);
+    printf("  undone: %s\n", step_name[place]);
+
+    number = phl_redo(2, table, ENTRIES, journal, WORDS, &place, &count);
+    answered("redo", number, place, count);
+    printf("  done again: %s\n", step_name[place]);
 
     number = phl_check(2, table, ENTRIES, &place, &count);
     answered("check", number, place, count);
