@@ -17,8 +17,8 @@
  * writes a record of its changes, a step that can be undone and redone: k, the tag, k triples
  * (table entry, old value, new value) by rising entry, and k again, 3k+3 words at the cursor. The
  * tag is any number of the caller's, to name the step by; phl_undo and phl_redo give it back as
- * place. No operation needs more than 786,437 words in a fresh journal. A journal that was written
- * before records had a tag is not read: start a fresh one.
+ * place. No operation needs more than 786,437 words in a fresh journal. Journals that were written
+ * before records had a tag cannot be read: start a fresh one.
  *
  * What the caller owes: lengths are in elements, not in bytes, and are those of the buffers. No
  * pointer is null, also where its length is 0; each is aligned to its elements; no two of the

@@ -39,7 +39,8 @@ module _ (n : ℕ) (t j : List ℕ) (tag : ℕ) where
   unfolding unsewCall operation
   unsew-operates i d = record { is = refl }
 
-module _ {c : Check} {t u j : List ℕ} {tag p : ℕ} {size : List Change → ℕ} {x : Outcome} (call : Operates c t u j tag p size x) where
+module _ {c : Check} {t u j : List ℕ} {tag p : ℕ} {size : List Change → ℕ} {x : Outcome}
+    (call : Operates c t u j tag p size x) where
   pub operation-refused : {k p q : ℕ} → c ≡ refuse k p q → outcome (refusal k p q) t [] j ≡ x
   unfolding operation refused
   operation-refused e = rw (← call .is, operation, e)

@@ -1,34 +1,22 @@
 -- The end of an operation over plain lists: what `commit` leaves (`refusal-carried`, `record-carried`), and that this is the
 -- model's `commit` (`carried-accepted`, `carried-refused`).
-use Prim.Native.Nat.{ℕ, suc, _+_, _-_, _≤_}
+use Prim.Native.Nat.{ℕ, _+_, _-_, _≤_}
 use mathlib.Core.Path.{_≡_, refl, sym, ap, subst, _∙_}
 use mathlib.Core.Bool.{Bool, true, false, false≢true}
-use mathlib.Core.List.{List, [], _∷_}
+use mathlib.Core.List.{List}
 use native.Mathlib.Omega.{arith}
 use lib.ListN.{length}
-use lib.Dec.{eqb, leb}
+use lib.Dec.{leb}
 use borrow.Author.Tests.{leb-true, le-leb}
 use Rattle.model.specs.Journal.{Change, cursor, changesFrom, changesAt, put, recordOf, recordLength, written}
 use Rattle.model.specs.Calls.{commit, refused}
 use Rattle.model.specs.Meaning.Numbers.{JournalRule}
-use Rattle.model.proofs.Lists.Scan.{test}
-use Rattle.model.proofs.History.Record.{length-record, changes-same, changes-other}
+use Rattle.model.proofs.History.Record.{length-record, few-changes}
 use Rattle.journal.specs.Records.{drafted, within}
 use Rattle.journal.proofs.Drafts.{draft-keeps}
 use Rattle.journal.proofs.Commits.{fits-room, written-fits, written-put}
 use Rattle.edits.specs.Passes.{Room}
 use Rattle.edits.specs.Carried.{Carried}
-
--- a table has no more changes than entries
-pub few-changes : (t u : List ℕ) (e : ℕ) → length (changesFrom e t u) ≤ length t
-unfolding changesFrom
-few-changes [] u e = omega arith
-few-changes (x ∷ t) [] e = omega arith
-few-changes (x ∷ t) (y ∷ u) e =
-    let rest = few-changes t u (suc e) in
-    test (eqb x y)
-    (λ p. let l = ap length (changes-same e x y t u p) in omega arith)
-    (λ p. let l = ap length (changes-other e x y t u p) in omega arith)
 
 -- where a record of all entries has room, that of the changes has it
 pub most-fit : (t u j : List ℕ) → leb (recordLength (length t)) (length j - cursor j) ≡ true
@@ -83,8 +71,8 @@ pub carried-same : {t u v j : List ℕ} {tag : ℕ} {t′ j′ : List ℕ} {fits
     → Carried t u j tag t′ j′ fits k → Carried t v j tag t′ j′ fits k
 carried-same {t} {j = j} {tag} {t′} {j′} {fits} {k} same c = subst (λ (w : List ℕ). Carried t w j tag t′ j′ fits k) same c
 
-module _ {t u j : List ℕ} {tag : ℕ} {t′ j′ : List ℕ} {fits : Bool} {k : ℕ} (c : Carried t u j tag t′ j′ fits k) (m : List ℕ) (p : ℕ)
-    (size : List Change → ℕ)
+module _ {t u j : List ℕ} {tag : ℕ} {t′ j′ : List ℕ} {fits : Bool} {k : ℕ} (c : Carried t u j tag t′ j′ fits k)
+    (m : List ℕ) (p : ℕ) (size : List Change → ℕ)
   where
     pub carried-accepted : fits ≡ true → commit t u m j tag p size
         ≡ record { number = 0; place = p; count = size (changesFrom 0 t u); table = t′; marks = m; journal = j′ }

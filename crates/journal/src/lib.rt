@@ -58,7 +58,8 @@ fn value_put(redo: bool, journal: &[u32], w: usize) -> u32
 
 // Puts the new values (redo), or the old ones, of the k changes of the record at the word a into the table.
 pub fn put_record(redo: bool, table: &mut [u32], journal: &[u32], a: usize, k: usize)
-    requires { ⌜ (a + recordLength k ≤ length (now journal)) × (within (length (now table)) (changesAt (now journal) a k) ≡ true) ⌝ }
+    requires { ⌜ (a + recordLength k ≤ length (now journal))
+        × (within (length (now table)) (changesAt (now journal) a k) ≡ true) ⌝ }
     ensures { λ _. ⌜ now (table .exit) ≡ put redo (changesAt (now (journal .entry)) a k) (now (table .entry)) ⌝ }
 {
     let mut w = a + 2;

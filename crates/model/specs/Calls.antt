@@ -14,7 +14,8 @@ use Rattle.model.specs.Add.{addSlots, addTable}
 use Rattle.model.specs.Sew.{sewTable, unsewTable}
 use Rattle.model.specs.Remove.{countMarked, removeTable}
 use Rattle.model.specs.Split.{splitSlots, splitTable}
-use Rattle.model.specs.Journal.{Change, cursor, changesFrom, recordOf, recordLength, written, changesAt, tagAt, put, unbroken}
+use Rattle.model.specs.Journal.{Change, cursor, changesFrom, recordOf, recordLength, written, changesAt, tagAt, put}
+use Rattle.model.specs.Journal.{unbroken}
 use Rattle.model.specs.Checks.{pass, refuse, inOrder, checkChecks, orbitChecks, sheetChecks, addChecks, sewChecks, unsewChecks}
 use Rattle.model.specs.Checks.{layerChecks, splitChecks, stepChecks, undoOk, redoOk}
 

@@ -35,6 +35,7 @@ unfoldable pub triples : List Change → List ℕ
 triples [] = []
 triples (c ∷ cs) = c .entry ∷ c .old ∷ c .new ∷ triples cs
 
+-- the record of these changes, with a tag
 unfoldable pub recordOf : ℕ → List Change → List ℕ
 recordOf tag cs = length cs ∷ tag ∷ triples cs ++ (length cs ∷ [])
 

@@ -31,7 +31,7 @@ calls tag i d e =
 unfoldable pub callOf : ℕ → ℕ → ℕ → ℕ → ℕ → Call
 callOf p tag i d e = getD (calls tag i d e) p Call.check
 
--- the tag of its operations: "0 in the session" (02, R-11)
+-- the tag of its operations, in a session: 02, R-11, "0 in the session"
 abbrev pub sessionTag : ℕ
 sessionTag = 0
 

@@ -12,7 +12,8 @@ use Rattle.model.specs.Runs.{Op, Call, doCall, keeping}
 use Rattle.model.specs.Everything.{everything}
 use Rattle.model.specs.Meaning.Sizes.{liveCount}
 use Rattle.model.specs.Meaning.Worked.{Case, Seen, gives, goes, marksAre, markedAre, cursorIs, endIs, wordIs, frees}
-use Rattle.model.specs.Meaning.Worked.{changes, liveAre, begin, beginOn, doAll, equal, sees, seesAll, holdsFrom, holds, failing}
+use Rattle.model.specs.Meaning.Worked.{changes, liveAre, begin, beginOn, doAll, equal, sees, seesAll, holdsFrom, holds}
+use Rattle.model.specs.Meaning.Worked.{failing}
 
 -- operations that all have one tag
 tagged : ℕ → List Op → List Call
@@ -92,7 +93,8 @@ cases =
     ∷ row 401 2 16 211 quad (Call.op 0 (Op.split 0)) (gives 15 0 0 ∷ changes 0 ∷ cursorIs 101 ∷ endIs 101 ∷ [])
     ∷ row 402 2 16 211 quad (Call.op 0 (Op.split 0)) (marksAre (replicate 4 1 ++ replicate 4 2 ++ replicate 8 0) ∷ [])
     ∷ row 501 2 16 400 halves (Call.op 0 (Op.remove 0)) (gives 0 0 8 ∷ changes 34 ∷ goes 11 2 11 ∷ goes 15 2 15 ∷ liveAre 8 ∷ [])
-    ∷ row 502 2 16 400 halves (Call.op 0 (Op.remove 0)) (frees 0 ∷ frees 2 ∷ frees 4 ∷ frees 6 ∷ frees 8 ∷ frees 9 ∷ frees 12 ∷ frees 13 ∷ [])
+    ∷ row 502 2 16 400 halves (Call.op 0 (Op.remove 0))
+    (frees 0 ∷ frees 2 ∷ frees 4 ∷ frees 6 ∷ frees 8 ∷ frees 9 ∷ frees 12 ∷ frees 13 ∷ [])
     ∷ row 503 2 16 400 halves (Call.op 0 (Op.remove 0)) (cursorIs 317 ∷ endIs 317 ∷ [])
     ∷ row 601 2 24 600 three (Call.op 0 (Op.remove 8)) (gives 0 0 8 ∷ goes 5 2 20 ∷ goes 7 2 22 ∷ changes 36 ∷ [])
     ∷ row 701 2 24 600 three (Call.sheet 12) (gives 0 0 12 ∷ markedAre 24 ∷ [])
@@ -115,7 +117,8 @@ cases =
     ∷ rowOn 10302 2 (damaged 5 0 5 quadTable) 200 Call.check (gives 24 7 0 ∷ [])
     ∷ rowOn 10303 2 (damaged 1 2 unused quadTable) 200 Call.check (gives 25 0 0 ∷ [])
     ∷ rowOn 10304 2 (damaged 4 3 6 (damaged 6 3 4 quadTable)) 200 Call.check (gives 26 4 3 ∷ [])
-    ∷ rowOn 10305 2 (damaged 4 3 6 (damaged 6 3 4 quadTable)) 200 (Call.op 0 (Op.unsew 1 0)) (gives 26 4 3 ∷ changes 0 ∷ cursorIs 2 ∷ [])
+    ∷ rowOn 10305 2 (damaged 4 3 6 (damaged 6 3 4 quadTable)) 200 (Call.op 0 (Op.unsew 1 0))
+    (gives 26 4 3 ∷ changes 0 ∷ cursorIs 2 ∷ [])
     ∷ rowOn 10306 3 (damaged 31 1 48 hexahedronTable) 200 Call.check (gives 5 31 1 ∷ [])
     ∷ rowOn 10307 3 (damaged 31 1 31 hexahedronTable) 200 Call.check (gives 24 47 1 ∷ [])
     ∷ rowOn 10308 3 (damaged 47 3 0 hexahedronTable) 200 Call.check (gives 25 31 1 ∷ [])

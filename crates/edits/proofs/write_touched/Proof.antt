@@ -6,11 +6,11 @@ use native.Mathlib.Omega.{arith}
 use lib.ListN.{length}
 use Rattle.model.specs.Table.{slots}
 use Rattle.model.specs.Journal.{changesFrom}
+use Rattle.model.proofs.History.Record.{few-changes}
 use Rattle.journal.specs.Records.{drafted, Scanned}
 use Rattle.journal.proofs.Changes.{below-none}
 use Rattle.journal.proofs.Scans.{scan-none, scan-all}
 use Rattle.edits.specs.Edits.{editTable}
-use Rattle.edits.proofs.Carrying.{few-changes}
 use Rattle.edits.proofs.Edited.{edit-long, edit-skips}
 use Rattle.edits.proofs.Pass.{scan-length, scan-on, slots-of}
 use Rattle.edits.proofs.write_touched.Statement.{statement}

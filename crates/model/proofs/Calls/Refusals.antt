@@ -111,8 +111,8 @@ pub sew-12-exactly : (n : ℕ) (t j : List ℕ) (tag i d e : ℕ) → (sewCall n
     ↔ ((inOrder (sidesChecks n t j i d e) ≡ pass) × (Pairing n t i d e → ⊥))
 unfolding doCall keeping checksOf sidesChecks mapChecks member indexOf
 sew-12-exactly n t j tag i d e =
-    given-exactly n (lent t [] j) (Call.op tag (Op.sew i d e)) 12 (λ q. omega arith) (sidesChecks n t j i d e) _ _ refl refl refl refl
-    (λ h. pairing-fails n t i d e (sides-passed n t j i d e h))
+    given-exactly n (lent t [] j) (Call.op tag (Op.sew i d e)) 12 (λ q. omega arith) (sidesChecks n t j i d e) _ _
+    refl refl refl refl (λ h. pairing-fails n t i d e (sides-passed n t j i d e h))
 
 pub split-13-exactly : (n : ℕ) (t m j : List ℕ) (tag d : ℕ) → (splitCall n t m j tag d .number ≡ 13)
     ↔ ((inOrder (layerChecks n t m j d) ≡ pass) × ((g : ℕ) × Marked (sheet n t d) g × Marked (sheet n t d) (link t 1 g)))

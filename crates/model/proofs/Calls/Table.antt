@@ -168,8 +168,8 @@ module _ (n : ℕ) (o : Outcome) where
       block-fails n t (table-of n t (q 1) (q 2) (rules-pass n t (q 5) (q 24) (q 25) (q 26))))
       next-passed no-more)
   meets (Call.op tag Op.add) = with-journal (add-room-fails n t next record-fails tag t _ j next no-more)
-  meets (Call.op tag (Op.sew i d e)) = with-journal (index-fails n i next dart-fails t d next dart-fails t e next apart-fails n t i d e
-      next free-fails t i d e next (λ h. pairing-fails n t i d e (sides-passed n t j i d e h))
+  meets (Call.op tag (Op.sew i d e)) = with-journal (index-fails n i next dart-fails t d next dart-fails t e
+      next apart-fails n t i d e next free-fails t i d e next (λ h. pairing-fails n t i d e (sides-passed n t j i d e h))
       next-passed record-fails tag t _ j next no-more)
   meets (Call.op tag (Op.unsew i d)) = with-journal (index-fails n i next dart-fails t d next sewn-fails t i d
       next record-fails tag t _ j next no-more)

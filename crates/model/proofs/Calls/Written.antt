@@ -12,7 +12,7 @@ use Rattle.model.specs.Journal.{cursor, end, changesFrom, recordOf, reco
 use Rattle.model.specs.Checks.{pass, journalOk, inOrder, addChecks, sidesChecks, unsewChecks, layerChecks, stepChecks}
 use Rattle.model.specs.Calls.{Outcome}
 use Rattle.model.specs.Runs.{Op, Call, doCall}
-use Rattle.model.specs.Meaning.Ends.{checks, numbers, undoStart, done, Recorded, CursorMoved, checksOf, doneOf}
+use Rattle.model.specs.Meaning.Ends.{checks, opNumbers, numbers, undoStart, done, Recorded, CursorMoved, checksOf, doneOf}
 use Rattle.model.specs.Meaning.Numbers.{JournalRule}
 use Rattle.model.proofs.Lists.Scan.{if-eq}
 use Rattle.model.proofs.Calls.Checks.{passed-number}
@@ -93,11 +93,13 @@ module _ (j r : List ℕ) (rule : JournalRule j) (room : length r ≤ length j -
       }
 
 -- the check 4 has passed
-op-journal : (n : ℕ) (o : Outcome) (tag : ℕ) (p : Op) → inOrder (checks n o (Call.op tag p)) ≡ pass → journalOk (o .journal) ≡ pass
+op-journal : (n : ℕ) (o : Outcome) (tag : ℕ) (p : Op) → inOrder (checks n o (Call.op tag p)) ≡ pass
+    → journalOk (o .journal) ≡ pass
 unfolding checksOf indexOf addChecks sidesChecks unsewChecks layerChecks
-op-journal n o tag p h = journal p (passed-number (numbers (Call.op tag p)) (checks n o (Call.op tag p)) h 4)
+op-journal n o tag p h = journal p (passed-number (opNumbers p) (checks n o (Call.op tag p)) h 4)
   where
-    journal : (p : Op) → getD (checks n o (Call.op tag p)) (indexOf 4 (numbers (Call.op tag p))) pass ≡ pass → journalOk (o .journal) ≡ pass
+    journal : (p : Op) → getD (checks n o (Call.op tag p)) (indexOf 4 (opNumbers p)) pass ≡ pass
+        → journalOk (o .journal) ≡ pass
     journal Op.add q = q
     journal (Op.sew i d e) q = q
     journal (Op.unsew i d) q = q
@@ -158,10 +160,12 @@ module _ (n : ℕ) (o : Outcome) where
       rw (call-done n o Call.redo h) (cursor-to (o .journal) _ ok)
 
   -- the place is the tag of the record: the word behind its first count
-  pub undo-record-tag : doCall n o Call.undo .number ≡ 0 → doCall n o Call.undo .place ≡ tagAt (o .journal) (undoStart (o .journal))
+  pub undo-record-tag : doCall n o Call.undo .number ≡ 0
+      → doCall n o Call.undo .place ≡ tagAt (o .journal) (undoStart (o .journal))
   unfolding doneOf
   undo-record-tag h = ap (λ (r : Outcome). r .place) (call-done n o Call.undo h)
 
-  pub redo-record-tag : doCall n o Call.redo .number ≡ 0 → doCall n o Call.redo .place ≡ tagAt (o .journal) (cursor (o .journal))
+  pub redo-record-tag : doCall n o Call.redo .number ≡ 0
+      → doCall n o Call.redo .place ≡ tagAt (o .journal) (cursor (o .journal))
   unfolding doneOf
   redo-record-tag h = ap (λ (r : Outcome). r .place) (call-done n o Call.redo h)

@@ -26,8 +26,8 @@ use Rattle.model.proofs.Calls.Checks.{Says, NoRule, rule-not-0}
 use Rattle.model.proofs.Calls.Ends.{call-says, call-refused}
 use Rattle.model.proofs.Calls.Untouched.{call-untouched}
 use Rattle.model.proofs.History.Log.{journalOf, stepsTo}
-use Rattle.model.proofs.History.Invariant.{historyOf, standingWords, undoneWords, historyWords, Invariant, stepNumber, stepPlace}
-use Rattle.model.proofs.History.Invariant.{undo-moves, redo-undone, undo-number, redo-number, undo-place, redo-place}
+use Rattle.model.proofs.History.Invariant.{historyOf, standingWords, undoneWords, historyWords, Invariant, stepNumber}
+use Rattle.model.proofs.History.Invariant.{stepPlace, undo-moves, redo-undone, undo-number, redo-number, undo-place, redo-place}
 use Rattle.model.proofs.History.Invariant.{refused-history, rule-now, journal-now, call-keeps}
 
 -- ---- the number of undo and redo

@@ -12,8 +12,8 @@ use lib.Seq.{getD-at, getD-append-seam, getD-append-add, take-append-seam, drop-
 use lib.Dec.{eqb}
 use borrow.Author.Tests.{eq-eqb, ne-eqb, le-leb}
 use Rattle.model.specs.Map.{links-live, links-return, pairs-commute, stays-flat, isMap}
-use Rattle.model.specs.Journal.{Change, triples, readChanges, changesAt, tagAt, recordOf, recordLength, written, cursor, end, put, sound}
-use Rattle.model.specs.Journal.{unbroken}
+use Rattle.model.specs.Journal.{Change, triples, readChanges, changesAt, tagAt, recordOf, recordLength, written}
+use Rattle.model.specs.Journal.{cursor, end, put, sound, unbroken}
 use Rattle.model.specs.Checks.{Check, pass, refuse, andThen, must, inOrder, dimOk, tableOk, journalOk, mapChecks}
 use Rattle.model.specs.Checks.{undoOk, redoOk, stepChecks}
 use Rattle.model.specs.Calls.{Outcome, stepOutcome, undoCall, redoCall, refused}
@@ -86,7 +86,8 @@ module _ (first second : ℕ) (before : List ℕ) (tag : ℕ) (cs : List Change)
   record-read =
       let q : record-start + 2 ≡ suc (suc (length before + 2)) = omega arith in
       let from-count = ap (λ (k : ℕ). drop k journal-words) q in
-      let from-triples = drop-append-add before (recordOf tag cs ++ behind) 2 ∙ append-assoc (triples cs) (length cs ∷ []) behind in
+      let from-triples = drop-append-add before (recordOf tag cs ++ behind) 2
+      ∙ append-assoc (triples cs) (length cs ∷ []) behind in
       ap (readChanges (length cs)) (from-count ∙ from-triples) ∙ read-triples cs _
 
   record-tag : tagAt journal-words record-start ≡ tag
@@ -180,11 +181,11 @@ module _ (standing undone rest : List ℕ) (tag : ℕ) (cs : List Change) where
   unfolding stepOutcome stepsTo
   step-from {redo} {n} {t} leads from to =
       let l = length-record tag cs in
-      let changes = record-read from end-word standing tag cs (undone ++ rest) in
+      let others = undone ++ rest in
+      let changes = record-read from end-word standing tag cs others in
       let result = ap (λ (ds : List Change). put redo ds t) changes ∙ leads .puts in
-      let whole = record-unbroken from end-word standing tag cs (undone ++ rest) redo t (leads .some) (omega arith) (leads .sound) in
-      rw (whole, ap (isMap n) result ∙ leads .map, stepOutcome)
-      (rw (result, record-tag from end-word standing tag cs (undone ++ rest)))
+      let whole = record-unbroken from end-word standing tag cs others redo t (leads .some) (omega arith) (leads .sound) in
+      rw (whole, ap (isMap n) result ∙ leads .map, stepOutcome) (rw (result, record-tag from end-word standing tag cs others))
 
   undo-at : {n : ℕ} {t u : List ℕ} → StepMakes false n t u cs → journalOk (journal-at cursor-behind) ≡ pass
       → undoCall n t (journal-at cursor-behind) ≡ stepsTo tag (length cs) u (journal-at cursor-before)

@@ -1,6 +1,6 @@
 -- The changes from a table to another of the same length: put forward they make the second of the first, put back the
--- first of the second; and the words of their record give them back.
-use Prim.Native.Nat.{ℕ, suc, _+_, _*_, _<_}
+-- first of the second; and the words of their record give them back. `length-record`, `longest-record`: how long it is.
+use Prim.Native.Nat.{ℕ, suc, _+_, _*_, _≤_, _<_}
 use mathlib.Core.Path.{_≡_, refl, sym, ap, _∙_}
 use mathlib.Core.Logic.{_⊎_, inl, inr, _≢_}
 use mathlib.Core.Bool.{true, false}
@@ -97,4 +97,22 @@ unfolding recordOf
 length-record tag cs =
     let h = length-triples cs in
     let a = length-append (triples cs) (length cs ∷ []) in
+    omega arith
+
+-- a table has no more changes than entries ..
+pub few-changes : (t u : List ℕ) (e : ℕ) → length (changesFrom e t u) ≤ length t
+unfolding changesFrom
+few-changes [] u e = omega arith
+few-changes (x ∷ t) [] e = omega arith
+few-changes (x ∷ t) (y ∷ u) e =
+    let rest = few-changes t u (suc e) in
+    test (eqb x y)
+    (λ p. let l = ap length (changes-same e x y t u p) in omega arith)
+    (λ p. let l = ap length (changes-other e x y t u p) in omega arith)
+
+-- .. so that in a fresh journal of 786,437 words every record has room
+pub longest-record : (tag : ℕ) (t u : List ℕ) → length t ≤ 262144 → 2 + length (recordOf tag (changesFrom 0 t u)) ≤ 786437
+longest-record tag t u few =
+    let most = few-changes t u 0 in
+    let long = length-record tag (changesFrom 0 t u) in
     omega arith

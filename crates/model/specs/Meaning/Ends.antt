@@ -78,8 +78,10 @@ firstChecks n o (Call.sheet d) = dimOk n ∷ tableOk (o .table) ∷ marksOk (o .
 firstChecks n o (Call.op tag Op.add) = dimOk n ∷ tableOk (o .table) ∷ journalOk (o .journal) ∷ []
 firstChecks n o (Call.op tag (Op.sew i d e)) = dimOk n ∷ tableOk (o .table) ∷ journalOk (o .journal) ∷ []
 firstChecks n o (Call.op tag (Op.unsew i d)) = dimOk n ∷ tableOk (o .table) ∷ journalOk (o .journal) ∷ []
-firstChecks n o (Call.op tag (Op.remove d)) = dimOk n ∷ tableOk (o .table) ∷ marksOk (o .table) (o .marks) ∷ journalOk (o .journal) ∷ []
-firstChecks n o (Call.op tag (Op.split d)) = dimOk n ∷ tableOk (o .table) ∷ marksOk (o .table) (o .marks) ∷ journalOk (o .journal) ∷ []
+firstChecks n o (Call.op tag (Op.remove d)) =
+    dimOk n ∷ tableOk (o .table) ∷ marksOk (o .table) (o .marks) ∷ journalOk (o .journal) ∷ []
+firstChecks n o (Call.op tag (Op.split d)) =
+    dimOk n ∷ tableOk (o .table) ∷ marksOk (o .table) (o .marks) ∷ journalOk (o .journal) ∷ []
 firstChecks n o Call.undo = dimOk n ∷ tableOk (o .table) ∷ journalOk (o .journal) ∷ []
 firstChecks n o Call.redo = dimOk n ∷ tableOk (o .table) ∷ journalOk (o .journal) ∷ []
 

@@ -9,6 +9,7 @@ use Rattle.model.specs.Table.{slots}
 use Rattle.model.specs.Journal.{changesFrom}
 use Rattle.model.specs.Split.{halvedLink}
 use Rattle.model.proofs.Calls.Pass.{dim-pass}
+use Rattle.model.proofs.History.Record.{few-changes}
 use Rattle.layers.specs.Four.{four}
 use Rattle.layers.proofs.Halves.{few-new}
 use Rattle.journal.specs.Records.{drafted, changesBelow, Scanned}
@@ -18,7 +19,6 @@ use Rattle.edits.specs.Edits.{editLink, editTable}
 use Rattle.edits.specs.Passes.{Links}
 use Rattle.edits.specs.Skips.{From, Parted}
 use Rattle.edits.specs.declared.Edit.the-variants.{Split}
-use Rattle.edits.proofs.Carrying.{few-changes}
 use Rattle.edits.proofs.Untouched.{split-leaves}
 use Rattle.edits.proofs.Edited.{edit-long, edit-links, edit-skips}
 use Rattle.edits.proofs.Merging.{parted-start, parted-on, between}
