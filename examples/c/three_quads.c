@@ -38,6 +38,13 @@ static void sew(uint32_t d, uint32_t e)
     answered("sew", number, place, count);
 }
 
+/* The same of undo and redo: place is the tag, which tells the step. */
+static void stepped(const char *call, uint32_t number, uint32_t place, uint32_t count)
+{
+    answered(call, number, place, count);
+    printf("  the step: %s\n", step_name[place]);
+}
+
 /* The darts of the first quad's right edge, and where link 2 leads from them. */
 static void show_edge(void)
 {
@@ -74,17 +81,14 @@ int main(void)
     show_edge();
 
     number = phl_undo(2, table, ENTRIES, journal, WORDS, &place, &count);
-    answered("undo", number, place, count);
-    printf("  undone: %s\n", step_name[place]);
+    stepped("undo", number, place, count);
     show_edge();
 
     number = phl_undo(2, table, ENTRIES, journal, WORDS, &place, &count);
-    answered("undo", number, place, count);
-    printf("  undone: %s\n", step_name[place]);
+    stepped("undo", number, place, count);
 
     number = phl_redo(2, table, ENTRIES, journal, WORDS, &place, &count);
-    answered("redo", number, place, count);
-    printf("  done again: %s\n", step_name[place]);
+    stepped("redo", number, place, count);
 
     number = phl_check(2, table, ENTRIES, &place, &count);
     answered("check", number, place, count);
