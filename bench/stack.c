@@ -48,7 +48,8 @@ static size_t taken(void *(*run)(void *), request *q)
 
 static void measure(enum call call, uint32_t n, uint32_t i, uint32_t d, uint32_t e)
 {
-    request q = {call, n, table, MAX_ENTRIES, marks, MAX_SLOTS, journal, MAX_JOURNAL, i, 2, d, e, 0};
+    request q = {call, n, table, MAX_ENTRIES, marks, MAX_SLOTS, journal, MAX_JOURNAL,
+                 i, 2, d, e, 0};
     request none = q;
     size_t base = taken(nothing, &none);
     size_t whole = taken(one_call, &q);
@@ -70,7 +71,8 @@ int main(void)
         measure(REMOVE, n, 0, 0, 0);
         measure(ADD, n, 0, 0, 0);
         uint32_t place, count, d, e;
-        request q = {ADD, n, table, MAX_ENTRIES, marks, MAX_SLOTS, journal, MAX_JOURNAL, 0, 0, 0, 0, 0};
+        request q = {ADD, n, table, MAX_ENTRIES, marks, MAX_SLOTS, journal, MAX_JOURNAL,
+                     0, 0, 0, 0, 0};
         run_test(&q, &place, &count);
         d = place;
         run_test(&q, &place, &count);

@@ -1006,7 +1006,8 @@ uint32_t YARD(remove)(uint32_t n, uint32_t *table, size_t table_len,
         return give(refuse(no), place, count);
     uint32_t slots = (uint32_t)marks_len;
     return give(n == 3 ? remove_in(3, table, slots, marks, journal, journal_len, tag, d)
-                       : remove_in(2, table, slots, marks, journal, journal_len, tag, d), place, count);
+                       : remove_in(2, table, slots, marks, journal, journal_len, tag, d),
+                place, count);
 }
 
 uint32_t YARD(split)(uint32_t n, uint32_t *table, size_t table_len,
@@ -1018,7 +1019,8 @@ uint32_t YARD(split)(uint32_t n, uint32_t *table, size_t table_len,
         return give(refuse(no), place, count);
     uint32_t slots = (uint32_t)marks_len;
     return give(n == 3 ? split_in(3, table, slots, marks, journal, journal_len, tag, d)
-                       : split_in(2, table, slots, marks, journal, journal_len, tag, d), place, count);
+                       : split_in(2, table, slots, marks, journal, journal_len, tag, d),
+                place, count);
 }
 
 /* ---------------------------------------------------------------- undo, redo */

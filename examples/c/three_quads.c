@@ -76,7 +76,8 @@ int main(void)
     answered("sheet of the middle quad", number, place, count);
     show_marks();
 
-    number = phl_remove(2, table, ENTRIES, marks, SLOTS, journal, WORDS, LAYER_OUT, 8, &place, &count);
+    number = phl_remove(2, table, ENTRIES, marks, SLOTS, journal, WORDS, LAYER_OUT, 8,
+                        &place, &count);
     answered("remove the middle layer", number, place, count);
     show_edge();
 

@@ -3,18 +3,25 @@
 ghost use mathlib.Core.Path.{_≡_};
 ghost use mathlib.Core.Bool.{true};
 ghost use mathlib.Core.List.{List, [], _∷_, _++_};
-ghost use Prim.Native.Nat.{ℕ, _+_, _*_, _-_, _<_, _≤_};
+ghost use Prim.Native.Nat.{ℕ, _+_, _-_, _<_, _≤_};
 ghost use lib.ListN.{length, getD};
 ghost use lib.Dec.{leb};
 ghost use Rattle.model.specs.Journal.{Change, cursor, end, changesAt, put, recordLength, recordOf, sound, unbroken, written};
 ghost use Rattle.journal.specs.Records.{changeAt, drafted, valuePut, within};
+
+// How many words a record of k changes has.
+pub fn record_length(k: u32) -> usize
+    ensures { λ r. ⌜ r ≡ recordLength k ⌝ }
+{
+    3 * (k as usize) + 3
+}
 
 // Whether a record of k changes is no longer than the words from the cursor to the journal's length.
 pub fn record_fits(journal: &[u32], k: u32) -> bool
     requires { ⌜ (0 < length (now journal)) × (cursor (now journal) ≤ length (now journal)) ⌝ }
     ensures { λ r. ⌜ r ≡ leb (recordLength k) (length (now (journal .entry)) - cursor (now (journal .entry))) ⌝ }
 {
-    3 * (k as usize) + 3 <= journal.len() - journal[0] as usize
+    record_length(k) <= journal.len() - journal[0] as usize
 }
 
 // Writes the triple number `done` of the record at the cursor: a draft of `done` changes has one more.
@@ -149,7 +156,7 @@ pub fn undo_start(journal: &[u32]) -> RecordAt
 {
     let cursor = journal[0] as usize;
     let k = journal[cursor - 1];
-    let size = 3 * (k as usize) + 3;
+    let size = record_length(k);
     if cursor < size {
         return RecordAt { start: 0, count: k };
     }

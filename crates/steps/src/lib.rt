@@ -82,5 +82,5 @@ pub fn redo(n: u32, table: &mut [u32], journal: &mut [u32]) -> Answer
     }
     let a = journal[0] as usize;
     let k = journal[a];
-    step(true, n, table, journal, a, k, a + 3 * (k as usize) + 3)
+    step(true, n, table, journal, a, k, a + journal::record_length(k))
 }

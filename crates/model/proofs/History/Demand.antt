@@ -18,7 +18,7 @@ use Rattle.model.specs.Checks.{pass, must, dimOk, tableOk}
 use Rattle.model.specs.Calls.{Outcome}
 use Rattle.model.specs.Runs.{Op, Call, doCall, keeping, Tagged, replay, History, afterUndo, afterRedo, afterOp, accepted}
 use Rattle.model.specs.Runs.{answered, Step, State, answer, stepped, run, start}
-use Rattle.model.specs.Meaning.Demand.{FreshStart, calling, numberOf, placeOf, Recalled, Called, Stands, GivesBack, Alike}
+use Rattle.model.specs.Meaning.Demand.{FreshStart, calling, numberOf, placeOf, InHistory, Called, Stands, GivesBack, Alike}
 use Rattle.model.specs.Meaning.Maps.{Dim}
 use Rattle.model.proofs.Maps.Dim.{two-cases}
 use Rattle.model.proofs.Lists.Scan.{clash}
@@ -65,13 +65,13 @@ module _ {n : ℕ} {first : List ℕ} (s : State) (inv : InvariantAt n first s) 
   unfolding numberOf answer doCall keeping
   redo-gives m = redo-number n first (s .history .standing) (s .history .undone) inv
 
-  undo-says : (m : List ℕ) → placeOf n s Call.undo m ≡ stepPlace (s .history .standing)
+  undo-gives-place : (m : List ℕ) → placeOf n s Call.undo m ≡ stepPlace (s .history .standing)
   unfolding placeOf answer doCall keeping
-  undo-says m = undo-place n first (s .history .standing) (s .history .undone) inv
+  undo-gives-place m = undo-place n first (s .history .standing) (s .history .undone) inv
 
-  redo-says : (m : List ℕ) → placeOf n s Call.redo m ≡ stepPlace (s .history .undone)
+  redo-gives-place : (m : List ℕ) → placeOf n s Call.redo m ≡ stepPlace (s .history .undone)
   unfolding placeOf answer doCall keeping
-  redo-says m = redo-place n first (s .history .standing) (s .history .undone) inv
+  redo-gives-place m = redo-place n first (s .history .standing) (s .history .undone) inv
 
   -- what a refusal says of the next call
   call-refusal : (c : Call) (m : List ℕ) → numberOf n s c m ≢ 0
@@ -97,8 +97,8 @@ module _ {n : ℕ} {first : List ℕ} (s : State) (inv : InvariantAt n first s) 
     redo-16 = λ m. given-16 (redo-gives m);
     undo-0 = λ m h. undo-gives m ∙ step-0 _ h;
     redo-0 = λ m h. redo-gives m ∙ step-0 _ h;
-    undo-tag = λ m p ps e. undo-says m ∙ place-of e;
-    redo-tag = λ m p ps e. redo-says m ∙ place-of e;
+    undo-tag = λ m p ps e. undo-gives-place m ∙ place-of e;
+    redo-tag = λ m p ps e. redo-gives-place m ∙ place-of e;
     undo-17 = λ m e. step-17 _ (sym (undo-gives m) ∙ e);
     redo-17 = λ m e. step-17 _ (sym (redo-gives m) ∙ e);
     never-4 = no-4;
@@ -196,11 +196,11 @@ gives-back {n} s inv p ds us e =
     = λ m. undo-history n s p ds us m e (undo-0 m) in
     record {
       undo-0 = undo-0;
-      undo-tag = λ m. undo-says s inv m ∙ ap (λ (h : History). stepPlace (h .standing)) e;
+      undo-tag = λ m. undo-gives-place s inv m ∙ ap (λ (h : History). stepPlace (h .standing)) e;
       redo-0 = λ m m′.
           redo-gives _ (step-invariant s inv (calling Call.undo m)) m′ ∙ ap (λ (h : History). stepNumber (h .undone)) (next m);
       redo-tag = λ m m′.
-          redo-says _ (step-invariant s inv (calling Call.undo m)) m′ ∙ ap (λ (h : History). stepPlace (h .undone)) (next m);
+          redo-gives-place _ (step-invariant s inv (calling Call.undo m)) m′ ∙ ap (λ (h : History). stepPlace (h .undone)) (next m);
     }
 
 -- a call adds at most one operation to those that stand
@@ -233,14 +233,14 @@ run-grows n (c ∷ cs) s =
 
 -- ---- the operations of the history are those that were called
 
-undo-from : (p : Tagged) (ds us : List Tagged) → Recalled p (afterUndo ds us) → Recalled p (historyOf ds us)
+undo-from : (p : Tagged) (ds us : List Tagged) → InHistory p (afterUndo ds us) → InHistory p (historyOf ds us)
 unfolding afterUndo
 undo-from p [] us r = r
 undo-from p (q ∷ ds) us (inl i) = inl (there i)
 undo-from p (q ∷ ds) us (inr (here e)) = inl (here e)
 undo-from p (q ∷ ds) us (inr (there i)) = inr i
 
-redo-from : (p : Tagged) (ds us : List Tagged) → Recalled p (afterRedo ds us) → Recalled p (historyOf ds us)
+redo-from : (p : Tagged) (ds us : List Tagged) → InHistory p (afterRedo ds us) → InHistory p (historyOf ds us)
 unfolding afterRedo
 redo-from p ds [] r = r
 redo-from p ds (q ∷ us) (inl (here e)) = inr (here e)
@@ -251,7 +251,7 @@ redo-from p ds (q ∷ us) (inr i) = inr (there i)
 abbrev CalledNow : ℕ → Call → Tagged → Type 0
 CalledNow k c p = (c ≡ Call.op (p .tag) (p .op)) × (k ≡ 0)
 
-history-from : (k : ℕ) (c : Call) (h : History) (p : Tagged) → Recalled p (answered k c h) → CalledNow k c p ⊎ Recalled p h
+history-from : (k : ℕ) (c : Call) (h : History) (p : Tagged) → InHistory p (answered k c h) → CalledNow k c p ⊎ InHistory p h
 unfolding answered accepted afterOp
 history-from (suc k) c h p r = inr r
 history-from zero Call.check h p r = inr r
@@ -263,8 +263,8 @@ history-from zero (Call.op tag q) h p (inr i) = absurd (not-nil i)
 history-from zero Call.undo h p r = inr (undo-from p (h .standing) (h .undone) r)
 history-from zero Call.redo h p r = inr (redo-from p (h .standing) (h .undone) r)
 
-run-called : (n : ℕ) (cs : List Step) (s : State) (p : Tagged) → Recalled p (run n s cs .history)
-    → Called n s cs p ⊎ Recalled p (s .history)
+run-called : (n : ℕ) (cs : List Step) (s : State) (p : Tagged) → InHistory p (run n s cs .history)
+    → Called n s cs p ⊎ InHistory p (s .history)
 unfolding run stepped
 run-called n [] s p r = inr r
 run-called n (c ∷ cs) s p r =
@@ -293,7 +293,7 @@ module _ (n : ℕ) (t j : List ℕ) (fresh : FreshStart n t j) (cs : List Step) 
   demand-3 = invariant-stands reached reached-invariant
 
   -- what stands or was undone was called in the run with the tag that it has
-  pub history-called : (p : Tagged) → Recalled p (reached .history) → Called n (start t j) cs p
+  pub history-called : (p : Tagged) → InHistory p (reached .history) → Called n (start t j) cs p
   unfolding start
   history-called p r =
       ⊎-elim (λ called. called) (λ none. absurd (⊎-elim not-nil not-nil none)) (run-called n cs (start t j) p r)

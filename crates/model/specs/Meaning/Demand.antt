@@ -34,8 +34,8 @@ unfoldable pub placeOf : ℕ → State → Call → List ℕ → ℕ
 placeOf n s c m = answer n s (calling c m) .place
 
 -- the operation p stands or was undone
-abbrev pub Recalled : Tagged → History → Type 0
-Recalled p h = In p (h .standing) ⊎ In p (h .undone)
+abbrev pub InHistory : Tagged → History → Type 0
+InHistory p h = In p (h .standing) ⊎ In p (h .undone)
 
 -- in the run cs from s the operation p was called, with its tag, and accepted
 abbrev pub Called : ℕ → State → List Step → Tagged → Type 0

@@ -112,26 +112,17 @@ word-fits c =
     let each = c .before .before .slice-known6 .given in
     (omega (arith, each 0), omega (arith, each (getD (words c) 0 0)))
 
-cast-step : tie.Need-cast-step
-unfolding stepChecks mapChecks
-cast-step c = let small = word-fits c in omega arith
-
-mul-step : tie.Need-mul-step
-unfolding stepChecks mapChecks
-mul-step c = let small = word-fits c in omega arith
+record-length-requires : tie.Need-record-length-requires
+record-length-requires c κs = search needs
 
 add-step : tie.Need-add-step
 unfolding stepChecks mapChecks
-add-step c = let small = word-fits c in omega arith
-
-add-step-2 : tie.Need-add-step-2
-unfolding stepChecks mapChecks
-add-step-2 c = let small = word-fits c in omega arith
+add-step c = let small = word-fits (c .before) in omega arith
 
 step-requires : tie.Need-step-requires
 unfolding stepChecks mapChecks
 step-requires c κs =
-    let p = there (c .before .before .before .before) .passed in
+    let p = there (c .before .before .before .before .before) .passed in
     ((search, search, search), omega arith)
 
 same-length-5 : tie.Need-same-length-5
@@ -144,7 +135,7 @@ returns-3 : tie.Need-returns-3
 unfolding stepChecks mapChecks cursor
 returns-3 c =
     let stepped = c .before .before .before .before in
-    let p = there (stepped .before .before .before .before .before) .passed in
+    let p = there (stepped .before .before .before .before .before .before) .passed in
     redo-accepted _ _ _ _ (all-passed _ p) (omega arith) (stepped .step .ensures)
 
 pub redo-spec : {M : Type 1} → statement M
@@ -165,10 +156,8 @@ redo-spec =
     cast-a
     mul-k
     slice-read-k
-    cast-step
-    mul-step
+    record-length-requires
     add-step
-    add-step-2
     step-requires
     same-length-5
     same-length-6
