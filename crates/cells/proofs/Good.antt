@@ -1,30 +1,32 @@
--- The test of a listed cell. Each link between places is a step of the listing, a row of tests, or one of these turned
--- round; a step leads where the numbering says, so where the rows fit every link does.
--- Main theorems: `test-there` (what the tests read is there); `tests-follow`, `follow-tests`, `tests-other` and `other-tests` (they
--- pass exactly if the places follow the numbering and none but the first is the cell's dart).
-use Prim.Native.Nat.{ℕ, zero, suc, _-_, _<_}
+-- The test of a listed cell. Each link between places is a step of the listing, one that is tested, one of these turned round, or
+-- link 0 beside one of these; a step leads where the numbering says, so where the tested links do, every link does.
+-- Main theorems: `tests-follow`, `follow-tests`, `tests-other` and `other-tests` (the tests pass exactly if the places follow the
+-- numbering and none but the first is the cell's dart).
+use Prim.Native.Nat.{ℕ, zero, suc, _-_, _/_, _%_, _<_}
 use mathlib.Core.Path.{_≡_, refl, sym, ap, _∙_}
 use mathlib.Core.Logic.{_≢_, inr, ⊎-elim}
 use mathlib.Core.Bool.{Bool, true, false, not, _&&_, _||_}
-use mathlib.Core.List.{List, []}
+use mathlib.Core.List.{List}
 use native.Mathlib.Omega.{arith}
 use lib.ListN.{length, getD}
 use lib.Dec.{eqb, ltb}
-use borrow.Author.Tests.{ltb-true, eqb-true, eq-eqb, ne-eqb, not-true, not-false}
+use borrow.Author.Tests.{ltb-true, eqb-true, eq-eqb, ne-eqb, not-true}
 use Rattle.model.specs.Lists.{tabulate, allBelow}
-use Rattle.model.specs.Table.{link, live}
+use Rattle.model.specs.Table.{link}
 use Rattle.model.specs.Cell.{cellSize}
-use Rattle.model.specs.Numbering.{cellLink}
+use Rattle.model.specs.Numbering.{corners, cellLink}
+use Rattle.model.specs.Everything.{everything}
 use Rattle.model.specs.Meaning.Maps.{Dim}
-use Rattle.model.specs.Meaning.Places.{place, Listed}
-use Rattle.model.proofs.Lists.Scan.{test, if-eq, clash, and-l, and-r, or-cases, or-i, below-at, below-of, below-not}
-use Rattle.model.proofs.Lists.Scan.{below-both, length-tab, getD-tab}
+use Rattle.model.specs.Meaning.Places.{path, place, Listed}
+use Rattle.model.proofs.Lists.Scan.{test, if-eq, clash, and-l, and-r, and-i, or-cases, or-i, below-at, below-of, below-both, getD-tab}
 use Rattle.model.proofs.Maps.Dim.{two-cases}
-use Rattle.model.proofs.Maps.Tables.{live-below, rule-at}
+use Rattle.model.proofs.Maps.Tables.{rule-at}
 use Rattle.model.proofs.Cells.Rows.{rows-in, row-comes}
-use Rattle.model.proofs.Cells.Cell.{cell-live, place-in}
-use Rattle.cells.specs.Rows.{lastLink, testRows, places, computed}
-use Rattle.cells.specs.Good.{MapDart, TestRow, fitsRow, allFit, notAgain, onlyFirst}
+use Rattle.numbering.specs.Orders.{orders, placeOf}
+use Rattle.numbering.proofs.Orders.{vertex-in, place-is, place-low}
+use Rattle.cells.specs.Listing.{places}
+use Rattle.cells.specs.Good.{MapDart, followsAt, followFrom, allFollow, notAgain, onlyFirst}
+use Rattle.cells.proofs.Listing.{places-length, places-at, place-live}
 
 -- one test that fails
 pub not-all : (p : ℕ → Bool) (k i : ℕ) → i < k → p i ≡ false → allBelow k p ≡ false
@@ -45,125 +47,106 @@ module _ (d : ℕ) (cell : List ℕ) where
   unfolding notAgain
   again k some e = rw (ne-eqb k 0 (λ e. omega arith), eq-eqb _ _ e)
 
--- ---- the rows of tests
+-- ---- the links that are tested
 
--- a row's link leads from its one place to its other
-record Row (n : ℕ) (row : List ℕ) : Type 0 where
-  from : getD row 0 0 < cellSize n
-  by : getD row 1 0 < n
-  to : getD row 2 0 ≡ cellLink n (getD row 1 0) (getD row 0 0)
+-- link i from the place k is link j in the order p at a vertex from a on
+isIn : ℕ → ℕ → ℕ → ℕ → ℕ → ℕ → Bool
+isIn n j p a k i = eqb i j && (eqb (k / corners n) p && not (ltb (k % corners n) a))
 
-isRow : ℕ → List ℕ → Bool
-isRow n row =
-    ltb (getD row 0 0) (cellSize n)
-    && (ltb (getD row 1 0) n && eqb (getD row 2 0) (cellLink n (getD row 1 0) (getD row 0 0)))
+isTested : ℕ → ℕ → ℕ → Bool
+isTested n k i =
+    elim (eqb n 3) [
+      | true ↦ isIn 3 2 4 0 k i || (isIn 3 0 0 2 k i || isIn 3 0 2 4 k i)
+      | false ↦ isIn 2 0 0 2 k i
+    ]
 
-is-row : (n : ℕ) (row : List ℕ) → isRow n row ≡ true → Row n row
-unfolding isRow
-is-row n row h =
-    let later = and-r (ltb (getD row 0 0) (cellSize n)) _ h in
-    record {
-      from = ltb-true _ _ (and-l (ltb (getD row 0 0) (cellSize n)) _ h);
-      by = ltb-true _ _ (and-l (ltb (getD row 1 0) n) _ later);
-      to = eqb-true _ _ (and-r (ltb (getD row 1 0) n) _ later);
-    }
+module _ (n : ℕ) (dim : Dim n) (t cell : List ℕ) where
+  from-at : (j p a k i : ℕ) → followFrom n t cell j p a ≡ true → isIn n j p a k i ≡ true → followsAt n t cell i k ≡ true
+  unfolding followFrom isIn
+  from-at j p a k i h e =
+      let link = eqb-true i j (and-l (eqb i j) _ e) in
+      let later = and-r (eqb i j) _ e in
+      let order = eqb-true (k / corners n) p (and-l (eqb (k / corners n) p) _ later) in
+      let behind = not-true _ (and-r (eqb (k / corners n) p) _ later) in
+      let is : placeOf n p (k % corners n) ≡ k = rw (← order) (place-is n dim k) in
+      let here = below-at (λ s. ltb s a || followsAt n t cell j (placeOf n p s)) (corners n) h (k % corners n) (vertex-in n dim k) in
+      rw (link, ← is) (⊎-elim (λ f. absurd (clash f behind)) (λ f. f) (or-cases (ltb (k % corners n) a) _ here))
 
-rows-true : (n : ℕ) → Dim n → allBelow (length (testRows n)) (λ k. isRow n (getD (testRows n) k [])) ≡ true
-unfolding isRow computed
-rows-true n dim =
-    two-cases n dim (λ n. allBelow (length (testRows n)) (λ k. isRow n (getD (testRows n) k [])) ≡ true) refl refl
+tested-at : (n : ℕ) (t cell : List ℕ) → Dim n → allFollow n t cell ≡ true
+    → (k i : ℕ) → isTested n k i ≡ true → followsAt n t cell i k ≡ true
+unfolding isTested allFollow
+tested-at n t cell dim h k i e =
+    two-cases n dim (λ n. Dim n → allFollow n t cell ≡ true → isTested n k i ≡ true → followsAt n t cell i k ≡ true)
+    (λ flat h. from-at 2 flat t cell 0 0 2 k i h)
+    (λ solid h e.
+    let first = followFrom 3 t cell 2 4 0 in
+    let second = followFrom 3 t cell 0 0 2 in
+    let later = and-r first _ h in
+    ⊎-elim (from-at 3 solid t cell 2 4 0 k i (and-l first _ h))
+    (λ e. ⊎-elim (from-at 3 solid t cell 0 0 2 k i (and-l second _ later)) (from-at 3 solid t cell 0 2 4 k i (and-r second _ later))
+    (or-cases (isIn 3 0 0 2 k i) _ e)) (or-cases (isIn 3 2 4 0 k i) _ e)) dim h e
 
-row-at : (n k : ℕ) → Dim n → k < length (testRows n) → Row n (getD (testRows n) k [])
-row-at n k dim l = is-row n _ (below-at (λ k. isRow n (getD (testRows n) k [])) (length (testRows n)) (rows-true n dim) k l)
+-- ---- each link is a step, is tested, or is one of these turned round; or it is link 0 beside such links
 
--- ---- each link is a step, a row of tests, or one of these turned round
+-- the last link of the path to the place k; no link of the cell for the place 0, whose path is empty
+unfoldable lastLink : ℕ → ℕ → ℕ
+lastLink n k = getD (path n k) (length (path n k) - 1) n
 
 -- a step goes by link i from the place k
 isStep : ℕ → ℕ → ℕ → Bool
 isStep n k i = eqb (lastLink n (cellLink n i k)) i
 
--- a row does
-isRowOf : ℕ → ℕ → List ℕ → Bool
-isRowOf k i row = eqb (getD row 0 0) k && eqb (getD row 1 0) i
+known : ℕ → ℕ → ℕ → Bool
+known n k i = isStep n k i || isTested n k i
 
-inRows : List (List ℕ) → ℕ → ℕ → Bool
-inRows rows k i = not (allBelow (length rows) (λ j. not (isRowOf k i (getD rows j []))))
+isShown : ℕ → ℕ → ℕ → Bool
+isShown n k i = known n k i || known n (cellLink n i k) i
 
-covered : ℕ → List (List ℕ) → ℕ → ℕ → Bool
-covered n rows k i = isStep n k i || inRows rows k i
+-- for n = 3: link 2, then link 0, then link 2 again
+isBeside : ℕ → ℕ → ℕ → Bool
+isBeside n k i =
+    let m = cellLink n 2 k in
+    (eqb n 3 && eqb i 0)
+    && (isShown n m 0 && (isShown n m 2 && (isShown n (cellLink n 0 m) 2 && eqb (cellLink n 2 (cellLink n 0 m)) (cellLink n 0 k))))
 
-allCovered : ℕ → List (List ℕ) → Bool
-allCovered n rows = allBelow (cellSize n) (λ k. allBelow n (λ i. covered n rows k i || covered n rows (cellLink n i k) i))
-
-covered-true : (n : ℕ) → Dim n → allCovered n (testRows n) ≡ true
-unfolding isStep isRowOf inRows covered allCovered computed
-covered-true n dim = two-cases n dim (λ n. allCovered n (testRows n) ≡ true) refl refl
+shown-true : (n : ℕ) → Dim n → allBelow (cellSize n) (λ k. allBelow n (λ i. isShown n k i || isBeside n k i)) ≡ true
+unfolding isIn isTested lastLink isStep known isShown isBeside path everything
+shown-true n dim =
+    two-cases n dim (λ n. allBelow (cellSize n) (λ k. allBelow n (λ i. isShown n k i || isBeside n k i)) ≡ true) refl refl
 
 -- ---- the steps
 
 step-zero : (n : ℕ) → Dim n → lastLink n 0 ≡ n
-unfolding computed
+unfolding lastLink path everything
 step-zero n dim = two-cases n dim (λ n. lastLink n 0 ≡ n) refl refl
 
 -- the dart that the step to the place k leads to
-abbrev stepped : ℕ → List ℕ → ℕ → ℕ → ℕ
-stepped n t d k = link t (lastLink n k) (place n t d (cellLink n (lastLink n k) k))
+abbrev reached : ℕ → List ℕ → ℕ → ℕ → ℕ
+reached n t d k = link t (lastLink n k) (place n t d (cellLink n (lastLink n k) k))
 
 steps-true : (n : ℕ) (t : List ℕ) (d : ℕ) → Dim n
-    → tabulate (cellSize n - 1) (λ k. stepped n t d (suc k)) ≡ tabulate (cellSize n - 1) (λ k. place n t d (suc k))
-unfolding place computed
+    → tabulate (cellSize n - 1) (λ k. reached n t d (suc k)) ≡ tabulate (cellSize n - 1) (λ k. place n t d (suc k))
+unfolding lastLink place path everything
 steps-true n t d dim =
     two-cases n dim
-    (λ n. tabulate (cellSize n - 1) (λ k. stepped n t d (suc k)) ≡ tabulate (cellSize n - 1) (λ k. place n t d (suc k)))
+    (λ n. tabulate (cellSize n - 1) (λ k. reached n t d (suc k)) ≡ tabulate (cellSize n - 1) (λ k. place n t d (suc k)))
     refl refl
 
-step-at : (n : ℕ) (t : List ℕ) (d k : ℕ) → Dim n → k ≢ 0 → k < cellSize n → stepped n t d k ≡ place n t d k
+step-at : (n : ℕ) (t : List ℕ) (d k : ℕ) → Dim n → k ≢ 0 → k < cellSize n → reached n t d k ≡ place n t d k
 step-at n t d zero dim some l = absurd (some refl)
 step-at n t d (suc k) dim some l =
-    sym (getD-tab (λ k. stepped n t d (suc k)) (cellSize n - 1) k 0 (omega arith))
+    sym (getD-tab (λ k. reached n t d (suc k)) (cellSize n - 1) k 0 (omega arith))
     ∙ ap (λ (l : List ℕ). getD l k 0) (steps-true n t d dim)
     ∙ getD-tab (λ k. place n t d (suc k)) (cellSize n - 1) k 0 (omega arith)
 
--- ---- the listed cell
+-- ---- where the links lead
 
 module _ {n : ℕ} {t : List ℕ} {d : ℕ} (D : MapDart n t d) where
-  pub places-length : length (places n t d) ≡ cellSize n
-  unfolding places
-  places-length = length-tab (place n t d) (cellSize n)
-
-  pub places-at : (k : ℕ) → k < cellSize n → getD (places n t d) k 0 ≡ place n t d k
-  unfolding places
-  places-at k l = getD-tab (place n t d) (cellSize n) k 0 l
-
-  pub place-live : (k : ℕ) → k < cellSize n → live t (place n t d k) ≡ true
-  place-live k l = cell-live (D .table) d (D .lives) _ (place-in (D .table) d (D .lives) k l)
-
   goes-in : (i k : ℕ) → i < n → k < cellSize n → cellLink n i k < cellSize n
   goes-in i k hi hk = rows-in n i k (D .table .dim) hi hk
 
   comes : (i k : ℕ) → i < n → k < cellSize n → cellLink n i (cellLink n i k) ≡ k
   comes i k hi hk = let three = D .table .dim .1 in row-comes n k (D .table .dim) hk i (omega arith)
-
-  pub test-there : (k : ℕ) → k < length (testRows n) → TestRow t (places n t d) (getD (testRows n) k [])
-  test-there k l =
-      let T = D .table in
-      let row = row-at n k (T .dim) l in
-      let low = row .from in
-      let to = goes-in _ _ (row .by) (row .from) in
-      let same = row .to in
-      let long = places-length in
-      let inside = live-below T _ (place-live _ (row .from)) in
-      let whole = T .whole in
-      let top = T .dim .1 in
-      let link = row .by in
-      record {
-        from = omega arith;
-        by = omega arith;
-        to = omega arith;
-        entry = rw (places-at _ (row .from)) (omega arith);
-      }
-
-  -- ---- where the links lead
 
   abbrev Follows : ℕ → ℕ → Type 0
   Follows i k = link t i (place n t d k) ≡ place n t d (cellLink n i k)
@@ -172,7 +155,7 @@ module _ {n : ℕ} {t : List ℕ} {d : ℕ} (D : MapDart n t d) where
   turned i k hi hk h =
       let m = cellLink n i k in
       let three = D .table .dim .1 in
-      let back = rule-at (D .table) _ (place-live m (goes-in i k hi hk)) .comes i (omega arith) in
+      let back = rule-at (D .table) _ (place-live D m (goes-in i k hi hk)) .comes i (omega arith) in
       ap (link t i) (sym (h ∙ ap (place n t d) (comes i k hi hk))) ∙ back
 
   by-step : (i k : ℕ) → i < n → k < cellSize n → isStep n k i ≡ true → Follows i k
@@ -184,55 +167,84 @@ module _ {n : ℕ} {t : List ℕ} {d : ℕ} (D : MapDart n t d) where
       let some : m ≢ 0 = λ (e : m ≡ 0). let at = ap (lastLink n) e in omega arith in
       rw (last, comes i k hi hk) at (step-at n t d m (D .table .dim) some (goes-in i k hi hk))
 
-  module _ (row : List ℕ) (r : Row n row) where
-    fits-is : fitsRow t (places n t d) row
-        ≡ eqb (link t (getD row 1 0) (place n t d (getD row 0 0))) (place n t d (cellLink n (getD row 1 0) (getD row 0 0)))
-    unfolding fitsRow
-    fits-is = rw (r .to, places-at _ (r .from), places-at _ (goes-in _ _ (r .by) (r .from)))
+  follows-is : (i k : ℕ) → i < n → k < cellSize n
+      → followsAt n t (places n t d) i k ≡ eqb (link t i (place n t d k)) (place n t d (cellLink n i k))
+  unfolding followsAt
+  follows-is i k hi hk = rw (places-at D k hk, places-at D _ (goes-in i k hi hk))
 
-    fits-follow : fitsRow t (places n t d) row ≡ true → Follows (getD row 1 0) (getD row 0 0)
-    fits-follow h = eqb-true _ _ (sym fits-is ∙ h)
+  module _ (all : allFollow n t (places n t d) ≡ true) where
+    by-test : (i k : ℕ) → i < n → k < cellSize n → isTested n k i ≡ true → Follows i k
+    by-test i k hi hk h = eqb-true _ _ (sym (follows-is i k hi hk) ∙ tested-at n t _ (D .table .dim) all k i h)
 
-    follow-fits : Follows (getD row 1 0) (getD row 0 0) → fitsRow t (places n t d) row ≡ true
-    follow-fits h = fits-is ∙ eq-eqb _ _ h
+    by-known : (i k : ℕ) → i < n → k < cellSize n → known n k i ≡ true → Follows i k
+    unfolding known
+    by-known i k hi hk h = ⊎-elim (by-step i k hi hk) (by-test i k hi hk) (or-cases (isStep n k i) _ h)
 
-  by-row : allFit t (places n t d) (testRows n) ≡ true → (i k : ℕ) → inRows (testRows n) k i ≡ true → Follows i k
-  unfolding allFit inRows isRowOf
-  by-row h i k e =
-      let (j, l, f) = below-not (λ j. not (isRowOf k i (getD (testRows n) j []))) (length (testRows n)) (not-true _ e) in
-      let row = getD (testRows n) j [] in
-      let here : isRowOf k i row ≡ true = not-false _ f in
-      let from = eqb-true (getD row 0 0) k (and-l (eqb (getD row 0 0) k) _ here) in
-      let by = eqb-true (getD row 1 0) i (and-r (eqb (getD row 0 0) k) _ here) in
-      let fit = below-at (λ j. fitsRow t (places n t d) (getD (testRows n) j [])) (length (testRows n)) h j l in
-      rw (from, by) at (fits-follow row (row-at n j (D .table .dim) l) fit)
+    by-shown : (i k : ℕ) → i < n → k < cellSize n → isShown n k i ≡ true → Follows i k
+    unfolding isShown
+    by-shown i k hi hk h =
+        ⊎-elim (by-known i k hi hk) (λ e. turned i k hi hk (by-known i _ hi (goes-in i k hi hk) e)) (or-cases (known n k i) _ h)
 
-  pub tests-follow : allFit t (places n t d) (testRows n) ≡ true → (i k : ℕ) → i < n → k < cellSize n → Follows i k
-  unfolding covered allCovered
-  tests-follow h i k hi hk =
-      let rows = testRows n in
-      let m = cellLink n i k in
-      let either = below-both (λ k i. covered n rows k i || covered n rows (cellLink n i k) i) (cellSize n) n
-      (covered-true n (D .table .dim)) k i hk hi in
-      ⊎-elim (goes k hk) (λ c. turned i k hi hk (goes m (goes-in i k hi hk) c)) (or-cases (covered n rows k i) _ either)
-    where
-      goes : (k : ℕ) → k < cellSize n → covered n (testRows n) k i ≡ true → Follows i k
-      goes k hk c = ⊎-elim (by-step i k hi hk) (by-row h i k) (or-cases (isStep n k i) _ c)
+    -- links 0 and 2 commute
+    beside : (k : ℕ) → n ≡ 3 → k < cellSize n → let m = cellLink n 2 k in
+        Follows 0 m → Follows 2 m → Follows 2 (cellLink n 0 m) → cellLink n 2 (cellLink n 0 m) ≡ cellLink n 0 k → Follows 0 k
+    beside k three hk first second third same =
+        let m = cellLink n 2 k in
+        let x = place n t d m in
+        let rule = rule-at (D .table) x (place-live D m (goes-in 2 k (omega arith) hk)) in
+        let near = rule-at (D .table) _ (rule .goes 2 (omega arith)) in
+        let at : link t 2 x ≡ place n t d k = second ∙ ap (place n t d) (comes 2 k (omega arith) hk) in
+        let there : link t 2 (link t 0 x) ≡ place n t d (cellLink n 0 k) = ap (link t 2) first ∙ third ∙ ap (place n t d) same in
+        let meet : link t 0 (link t 2 (link t 0 x)) ≡ link t 2 x =
+        sym (rule-at (D .table) _ (rule-at (D .table) _ (rule-at (D .table) _ (rule .goes 0 (omega arith)) .goes 2 (omega arith)) .goes 0 (omega arith)) .comes 2 (omega arith))
+        ∙ ap (link t 2) (rule .cross 0 2 (omega arith) (omega arith)) in
+        ap (link t 0) (sym at ∙ sym meet)
+        ∙ rule-at (D .table) _ (rule-at (D .table) _ (rule .goes 0 (omega arith)) .goes 2 (omega arith)) .comes 0 (omega arith) ∙ there
+
+    by-beside : (i k : ℕ) → k < cellSize n → isBeside n k i ≡ true → Follows i k
+    unfolding isBeside
+    by-beside i k hk h =
+        let m = cellLink n 2 k in
+        let which = and-l (eqb n 3 && eqb i 0) _ h in
+        let three = eqb-true n 3 (and-l (eqb n 3) _ which) in
+        let rest = and-r (eqb n 3 && eqb i 0) _ h in
+        let later = and-r (isShown n m 0) _ rest in
+        let last = and-r (isShown n m 2) _ later in
+        let hm = goes-in 2 k (omega arith) hk in
+        rw (eqb-true i 0 (and-r (eqb n 3) _ which))
+        (beside k three hk (by-shown 0 m (omega arith) hm (and-l (isShown n m 0) _ rest))
+        (by-shown 2 m (omega arith) hm (and-l (isShown n m 2) _ later))
+        (by-shown 2 _ (omega arith) (goes-in 0 m (omega arith) hm) (and-l (isShown n (cellLink n 0 m) 2) _ last))
+        (eqb-true _ _ (and-r (isShown n (cellLink n 0 m) 2) _ last)))
+
+    pub tests-follow : (i k : ℕ) → i < n → k < cellSize n → Follows i k
+    tests-follow i k hi hk =
+        ⊎-elim (by-shown i k hi hk) (by-beside i k hk)
+        (or-cases (isShown n k i) _
+        (below-both (λ k i. isShown n k i || isBeside n k i) (cellSize n) n (shown-true n (D .table .dim)) k i hk hi))
 
   pub tests-other : onlyFirst d (places n t d) ≡ true → (k : ℕ) → 0 < k → k < cellSize n → place n t d k ≢ d
   unfolding onlyFirst
   tests-other h k some l e =
-      clash (below-at (notAgain d (places n t d)) _ h k (rw places-length l)) (again d _ k some (places-at k l ∙ e))
+      clash (below-at (notAgain d (places n t d)) _ h k (rw (places-length D) l)) (again d _ k some (places-at D k l ∙ e))
 
-  pub follow-tests : Listed n t d → allFit t (places n t d) (testRows n) ≡ true
-  unfolding allFit
-  follow-tests h = below-of _ _ (λ k l.
-      let row = row-at n k (D .table .dim) l in
-      follow-fits _ row (h .follow _ _ (row .by) (row .from)))
+  follow-from : Listed n t d → (i p a : ℕ) → i < n → p < orders n → followFrom n t (places n t d) i p a ≡ true
+  unfolding followFrom
+  follow-from h i p a hi hp = below-of _ _ (λ s l.
+      let low = place-low n (D .table .dim) p hp s l in
+      or-i (ltb s a) _ (inr (follows-is i _ hi low ∙ eq-eqb _ _ (h .follow i _ hi low))))
 
   pub other-tests : Listed n t d → onlyFirst d (places n t d) ≡ true
   unfolding onlyFirst
   other-tests h = below-of _ _ (λ k l.
-      let low : k < cellSize n = rw places-length at l in
+      let low : k < cellSize n = rw (places-length D) at l in
       if-eq k 0 (λ e. rw e (not-again-first d _))
-      (λ e. not-again d _ k (rw (places-at k low) (h .other k (omega arith) low))))
+      (λ e. not-again d _ k (rw (places-at D k low) (h .other k (omega arith) low))))
+
+pub follow-tests : (n : ℕ) (t : List ℕ) (d : ℕ) → MapDart n t d → Listed n t d → allFollow n t (places n t d) ≡ true
+unfolding allFollow orders
+follow-tests n t d D h =
+    two-cases n (D .table .dim) (λ n. MapDart n t d → Listed n t d → allFollow n t (places n t d) ≡ true)
+    (λ D h. follow-from D h 0 0 2 (omega arith) (omega arith))
+    (λ D h. and-i (follow-from D h 2 4 0 (omega arith) (omega arith))
+    (and-i (follow-from D h 0 0 2 (omega arith) (omega arith)) (follow-from D h 0 2 4 (omega arith) (omega arith)))) D h

@@ -1,137 +1,116 @@
--- The listing of a cell, step by step: after all steps each place has its dart.
--- Main definition: `listing`.
--- Main theorems: `step-ready` (what a step reads and writes is there), `listing-next`, `listing-all`.
-use Prim.Native.Nat.{ℕ, zero, suc, _+_, _*_, _-_, _≤_, _<_}
+-- The listing of a cell: a step keeps a live slot at each place, and after all steps each place has its dart.
+-- Main theorems: `start-listing`, `walked-listing`, `around-listing` and `spread-listing`; `listed-flat` and `listed-solid`.
+use Prim.Native.Nat.{ℕ, zero, suc, _+_, _*_, _-_, _^_, _≤_, _<_}
 use mathlib.Core.Path.{_≡_, refl, sym, ap, _∙_}
-use mathlib.Core.Bool.{Bool, true, _&&_}
-use mathlib.Core.List.{List, []}
-use native.Mathlib.Numerals.{add-one}
+use mathlib.Core.Bool.{Bool, true}
+use mathlib.Core.List.{List}
 use native.Mathlib.Omega.{arith}
 use lib.ListN.{length, getD, set, length-set, length-replicate, getD-replicate}
 use lib.Seq.{getD-set-same, getD-set-other}
-use lib.Dec.{ltb}
-use borrow.Author.Tests.{ltb-true}
-use Rattle.model.specs.Lists.{allBelow}
 use Rattle.model.specs.Table.{link, live}
 use Rattle.model.specs.Cell.{cellSize}
-use Rattle.model.specs.Meaning.Maps.{Dim}
-use Rattle.model.specs.Meaning.Places.{place}
-use Rattle.model.proofs.Lists.Scan.{if-eq, and-l, and-r, below-at}
-use Rattle.model.proofs.Maps.Dim.{two-cases}
+use Rattle.model.specs.Numbering.{corners, cellLink}
+use Rattle.model.specs.Meaning.Places.{path, place}
+use Rattle.model.specs.Everything.{everything}
+use Rattle.model.proofs.Lists.Scan.{if-eq, below-three, length-tab, getD-tab}
 use Rattle.model.proofs.Maps.Tables.{live-below, rule-at}
-use Rattle.cells.specs.Rows.{stepRows, start, places, computed}
+use Rattle.model.proofs.Cells.Rows.{row-goes}
+use Rattle.model.proofs.Cells.Cell.{cell-live, place-in}
+use Rattle.numbering.specs.Orders.{orders, placeOf}
+use Rattle.numbering.proofs.Orders.{place-low}
+use Rattle.cells.specs.Listing.{places, start, Listing, stepped, walked, around, spread}
 use Rattle.cells.specs.Good.{MapDart}
 
--- ---- the steps
-
-steps-true : (n : ℕ) → Dim n → length (stepRows n) ≡ cellSize n - 1
-unfolding computed
-steps-true n dim = two-cases n dim (λ n. length (stepRows n) ≡ cellSize n - 1) refl refl
-
-pub steps-length : (n : ℕ) (steps : List (List ℕ)) → Dim n → steps ≡ stepRows n → length steps ≡ cellSize n - 1
-steps-length n steps dim e = ap length e ∙ steps-true n dim
-
-pub size-few : (n : ℕ) → Dim n → cellSize n ≤ 48
-unfolding cellSize
-size-few n dim = two-cases n dim (λ n. cellSize n ≤ 48) (omega arith) (omega arith)
-
--- a step goes between places, by a link of the cell
-record Step (n : ℕ) (row : List ℕ) : Type 0 where
-  to : getD row 0 0 < cellSize n
-  from : getD row 1 0 < cellSize n
-  by : getD row 2 0 < n
-
-isStep : ℕ → List ℕ → Bool
-isStep n row = ltb (getD row 0 0) (cellSize n) && (ltb (getD row 1 0) (cellSize n) && ltb (getD row 2 0) n)
-
-is-step : (n : ℕ) (row : List ℕ) → isStep n row ≡ true → Step n row
-unfolding isStep
-is-step n row h =
-    let later = and-r (ltb (getD row 0 0) (cellSize n)) _ h in
-    record {
-      to = ltb-true _ _ (and-l (ltb (getD row 0 0) (cellSize n)) _ h);
-      from = ltb-true _ _ (and-l (ltb (getD row 1 0) (cellSize n)) _ later);
-      by = ltb-true _ _ (and-r (ltb (getD row 1 0) (cellSize n)) _ later);
-    }
-
-rows-true : (n : ℕ) → Dim n → allBelow (cellSize n - 1) (λ k. isStep n (getD (stepRows n) k [])) ≡ true
-unfolding isStep computed
-rows-true n dim =
-    two-cases n dim (λ n. allBelow (cellSize n - 1) (λ k. isStep n (getD (stepRows n) k [])) ≡ true) refl refl
-
-steps-at : (n k : ℕ) → Dim n → k < cellSize n - 1 → Step n (getD (stepRows n) k [])
-steps-at n k dim l = is-step n _ (below-at (λ k. isStep n (getD (stepRows n) k [])) (cellSize n - 1) (rows-true n dim) k l)
-
--- ---- the listing
-
--- a step: the dart that the link leads to is put at the place
-abbrev pub stepped : List ℕ → List ℕ → List ℕ → List ℕ
-stepped t cell row = set cell (getD row 0 0) (link t (getD row 2 0) (getD cell (getD row 1 0) 0))
-
--- after k steps
-unfoldable pub listing : ℕ → List ℕ → ℕ → ℕ → List ℕ
-listing n t d zero = start n d
-listing n t d (suc k) = stepped t (listing n t d k) (getD (stepRows n) k [])
-
-pub listing-none : (n : ℕ) (t : List ℕ) (d : ℕ) → start n d ≡ listing n t d 0
-unfolding listing
-listing-none n t d = refl
-
-pub listing-next : (n : ℕ) (t : List ℕ) (d k : ℕ) (steps : List (List ℕ)) (cell : List ℕ) (x : ℕ)
-    → steps ≡ stepRows n → cell ≡ listing n t d k
-    → x ≡ link t (getD (getD steps k []) 2 0) (getD cell (getD (getD steps k []) 1 0) 0)
-    → set cell (getD (getD steps k []) 0 0) x ≡ listing n t d (k + 1)
-unfolding listing
-listing-next n t d k steps cell x e f g = rw (g, e, f) (ap (listing n t d) (sym (add-one k)))
-
-pub listing-all : (n : ℕ) (t : List ℕ) (d : ℕ) → Dim n → listing n t d (cellSize n - 1) ≡ places n t d
-unfolding listing places place computed
-listing-all n t d dim = two-cases n dim (λ n. listing n t d (cellSize n - 1) ≡ places n t d) refl refl
-
--- what a step reads and writes is there
-pub record Ready (t cell row : List ℕ) : Type 0 where
-  pub to : getD row 0 0 < length cell
-  pub from : getD row 1 0 < length cell
-  pub by : getD row 2 0 < 4
-  pub entry : 4 * getD cell (getD row 1 0) 0 + getD row 2 0 < length t
-  pub few : length cell ≤ 48
+-- ---- the darts of a cell by their places
 
 module _ {n : ℕ} {t : List ℕ} {d : ℕ} (D : MapDart n t d) where
-  pub listing-length : (k : ℕ) → length (listing n t d k) ≡ cellSize n
-  unfolding listing start
-  listing-length zero = length-replicate (cellSize n) d
-  listing-length (suc k) = length-set (listing n t d k) _ _ ∙ listing-length k
+  pub places-length : length (places n t d) ≡ cellSize n
+  unfolding places
+  places-length = length-tab (place n t d) (cellSize n)
 
-  pub listing-same : (cell₀ cell : List ℕ) (k : ℕ) → cell₀ ≡ start n d → cell ≡ listing n t d k → length cell ≡ length cell₀
+  pub places-at : (k : ℕ) → k < cellSize n → getD (places n t d) k 0 ≡ place n t d k
+  unfolding places
+  places-at k l = getD-tab (place n t d) (cellSize n) k 0 l
+
+  pub place-live : (k : ℕ) → k < cellSize n → live t (place n t d k) ≡ true
+  place-live k l = cell-live (D .table) d (D .lives) _ (place-in (D .table) d (D .lives) k l)
+
+  pub places-listing : Listing n t (places n t d)
+  places-listing = record { table = D .table; long = places-length; lives = λ k l. rw (places-at k l) (place-live k l) }
+
+  pub start-listing : Listing n t (start n d)
   unfolding start
-  listing-same cell₀ cell k e f = ap length f ∙ listing-length k ∙ sym (ap length e ∙ length-replicate (cellSize n) d)
+  start-listing = record {
+    table = D .table;
+    long = length-replicate (cellSize n) d;
+    lives = λ k l. rw (getD-replicate (cellSize n) k d 0 l) (D .lives);
+  }
 
-  listing-live : (k : ℕ) → k < cellSize n → (j : ℕ) → j < cellSize n → live t (getD (listing n t d k) j 0) ≡ true
-  unfolding listing start
-  listing-live zero h j l = rw (getD-replicate (cellSize n) j d 0 l) (D .lives)
-  listing-live (suc k) h j l =
-      let cell = listing n t d k in
-      let row = getD (stepRows n) k [] in
-      let old = listing-live k (omega arith) in
-      let step = steps-at n k (D .table .dim) (omega arith) in
-      let top = D .table .dim in
-      let long = listing-length k in
-      let next = rule-at (D .table) _ (old (getD row 1 0) (step .from)) .goes (getD row 2 0) (omega arith) in
-      if-eq j (getD row 0 0)
-      (λ e. rw (e, getD-set-same cell (getD row 0 0) _ 0 (omega arith)) next)
-      (λ e. rw (getD-set-other cell (getD row 0 0) j _ 0 e) (old j l))
+-- ---- steps
 
-  ready-at : (k : ℕ) → k < cellSize n - 1 → Ready t (listing n t d k) (getD (stepRows n) k [])
-  ready-at k l =
-      let T = D .table in
-      let step = steps-at n k (T .dim) l in
-      let long = listing-length k in
-      let whole = T .whole in
-      let inside = live-below T _ (listing-live k (omega arith) (getD (getD (stepRows n) k []) 1 0) (step .from)) in
-      let few = size-few n (T .dim) in
-      let top = T .dim in
-      record { to = omega arith; from = omega arith; by = omega arith; entry = omega arith; few = omega arith }
+module _ {n : ℕ} {t cell : List ℕ} (L : Listing n t cell) (i k : ℕ) (by : i < n) (at : k < cellSize n) where
+  pub step-there : 4 * getD cell k 0 + i < length t
+  step-there =
+      let inside = live-below (L .table) _ (L .lives k at) in
+      let whole = L .table .whole in
+      let top = L .table .dim .1 in
+      omega arith
 
-  pub step-ready : (steps : List (List ℕ)) (cell : List ℕ) (k : ℕ) → steps ≡ stepRows n → cell ≡ listing n t d k
-      → k < cellSize n - 1 → Ready t cell (getD steps k [])
-  step-ready steps cell k e f l = rw (e, f) (ready-at k l)
+  pub step-goes : cellLink n i k < cellSize n
+  step-goes = let top = L .table .dim .1 in row-goes n k (L .table .dim) at i (omega arith)
+
+  pub stepped-listing : Listing n t (stepped n t i k cell)
+  unfolding stepped
+  stepped-listing =
+      let top = L .table .dim .1 in
+      let long = L .long in
+      let goes = step-goes in
+      let next = rule-at (L .table) _ (L .lives k at) .goes i (omega arith) in
+      record {
+        table = L .table;
+        long = length-set cell _ _ ∙ L .long;
+        lives = λ m l.
+            if-eq m (cellLink n i k)
+            (λ e. rw (e, getD-set-same cell (cellLink n i k) _ 0 (omega arith)) next)
+            (λ e. rw (getD-set-other cell (cellLink n i k) m _ 0 e) (L .lives m l));
+      }
+
+pub walked-listing : {n : ℕ} {t : List ℕ} (c i j k : ℕ) {cell : List ℕ} → i < n → j < n → k < cellSize n → Listing n t cell
+    → Listing n t (walked n t c i j k cell)
+unfolding walked
+walked-listing zero i j k hi hj hk L = L
+walked-listing (suc c) i j k hi hj hk L =
+    walked-listing c j i _ hj hi (step-goes L i k hi hk) (stepped-listing L i k hi hk)
+
+pub around-listing : {t : List ℕ} (far k : ℕ) {cell : List ℕ} → k < 48 → Listing 3 t cell → Listing 3 t (around t far k cell)
+unfolding around cellSize
+around-listing far k low L =
+    walked-listing (5 - far) 2 1 k (omega arith) (omega arith) low (walked-listing far 1 2 k (omega arith) (omega arith) low L)
+
+-- the vertices before 2 ^ a, and those from there to twice as many, are vertices of a hexahedron
+pub bit-few : (a : ℕ) → a < 3 → 2 ^ a ≤ 4
+bit-few = below-three (λ a. 2 ^ a ≤ 4) (omega arith) (omega arith) (omega arith)
+
+pub spread-listing : {t : List ℕ} (a far c s : ℕ) {cell : List ℕ} → a < 3 → s + c ≤ 2 ^ a → Listing 3 t cell
+    → Listing 3 t (spread t a far c s cell)
+unfolding spread placeOf corners cellSize
+spread-listing a far zero s low ends L = L
+spread-listing a far (suc c) s low ends L =
+    let few = bit-few a low in
+    spread-listing a far c (suc s) low (omega arith)
+    (around-listing far _ (omega arith) (walked-listing 1 0 0 _ (omega arith) (omega arith) (omega arith) L))
+
+-- ---- all steps
+
+unfoldable pub listingComputed : Unit {0}
+unfolding stepped walked around spread start placeOf places place path everything
+listingComputed = tt
+
+pub listed-flat : (t : List ℕ) (d : ℕ) → walked 2 t 3 1 0 (placeOf 2 0 0) (walked 2 t 4 0 1 (placeOf 2 0 0) (start 2 d)) ≡ places 2 t d
+unfolding listingComputed
+listed-flat t d = refl
+
+pub listed-solid : (t : List ℕ) (d : ℕ)
+    → spread t 2 5 (2 ^ 2) 0 (spread t 1 3 (2 ^ 1) 0 (spread t 0 3 (2 ^ 0) 0 (around t 3 (placeOf 3 0 0) (start 3 d)))) ≡ places 3 t d
+unfolding listingComputed
+listed-solid t d = refl

@@ -17,9 +17,9 @@ use Rattle.model.specs.Meaning.Places.{place}
 use Rattle.model.proofs.Lists.Scan.{test, if-eq, in-tab}
 use Rattle.model.proofs.Maps.Tables.{live-below, rule-at}
 use Rattle.model.proofs.Cells.Cell.{place-in, cell-same}
-use Rattle.cells.specs.Rows.{places}
+use Rattle.cells.specs.Listing.{places}
 use Rattle.cells.specs.Good.{MapDart, seenWith, SeenGood}
-use Rattle.cells.proofs.Good.{places-length, places-at, place-live}
+use Rattle.cells.proofs.Listing.{places-length, places-at, place-live}
 
 -- ---- setting marks
 

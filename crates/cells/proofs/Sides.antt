@@ -28,9 +28,11 @@ use Rattle.model.proofs.Maps.Dim.{two-cases}
 use Rattle.model.proofs.Maps.Tables.{live-below}
 use Rattle.model.proofs.Sewing.Side.{on-side, side-own, side-far, side-within, straight-side}
 use Rattle.model.proofs.Cells.Chart.{chart-one}
-use Rattle.cells.specs.Rows.{sideSize, sidePlaces, places, computed}
-use Rattle.cells.specs.Good.{MapDart, SidePlaces, notLed, isStraight, nthSide, allStraight}
-use Rattle.cells.proofs.Good.{places-length, places-at, place-live}
+use Rattle.model.specs.Everything.{everything}
+use Rattle.numbering.specs.Orders.{nextOrder, placeOf}
+use Rattle.cells.specs.Listing.{places}
+use Rattle.cells.specs.Good.{MapDart, sideSize, sideFrom, lastOrder, sideOf, notLed, isStraight, allStraight}
+use Rattle.cells.proofs.Listing.{places-length, places-at, place-live}
 
 -- ---- the test that link n does not lead to a place
 
@@ -51,22 +53,7 @@ module _ (n : ℕ) (t cell side : List ℕ) where
   unfolding notLed
   led k to some e h = rw (ne-eqb k 0 (λ q. omega arith), eq-eqb _ _ (h ∙ e))
 
--- ---- sides of one size, one after the other
-
-pub side-end : (k size total : ℕ) → 0 < size → k < total / size → k * size + size ≤ total
-side-end k size total some h = subst (λ (e : ℕ). e ≤ total) (suc-mul k size) (le-div-iff-mul-le some .0 h)
-
-pub side-at : (sides : List ℕ) (size k : ℕ) → take (k * size + size - k * size) (drop (k * size) sides) ≡ nthSide sides size k
-unfolding nthSide
-side-at sides size k =
-    let same : k * size + size - k * size ≡ size = omega arith in
-    ap (λ (l : ℕ). take l (drop (k * size) sides)) same
-
 -- ---- the rows of the sides
-
--- the k-th side of a cell
-abbrev sideOf : ℕ → ℕ → List ℕ
-sideOf n k = nthSide (sidePlaces n) (sideSize n) k
 
 -- where in a row a place stands that is in it
 member-at : (row : List ℕ) (p : ℕ) → member row p ≡ true → (j : ℕ) × (j < length row) × (getD row j 0 ≡ p)
@@ -93,16 +80,15 @@ inSides : ℕ → ℕ → Bool
 inSides n p = not (allBelow (2 * n) (λ k. not (member (sideOf n k) p)))
 
 record Rows (n : ℕ) : Type 0 where
-  number : length (sidePlaces n) / sideSize n ≡ 2 * n
   some : 0 < sideSize n
   sides : allBelow (2 * n) (λ k. isSide n (sideOf n k)) ≡ true
   all : allBelow (cellSize n) (inSides n) ≡ true
 
 rows-true : (n : ℕ) → Dim n → Rows n
-unfolding member isNext isKept isSide inSides nthSide computed
+unfolding member isNext isKept isSide inSides sideSize sideFrom lastOrder sideOf nextOrder placeOf everything
 rows-true n dim = two-cases n dim Rows
-    (record { number = refl; some = omega arith; sides = refl; all = refl })
-    (record { number = refl; some = omega arith; sides = refl; all = refl })
+    (record { some = omega arith; sides = refl; all = refl })
+    (record { some = omega arith; sides = refl; all = refl })
 
 -- a row, by what the tests say
 record Side (n : ℕ) (row : List ℕ) : Type 0 where
@@ -160,21 +146,6 @@ module _ {n : ℕ} {t : List ℕ} {d : ℕ} (D : MapDart n t d) where
 
   abbrev dim : Dim n
   dim = D .table .dim
-
-  pub side-there : (k : ℕ) → k < length (sidePlaces n) / sideSize n → SidePlaces n t (places n t d) (nthSide (sidePlaces n) (sideSize n) k)
-  side-there k l =
-      let s = side-is n k dim (rw (rows-true n dim .number) at l) in
-      let some = rows-true n dim .some in
-      let long = s .long in
-      let size = places-length D in
-      let inside = live-below (D .table) _ (place-live D _ (s .low 0 some)) in
-      let whole = D .table .whole in
-      let top = dim .1 in
-      record {
-        some = omega arith;
-        places = λ j h. let low = s .low j (omega arith) in omega arith;
-        entry = rw (places-at D _ (s .low 0 some)) (omega arith);
-      }
 
   module _ (follow : Follows n t (place n t d)) (row : List ℕ) (s : Side n row) where
     abbrev dart : ℕ → ℕ
@@ -235,7 +206,7 @@ module _ {n : ℕ} {t : List ℕ} {d : ℕ} (D : MapDart n t d) where
 
   -- ---- all sides
 
-  pub all-straight : Follows n t (place n t d) → allStraight n t (places n t d) (sidePlaces n) (sideSize n) ≡ true
+  pub all-straight : Follows n t (place n t d) → allStraight n t (places n t d) ≡ true
       → (p : ℕ) → p < cellSize n → Straight n t (place n t d p)
   unfolding allStraight
   all-straight follow h p l =
@@ -243,17 +214,13 @@ module _ {n : ℕ} {t : List ℕ} {d : ℕ} (D : MapDart n t d) where
       let row = sideOf n k in
       let s = side-is n k dim low in
       let (j, lj, e) = member-at row p f in
-      let number = rows-true n dim .number in
-      let tested = below-at (λ k. isStraight n t cell (sideOf n k)) (length (sidePlaces n) / sideSize n) h k (rw number low) in
+      let tested = below-at (λ k. isStraight n t cell (sideOf n k)) (2 * n) h k low in
       subst (λ (p : ℕ). Straight n t (place n t d p)) e
       (straight-side (on follow row s) (test-straight follow row s tested) _ (row-in follow row s j (rw (s .long) at lj)))
 
   pub straight-all : Chart n t (place n t d) → ((p : ℕ) → p < cellSize n → Straight n t (place n t d p))
-      → allStraight n t (places n t d) (sidePlaces n) (sideSize n) ≡ true
+      → allStraight n t (places n t d) ≡ true
   unfolding allStraight
   straight-all chart straight = below-of _ _ (λ k l.
-      let s = side-is n k dim (rw (rows-true n dim .number) at l) in
+      let s = side-is n k dim l in
       straight-test (chart .follow) (sideOf n k) s chart (straight _ (s .low 0 (rows-true n dim .some))))
-
-pub some-side : (n : ℕ) → Dim n → 0 < sideSize n
-some-side n dim = rows-true n dim .some

@@ -1,32 +1,32 @@
 -- The tests of a listed cell, those of its links and those of its sides, pass exactly if it is good.
--- Main theorems: `tests-there` and `sides-there` (what they read is there); `wrong-link`, `wrong-again` and `good-by`.
-use Prim.Native.Nat.{ℕ, _/_, _<_}
+-- Main theorems: `given-listing` (what they read is there); `wrong-link`, `wrong-again` and `good-by`.
+use Prim.Native.Nat.{ℕ}
 use mathlib.Core.Path.{_≡_, refl, sym, _∙_}
 use mathlib.Core.Bool.{Bool, true, false, _&&_}
-use mathlib.Core.List.{List, []}
-use lib.ListN.{length, getD}
+use mathlib.Core.List.{List}
 use Rattle.model.specs.Cell.{cellOf, goodCell}
 use Rattle.model.proofs.Lists.Scan.{and-l, and-r, and-i}
 use Rattle.model.proofs.Cells.Cell.{good-chart}
 use Rattle.model.proofs.Cells.Exact.{good-exactly}
 use Rattle.reading.proofs.Rules.{same-test}
-use Rattle.cells.specs.Rows.{testRows, sideSize, sidePlaces, places}
-use Rattle.cells.specs.Good.{MapDart, TestRow, allFit, onlyFirst, SidePlaces, nthSide, allStraight}
-use Rattle.cells.proofs.Good.{test-there, tests-follow, tests-other, follow-tests, other-tests}
-use Rattle.cells.proofs.Sides.{side-there, some-side, all-straight, straight-all}
+use Rattle.cells.specs.Listing.{Listing, places}
+use Rattle.cells.specs.Good.{MapDart, allFollow, onlyFirst, allStraight}
+use Rattle.cells.proofs.Listing.{places-listing}
+use Rattle.cells.proofs.Good.{tests-follow, tests-other, follow-tests, other-tests}
+use Rattle.cells.proofs.Sides.{all-straight, straight-all}
 
 module _ {n : ℕ} {t : List ℕ} {d : ℕ} (D : MapDart n t d) where
   abbrev cell : List ℕ
   cell = places n t d
 
   abbrev fit : Bool
-  fit = allFit t cell (testRows n)
+  fit = allFollow n t cell
 
   abbrev only : Bool
   only = onlyFirst d cell
 
   abbrev straight : Bool
-  straight = allStraight n t cell (sidePlaces n) (sideSize n)
+  straight = allStraight n t cell
 
   listed-good : (fit && only && straight) ≡ goodCell n t (cellOf n t d)
   listed-good = same-test
@@ -40,33 +40,29 @@ module _ {n : ℕ} {t : List ℕ} {d : ℕ} (D : MapDart n t d) where
       }))
       (λ g.
       let listed = good-exactly (D .table) d (D .lives) .0 g in
-      and-i (and-i (follow-tests D listed) (other-tests D listed))
+      and-i (and-i (follow-tests n t d D listed) (other-tests D listed))
       (straight-all D (good-chart (D .table) d (D .lives) g) (listed .straight)))
 
   -- ---- the same of what the code is given
 
-  module _ (given : List ℕ) (tests : List (List ℕ)) (sides : List ℕ) (size : ℕ) (is-cell : given ≡ places n t d)
-      (is-tests : tests ≡ testRows n) (is-sides : sides ≡ sidePlaces n) (is-size : size ≡ sideSize n) where
-    pub tests-there : (k : ℕ) → k < length tests → TestRow t given (getD tests k [])
-    tests-there k l = rw (is-cell, is-tests) (test-there D k (rw is-tests at l))
+  module _ (given : List ℕ) (is : given ≡ places n t d) where
+    pub given-listing : Listing n t given
+    given-listing = rw is (places-listing D)
 
-    pub sides-there : (0 < size) × ((k : ℕ) → k < length sides / size → SidePlaces n t given (nthSide sides size k))
-    sides-there = rw (is-cell, is-sides, is-size) (some-side n (D .table .dim), side-there D)
-
-    all-tests : (a b c : Bool) → a ≡ allFit t given tests → b ≡ onlyFirst d given → c ≡ allStraight n t given sides size
+    all-tests : (a b c : Bool) → a ≡ allFollow n t given → b ≡ onlyFirst d given → c ≡ allStraight n t given
         → (a && b && c) ≡ goodCell n t (cellOf n t d)
-    all-tests a b c e f g = rw (e, f, g, is-cell, is-tests, is-sides, is-size) listed-good
+    all-tests a b c e f g = rw (e, f, g, is) listed-good
 
-    pub wrong-link : false ≡ allFit t given tests → false ≡ goodCell n t (cellOf n t d)
+    pub wrong-link : false ≡ allFollow n t given → false ≡ goodCell n t (cellOf n t d)
     wrong-link e = all-tests false _ _ e refl refl
 
     pub wrong-again : false ≡ onlyFirst d given → false ≡ goodCell n t (cellOf n t d)
-    wrong-again e = sym (and-false (allFit t given tests)) ∙ all-tests _ false _ refl e refl
+    wrong-again e = sym (and-false (allFollow n t given)) ∙ all-tests _ false _ refl e refl
       where
-        and-false : (a : Bool) → (a && false && allStraight n t given sides size) ≡ false
+        and-false : (a : Bool) → (a && false && allStraight n t given) ≡ false
         and-false true = refl
         and-false false = refl
 
-    pub good-by : (c : Bool) → true ≡ allFit t given tests → true ≡ onlyFirst d given → c ≡ allStraight n t given sides size
+    pub good-by : (c : Bool) → true ≡ allFollow n t given → true ≡ onlyFirst d given → c ≡ allStraight n t given
         → c ≡ goodCell n t (cellOf n t d)
     good-by c = all-tests true true c

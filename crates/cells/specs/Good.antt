@@ -1,36 +1,39 @@
 -- The block test: a live dart of a map, the tests of its listed cell, darts that are seen.
--- Main definitions: `MapDart`, `allFit`, `onlyFirst`, `allStraight`, `SeenGood`.
-use Prim.Native.Nat.{ℕ, _+_, _*_, _/_, _≤_, _<_}
+-- Main definitions: `MapDart`, `allFollow`, `onlyFirst`, `allStraight`, `SeenGood`.
+use Prim.Native.Nat.{ℕ, zero, suc, _*_, _-_, _/_, _%_, _^_, _≤_, _<_}
 use mathlib.Core.Path.{_≡_}
 use mathlib.Core.Logic.{_≢_}
-use mathlib.Core.Bool.{Bool, true, false, not, _||_}
+use mathlib.Core.Bool.{Bool, true, false, not, _&&_, _||_}
 use mathlib.Core.List.{List, [], _∷_}
-use lib.ListN.{length, getD, set, take, drop}
-use lib.Dec.{eqb}
+use lib.ListN.{length, getD, set}
+use lib.Dec.{eqb, ltb}
 use Rattle.model.specs.Lists.{allBelow}
 use Rattle.model.specs.Table.{slots, link, live}
-use Rattle.model.specs.Cell.{inWrongCell}
+use Rattle.model.specs.Cell.{cellSize, inWrongCell}
+use Rattle.model.specs.Numbering.{corners, cellLink}
 use Rattle.model.specs.Meaning.Maps.{MapTable}
+use Rattle.numbering.specs.Orders.{nextOrder, placeOf}
 
 -- d is a live slot of a map
 pub record MapDart (n : ℕ) (t : List ℕ) (d : ℕ) : Type 0 where
   pub table : MapTable n t
   pub lives : live t d ≡ true
 
--- the places and the link of a row of tests are there
-pub record TestRow (t cell row : List ℕ) : Type 0 where
-  pub from : getD row 0 0 < length cell
-  pub by : getD row 1 0 < 4
-  pub to : getD row 2 0 < length cell
-  pub entry : 4 * getD cell (getD row 0 0) 0 + getD row 1 0 < length t
+-- link i leads from the place k where the numbering says
+unfoldable pub followsAt : ℕ → List ℕ → List ℕ → ℕ → ℕ → Bool
+followsAt n t cell i k = eqb (link t i (getD cell k 0)) (getD cell (cellLink n i k) 0)
 
--- the row's link leads from the dart at its one place to the dart at its other
-unfoldable pub fitsRow : List ℕ → List ℕ → List ℕ → Bool
-fitsRow t cell row = eqb (link t (getD row 1 0) (getD cell (getD row 0 0) 0)) (getD cell (getD row 2 0) 0)
+-- so it does in the order p at the vertices from a on
+unfoldable pub followFrom : ℕ → List ℕ → List ℕ → ℕ → ℕ → ℕ → Bool
+followFrom n t cell i p a = allBelow (corners n) (λ s. ltb s a || followsAt n t cell i (placeOf n p s))
 
--- every row fits
-unfoldable pub allFit : List ℕ → List ℕ → List (List ℕ) → Bool
-allFit t cell rows = allBelow (length rows) (λ k. fitsRow t cell (getD rows k []))
+-- the links that are tested: link 0 in one order of each axis but the last, from vertices that it was not listed by; in 3D link 2 from zxy
+unfoldable pub allFollow : ℕ → List ℕ → List ℕ → Bool
+allFollow n t cell =
+    elim (eqb n 3) [
+      | true ↦ followFrom 3 t cell 2 4 0 && (followFrom 3 t cell 0 0 2 && followFrom 3 t cell 0 2 4)
+      | false ↦ followFrom 2 t cell 0 0 2
+    ]
 
 -- the place k is the first, or does not hold d
 unfoldable pub notAgain : ℕ → List ℕ → ℕ → Bool
@@ -40,11 +43,22 @@ notAgain d cell k = eqb k 0 || not (eqb (getD cell k 0) d)
 unfoldable pub onlyFirst : ℕ → List ℕ → Bool
 onlyFirst d cell = allBelow (length cell) (notAgain d cell)
 
--- the places of a side are there, and link n of the dart at its first
-pub record SidePlaces (n : ℕ) (t cell side : List ℕ) : Type 0 where
-  pub some : 0 < length side
-  pub places : (k : ℕ) → k < length side → getD side k 0 < length cell
-  pub entry : 4 * getD cell (getD side 0 0) 0 + n < length t
+-- the darts of a side for link n: 2 or 8
+unfoldable pub sideSize : ℕ → ℕ
+sideSize n = cellSize n / (2 * n)
+
+-- c places from the place k on, by links i, n-2-i, i, .. in turn
+unfoldable pub sideFrom : ℕ → ℕ → ℕ → ℕ → List ℕ
+sideFrom n zero i k = []
+sideFrom n (suc c) i k = k ∷ sideFrom n c (n - 2 - i) (cellLink n i k)
+
+-- the order with the axis a last: from the first order that begins with a, links 1 and 2 bring it there
+unfoldable pub lastOrder : ℕ → ℕ → ℕ
+lastOrder n a = nextOrder n 2 (nextOrder n 1 ((n - 1) * a))
+
+-- the places of the k-th side, that of the axis k / 2 and the value k % 2 of its bit: links 0, 1, 0, .. lead through them, for n = 2 link 0
+unfoldable pub sideOf : ℕ → ℕ → List ℕ
+sideOf n k = sideFrom n (sideSize n) 0 (placeOf n (lastOrder n (k / 2)) (k % 2 * 2 ^ (k / 2)))
 
 -- the place k of the side is its first, or link n does not lead there from the first
 unfoldable pub notLed : ℕ → List ℕ → List ℕ → List ℕ → ℕ → Bool
@@ -54,12 +68,8 @@ notLed n t cell side k = eqb k 0 || not (eqb (getD cell (getD side k 0) 0) (link
 unfoldable pub isStraight : ℕ → List ℕ → List ℕ → List ℕ → Bool
 isStraight n t cell side = allBelow (length side) (notLed n t cell side)
 
--- the k-th side, of sides of one size
-unfoldable pub nthSide : List ℕ → ℕ → ℕ → List ℕ
-nthSide sides size k = take size (drop (k * size) sides)
-
-unfoldable pub allStraight : ℕ → List ℕ → List ℕ → List ℕ → ℕ → Bool
-allStraight n t cell sides size = allBelow (length sides / size) (λ k. isStraight n t cell (nthSide sides size k))
+unfoldable pub allStraight : ℕ → List ℕ → List ℕ → Bool
+allStraight n t cell = allBelow (2 * n) (λ k. isStraight n t cell (sideOf n k))
 
 -- the marks s, with 1 at each of the darts
 unfoldable pub seenWith : List ℕ → List ℕ → List ℕ

@@ -1,83 +1,139 @@
 // One cell as a value, its darts listed by their places, and the block test.
 ghost use mathlib.Core.Path.{_≡_};
 ghost use mathlib.Core.Bool.{true};
-ghost use mathlib.Core.List.{[]};
-ghost use Prim.Native.Nat.{ℕ, _/_, _<_, _≤_};
+ghost use Prim.Native.Nat.{ℕ, _*_, _^_, _<_, _≤_};
 ghost use lib.ListN.{length, getD};
 ghost use Rattle.model.specs.Table.{slots};
 ghost use Rattle.model.specs.Map.{isMap};
 ghost use Rattle.model.specs.Cell.{cellOf, goodCell, inWrongCell, leastWrong, isBlock};
 ghost use Rattle.model.specs.Checks.{pass, dimOk, tableOk};
 ghost use Rattle.model.specs.Meaning.Maps.{MapTable};
-ghost use Rattle.cells.specs.Rows.{stepRows, testRows, sideSize, sidePlaces, start, places};
-ghost use Rattle.cells.specs.Good.{MapDart, TestRow, fitsRow, allFit, onlyFirst, seenWith, SeenGood};
-ghost use Rattle.cells.specs.Good.{SidePlaces, isStraight, nthSide, allStraight};
+ghost use Rattle.model.specs.Numbering.{corners};
+ghost use Rattle.numbering.specs.Orders.{orders, placeOf};
+ghost use Rattle.cells.specs.Listing.{Listing, walked, around, spread, places};
+ghost use Rattle.cells.specs.Good.{MapDart, followsAt, followFrom, allFollow, onlyFirst, sideOf, isStraight, allStraight};
+ghost use Rattle.cells.specs.Good.{seenWith, SeenGood};
 use reading::link_in;
 use reading::slots;
-use rows::SIDES_2D;
-use rows::SIDES_3D;
-use rows::STEPS_2D;
-use rows::STEPS_3D;
-use rows::TESTS_2D;
-use rows::TESTS_3D;
-
-mod rows;
+use numbering::corners;
+use numbering::next_order;
+use numbering::next_vertex;
+use numbering::place;
 
 // The entry of an unused slot.
 const UNUSED: u32 = 4294967295;
 
-// Lists the cell of d, in dimension n: each step finds the dart of a place by one link from a place listed before.
-fn list(n: u32, table: &[u32], d: u32, steps: &[[u8; 3]], cell: &mut [u32])
-    requires { ⌜ (MapDart n (now table) d) × (now steps ≡ stepRows n) × (now cell ≡ start n d) ⌝ }
-    ensures { λ _. ⌜ now (cell .exit) ≡ places n (now (table .entry)) d ⌝ }
+// Lists darts from the place of a vertex in an axis order on, which is listed: those that `count` links lead to, i, j, i, .. in turn.
+fn walk(
+    n: u32,
+    table: &[u32],
+    cell: &mut [u32],
+    order: u32,
+    vertex: u32,
+    i: u32,
+    j: u32,
+    count: u32,
+)
+    requires { ⌜ (Listing n (now table) (now cell)) × (order < orders n) × (vertex < corners n) × (i < n) × (j < n) ⌝ }
+    ensures { λ _. ⌜ now (cell .exit)
+        ≡ walked n (now (table .entry)) count i j (placeOf n order vertex) (now (cell .entry)) ⌝ }
 {
-    for k in 0..steps.len() {
-        let step = steps[k];
-        let from = cell[step[1] as usize];
-        cell[step[0] as usize] = link_in(table, step[2] as usize, from);
+    let mut p = order;
+    let mut s = vertex;
+    let mut by = i;
+    for step in 0..count {
+        let from = cell[place(n, p, s) as usize];
+        s = next_vertex(n, by, p, s);
+        p = next_order(n, by, p);
+        cell[place(n, p, s) as usize] = link_in(table, by as usize, from);
+        by = i + j - by;
     }
 }
 
-// The darts of the cell of d by their places, n = 2.
+// The darts of the cell of d by their places, n = 2: both ways round the quad.
 pub fn cell_2d(table: &[u32], d: u32) -> [u32; 8]
     requires { ⌜ MapDart 2 (now table) d ⌝ }
     ensures { λ r. ⌜ r ≡ places 2 (now (table .entry)) d ⌝ }
 {
     let mut cell = [d; 8];
-    list(2, table, d, &STEPS_2D, &mut cell);
+    walk(2, table, &mut cell, 0, 0, 0, 1, 4);
+    walk(2, table, &mut cell, 0, 0, 1, 0, 3);
     cell
 }
 
-// The same for n = 3.
+// Lists the other orders at a vertex of a hexahedron, one of which is listed: `far` of the five by links 1, 2, 1, .., the others by
+// links 2, 1, 2, ..
+fn around(table: &[u32], cell: &mut [u32], order: u32, vertex: u32, far: u32)
+    requires { ⌜ (Listing 3 (now table) (now cell)) × (order < 6) × (vertex < 8) × (far ≤ 5) ⌝ }
+    ensures { λ _. ⌜ now (cell .exit) ≡ around (now (table .entry)) far (placeOf 3 order vertex) (now (cell .entry)) ⌝ }
+{
+    walk(3, table, cell, order, vertex, 1, 2, far);
+    walk(3, table, cell, order, vertex, 2, 1, 5 - far);
+}
+
+// Lists the vertices of a hexahedron that have the bit of the axis and none of a later axis: link 0 leads to them in the first order
+// that begins with the axis.
+fn spread(table: &[u32], cell: &mut [u32], axis: u32, far: u32)
+    requires { ⌜ (Listing 3 (now table) (now cell)) × (axis < 3) × (far ≤ 5) ⌝ }
+    ensures { λ _. ⌜ now (cell .exit) ≡ spread (now (table .entry)) axis far (2 ^ axis) 0 (now (cell .entry)) ⌝ }
+{
+    let order = 2 * axis;
+    let bit = 1 << axis;
+    for vertex in 0..bit {
+        walk(3, table, cell, order, vertex, 0, 0, 1);
+        around(table, cell, order, vertex + bit, far);
+    }
+}
+
+// The darts of the cell of d by their places, n = 3: vertex by vertex, and round each by axis orders both ways up to zxy and zyx.
 pub fn cell_3d(table: &[u32], d: u32) -> [u32; 48]
     requires { ⌜ MapDart 3 (now table) d ⌝ }
     ensures { λ r. ⌜ r ≡ places 3 (now (table .entry)) d ⌝ }
 {
     let mut cell = [d; 48];
-    list(3, table, d, &STEPS_3D, &mut cell);
+    around(table, &mut cell, 0, 0, 3);
+    spread(table, &mut cell, 0, 3);
+    spread(table, &mut cell, 1, 3);
+    spread(table, &mut cell, 2, 5);
     cell
 }
 
-// Whether the row's link leads from the dart at its one place to the dart at its other.
-fn fits(table: &[u32], cell: &[u32], row: [u8; 3]) -> bool
-    requires { ⌜ TestRow (now table) (now cell) row ⌝ }
-    ensures { λ r. ⌜ r ≡ fitsRow (now (table .entry)) (now (cell .entry)) row ⌝ }
+// Whether link i leads from the place of a vertex in an axis order where the numbering says.
+fn follows(n: u32, table: &[u32], cell: &[u32], i: u32, order: u32, vertex: u32) -> bool
+    requires { ⌜ (Listing n (now table) (now cell)) × (order < orders n) × (vertex < corners n) × (i < n) ⌝ }
+    ensures { λ r. ⌜ r ≡ followsAt n (now (table .entry)) (now (cell .entry)) i (placeOf n order vertex) ⌝ }
 {
-    let from = cell[row[0] as usize];
-    link_in(table, row[1] as usize, from) == cell[row[2] as usize]
+    let from = cell[place(n, order, vertex) as usize];
+    let to = place(n, next_order(n, i, order), next_vertex(n, i, order, vertex));
+    link_in(table, i as usize, from) == cell[to as usize]
 }
 
-// Whether every row fits.
-fn all_fit(table: &[u32], cell: &[u32], tests: &[[u8; 3]]) -> bool
-    requires { ⌜ ((k : ℕ) → k < length (now tests) → TestRow (now table) (now cell) (getD (now tests) k [])) ⌝ }
-    ensures { λ r. ⌜ r ≡ allFit (now (table .entry)) (now (cell .entry)) (now (tests .entry)) ⌝ }
+// Whether it does so at the vertices from `first` on.
+fn follow_from(n: u32, table: &[u32], cell: &[u32], i: u32, order: u32, first: u32) -> bool
+    requires { ⌜ (Listing n (now table) (now cell)) × (order < orders n) × (i < n) ⌝ }
+    ensures { λ r. ⌜ r ≡ followFrom n (now (table .entry)) (now (cell .entry)) i order first ⌝ }
 {
-    for k in 0..tests.len() {
-        if !fits(table, cell, tests[k]) {
+    for vertex in first..corners(n) {
+        if !follows(n, table, cell, i, order, vertex) {
             return false;
         }
     }
     true
+}
+
+// Whether the links of a listed cell lead where the numbering says. Those that it was listed by do, and in a map links 0 and 2 commute;
+// so link 0 is left to test in an order for each axis but the last, and in 3D link 2 from zxy to zyx.
+fn all_follow(n: u32, table: &[u32], cell: &[u32]) -> bool
+    requires { ⌜ Listing n (now table) (now cell) ⌝ }
+    ensures { λ r. ⌜ r ≡ allFollow n (now (table .entry)) (now (cell .entry)) ⌝ }
+{
+    if n == 3 {
+        follow_from(3, table, cell, 2, 4, 0)
+            && follow_from(3, table, cell, 0, 0, 2)
+            && follow_from(3, table, cell, 0, 2, 4)
+    } else {
+        follow_from(2, table, cell, 0, 0, 2)
+    }
 }
 
 // Whether no place but the first holds d.
@@ -92,60 +148,54 @@ fn only_first(d: u32, cell: &[u32]) -> bool
     true
 }
 
-// Whether link n leads from the dart at the first place of a side to no dart at another of its places.
-fn is_straight(n: u32, table: &[u32], cell: &[u32], side: &[u8]) -> bool
-    requires { ⌜ SidePlaces n (now table) (now cell) (now side) ⌝ }
-    ensures { λ r. ⌜ r ≡ isStraight n (now (table .entry)) (now (cell .entry)) (now (side .entry)) ⌝ }
+// Whether link n leads from the first place of the k-th side to no other of it. An axis and a value of its bit have one side, which
+// begins in an order with this axis last; links 0..n-2 lead round it.
+fn is_straight(n: u32, table: &[u32], cell: &[u32], k: u32) -> bool
+    requires { ⌜ (Listing n (now table) (now cell)) × (k < 2 * n) ⌝ }
+    ensures { λ r. ⌜ r ≡ isStraight n (now (table .entry)) (now (cell .entry)) (sideOf n k) ⌝ }
 {
-    let from = cell[side[0] as usize];
-    let to = link_in(table, n as usize, from);
-    for k in 1..side.len() {
-        if cell[side[k] as usize] == to {
+    let axis = k / 2;
+    let mut p = next_order(n, 2, next_order(n, 1, (n - 1) * axis));
+    let mut s = (k % 2) << axis;
+    let to = link_in(table, n as usize, cell[place(n, p, s) as usize]);
+    let size = if n == 3 { 8 } else { 2 };
+    let mut by = 0;
+    for step in 1..size {
+        s = next_vertex(n, by, p, s);
+        p = next_order(n, by, p);
+        if cell[place(n, p, s) as usize] == to {
+            return false;
+        }
+        by = n - 2 - by;
+    }
+    true
+}
+
+// Whether no side is folded. Link n carries a side onto a side, so one dart of each is looked at.
+fn all_straight(n: u32, table: &[u32], cell: &[u32]) -> bool
+    requires { ⌜ Listing n (now table) (now cell) ⌝ }
+    ensures { λ r. ⌜ r ≡ allStraight n (now (table .entry)) (now (cell .entry)) ⌝ }
+{
+    for k in 0..2 * n {
+        if !is_straight(n, table, cell, k) {
             return false;
         }
     }
     true
 }
 
-// Whether no side is folded. The sides, of one size, have their places one side after the other. Link n carries a side onto a
-// side, so one dart of each is looked at.
-fn all_straight(n: u32, table: &[u32], cell: &[u32], sides: &[u8], size: usize) -> bool
-    requires { ⌜ 0 < size ⌝ }
-    requires { ⌜ ((k : ℕ) → k < length (now sides) / size → SidePlaces n (now table) (now cell) (nthSide (now sides) size k)) ⌝ }
-    ensures { λ r. ⌜ r ≡ allStraight n (now (table .entry)) (now (cell .entry)) (now (sides .entry)) size ⌝ }
-{
-    let count = sides.len() / size;
-    for k in 0..count {
-        let from = k * size;
-        let to = from + size;
-        if !is_straight(n, table, cell, &sides[from..to]) {
-            return false;
-        }
-    }
-    true
-}
-
-// Whether the cell of d, listed by its places, is good: the steps of the listing need no test.
-fn is_good(
-    n: u32,
-    table: &[u32],
-    d: u32,
-    cell: &[u32],
-    tests: &[[u8; 3]],
-    sides: &[u8],
-    size: usize,
-) -> bool
-    requires { ⌜ (MapDart n (now table) d) × (now cell ≡ places n (now table) d) × (now tests ≡ testRows n) ⌝ }
-    requires { ⌜ (now sides ≡ sidePlaces n) × (size ≡ sideSize n) ⌝ }
+// Whether the cell of d, listed by its places, is good.
+fn is_good(n: u32, table: &[u32], d: u32, cell: &[u32]) -> bool
+    requires { ⌜ (MapDart n (now table) d) × (now cell ≡ places n (now table) d) ⌝ }
     ensures { λ r. ⌜ r ≡ goodCell n (now (table .entry)) (cellOf n (now (table .entry)) d) ⌝ }
 {
-    if !all_fit(table, cell, tests) {
+    if !all_follow(n, table, cell) {
         return false;
     }
     if !only_first(d, cell) {
         return false;
     }
-    all_straight(n, table, cell, sides, size)
+    all_straight(n, table, cell)
 }
 
 // Whether the cell of d is good, n = 2.
@@ -153,7 +203,7 @@ pub fn is_good_2d(table: &[u32], d: u32, cell: [u32; 8]) -> bool
     requires { ⌜ (MapDart 2 (now table) d) × (cell ≡ places 2 (now table) d) ⌝ }
     ensures { λ r. ⌜ r ≡ goodCell 2 (now (table .entry)) (cellOf 2 (now (table .entry)) d) ⌝ }
 {
-    is_good(2, table, d, &cell, &TESTS_2D, &SIDES_2D, 2)
+    is_good(2, table, d, &cell)
 }
 
 // The same for n = 3.
@@ -161,7 +211,7 @@ pub fn is_good_3d(table: &[u32], d: u32, cell: [u32; 48]) -> bool
     requires { ⌜ (MapDart 3 (now table) d) × (cell ≡ places 3 (now table) d) ⌝ }
     ensures { λ r. ⌜ r ≡ goodCell 3 (now (table .entry)) (cellOf 3 (now (table .entry)) d) ⌝ }
 {
-    is_good(3, table, d, &cell, &TESTS_3D, &SIDES_3D, 8)
+    is_good(3, table, d, &cell)
 }
 
 // Marks the darts as seen.

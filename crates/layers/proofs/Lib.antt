@@ -1,6 +1,5 @@
 pub mod Four
 pub mod Walk
 pub mod Ranks
-pub mod Orders
 pub mod Halves
 pub mod Sheets

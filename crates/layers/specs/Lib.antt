@@ -1,3 +1,2 @@
 pub mod Four
 pub mod Ranks
-pub mod Orders

@@ -2,6 +2,7 @@
 use reading::link;
 use reading::link_in;
 use reading::slots;
+use numbering::cell_link;
 ghost use mathlib.Core.Path.{_≡_};
 ghost use mathlib.Core.Bool.{false};
 ghost use mathlib.Core.List.{[], _∷_};
@@ -15,26 +16,16 @@ ghost use Rattle.model.specs.Remove.{opposite, cellMark, marked, outside, remov
 ghost use Rattle.model.specs.Cell.{cellSize};
 ghost use Rattle.model.specs.Add.{addedLink};
 ghost use Rattle.model.specs.Split.{crosses, newDart, newDartLink, halvedLink};
-ghost use Rattle.model.specs.Numbering.{corners, swapFirst, swapLast, cellLink};
+ghost use Rattle.model.specs.Numbering.{cellLink};
 ghost use Rattle.model.specs.Meaning.Walks.{Layer, hop};
 ghost use Rattle.layers.specs.Four.{four};
 ghost use Rattle.layers.specs.Ranks.{Ranked, Lists, Entered, Halving, Owns};
-ghost use Rattle.layers.specs.Orders.{orders, firstAxis};
 
 // The entry of an unused slot.
 const UNUSED: u32 = 4294967295;
 
 // A rank past every list: what the ranks begin with, so that a slot in no list is known by its rank alone.
 pub const NO_RANK: u32 = 4294967295;
-
-// Of the axis orders xyz, xzy, yxz, yzx, zxy, zyx: the first axis.
-const FIRST_AXIS: [u32; 6] = [0, 0, 1, 1, 2, 2];
-
-// The same orders with the first two axes exchanged.
-const FIRST_TWO: [u32; 6] = [2, 4, 0, 5, 1, 3];
-
-// And with the last two exchanged.
-const LAST_TWO: [u32; 6] = [1, 0, 3, 2, 5, 4];
 
 // ---- the links of a slot, marks, and the opposite edge
 
@@ -207,63 +198,6 @@ pub fn listed(words: &[u32], rank: &[u32], size: u32, x: u32) -> bool
 }
 
 // ---- add
-
-// The number of vertices of a cell.
-fn corners(n: u32) -> u32
-    ensures { λ r. ⌜ r ≡ corners n ⌝ }
-{
-    if n == 3 { 8 } else { 4 }
-}
-
-// The first axis of an axis order: 0 for x, 1 for y, 2 for z.
-fn first_axis(n: u32, order: u32) -> u32
-    requires { ⌜ order < orders n ⌝ }
-    ensures { λ r. ⌜ r ≡ firstAxis n order ⌝ }
-{
-    if n == 3 {
-        FIRST_AXIS[order as usize]
-    } else {
-        order
-    }
-}
-
-// The axis order with the first two axes exchanged.
-fn swap_first(n: u32, order: u32) -> u32
-    requires { ⌜ order < orders n ⌝ }
-    ensures { λ r. ⌜ r ≡ swapFirst n order ⌝ }
-{
-    if n == 3 {
-        FIRST_TWO[order as usize]
-    } else {
-        1 - order
-    }
-}
-
-// The axis order with the last two axes exchanged, of three.
-fn swap_last(order: u32) -> u32
-    requires { ⌜ order < 6 ⌝ }
-    ensures { λ r. ⌜ r ≡ swapLast order ⌝ }
-{
-    LAST_TWO[order as usize]
-}
-
-// Link i of the dart k of a new cell, as a number of the same cell: by the dart's axis order and the bits of its vertex.
-pub fn cell_link(n: u32, i: u32, k: u32) -> u32
-    requires { ⌜ (dimOk n ≡ pass) × (i < 4) × (k < cellSize n) ⌝ }
-    ensures { λ r. ⌜ r ≡ cellLink n i k ⌝ }
-{
-    let corners = corners(n);
-    let mut order = k / corners;
-    let mut vertex = k % corners;
-    if i == 0 {
-        vertex ^= 1 << first_axis(n, order);
-    } else if i == 1 {
-        order = swap_first(n, order);
-    } else if (i == 2) & (n == 3) {
-        order = swap_last(order);
-    }
-    corners * order + vertex
-}
 
 // Link i of the k-th dart of the new cell, whose slots are the first `size` words of fresh.
 fn cell_slot(n: u32, fresh: &[u32], size: u32, i: u32, k: u32) -> u32
