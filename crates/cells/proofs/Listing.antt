@@ -16,8 +16,8 @@ use Rattle.model.proofs.Lists.Scan.{if-eq, below-three, length-tab, getD-tab}
 use Rattle.model.proofs.Maps.Tables.{live-below, rule-at}
 use Rattle.model.proofs.Cells.Rows.{row-goes}
 use Rattle.model.proofs.Cells.Cell.{cell-live, place-in}
-use Rattle.numbering.specs.Orders.{orders, placeOf}
-use Rattle.numbering.proofs.Orders.{place-low}
+use Rattle.numbering.specs.Orders.{orders, nextOrder, nextVertex, placeOf}
+use Rattle.numbering.proofs.Orders.{order-low, vertex-low, place-low, next-place}
 use Rattle.cells.specs.Listing.{places, start, Listing, stepped, walked, around, spread}
 use Rattle.cells.specs.Good.{MapDart}
 
@@ -48,14 +48,15 @@ module _ {n : ℕ} {t : List ℕ} {d : ℕ} (D : MapDart n t d) where
 
 -- ---- steps
 
-module _ {n : ℕ} {t cell : List ℕ} (L : Listing n t cell) (i k : ℕ) (by : i < n) (at : k < cellSize n) where
-  pub step-there : 4 * getD cell k 0 + i < length t
-  step-there =
-      let inside = live-below (L .table) _ (L .lives k at) in
-      let whole = L .table .whole in
-      let top = L .table .dim .1 in
-      omega arith
+-- link i of the dart at the place k is there
+pub link-there : {n : ℕ} {t cell : List ℕ} → Listing n t cell → (i k : ℕ) → i ≤ n → k < cellSize n → 4 * getD cell k 0 + i < length t
+link-there L i k by at =
+    let inside = live-below (L .table) _ (L .lives k at) in
+    let whole = L .table .whole in
+    let top = L .table .dim .1 in
+    omega arith
 
+module _ {n : ℕ} {t cell : List ℕ} (L : Listing n t cell) (i k : ℕ) (by : i < n) (at : k < cellSize n) where
   pub step-goes : cellLink n i k < cellSize n
   step-goes = let top = L .table .dim .1 in row-goes n k (L .table .dim) at i (omega arith)
 
@@ -114,3 +115,60 @@ pub listed-solid : (t : List ℕ) (d : ℕ)
     → spread t 2 5 (2 ^ 2) 0 (spread t 1 3 (2 ^ 1) 0 (spread t 0 3 (2 ^ 0) 0 (around t 3 (placeOf 3 0 0) (start 3 d)))) ≡ places 3 t d
 unfolding listingComputed
 listed-solid t d = refl
+
+-- ---- a walk on its way
+
+-- at the vertex s in the order p, with `left` links to go, the next of them `by`; the walk ends with the list `end`
+pub record Walking (n : ℕ) (t : List ℕ) (i j : ℕ) (end cell : List ℕ) (p s by left : ℕ) : Type 0 where
+  pub listing : Listing n t cell
+  pub order : p < orders n
+  pub vertex : s < corners n
+  pub link : by < n
+  pub other : i + j - by < n
+  pub turns : by ≤ i + j
+  pub ends : walked n t left by (i + j - by) (placeOf n p s) cell ≡ end
+
+module _ (n : ℕ) (t : List ℕ) (i j : ℕ) where
+  pub walk-starts : (count p s : ℕ) (cell : List ℕ) → Listing n t cell → p < orders n → s < corners n → i < n → j < n
+      → Walking n t i j (walked n t count i j (placeOf n p s) cell) cell p s i (count - 0)
+  walk-starts count p s cell L hp hs hi hj =
+      let back : i + j - i ≡ j = omega arith in
+      let whole : count - 0 ≡ count = omega arith in
+      record {
+        listing = L;
+        order = hp;
+        vertex = hs;
+        link = hi;
+        other = omega arith;
+        turns = omega arith;
+        ends = rw (back, whole);
+      }
+
+  -- the place that it is at
+  pub walk-at : {end cell : List ℕ} {p s by left : ℕ} → Walking n t i j end cell p s by left → placeOf n p s < cellSize n
+  walk-at W = place-low n (W .listing .table .dim) _ (W .order) _ (W .vertex)
+
+  pub walk-next : {end cell : List ℕ} {p s by left : ℕ} → Walking n t i j end cell p s by (suc left) → (q r at from x : ℕ)
+      → q ≡ nextOrder n by p → r ≡ nextVertex n by p s → at ≡ placeOf n q r → from ≡ getD cell (placeOf n p s) 0 → x ≡ link t by from
+      → Walking n t i j end (set cell at x) q r (i + j - by) left
+  unfolding stepped walked
+  walk-next {end} {cell} {p} {s} {by} W q r at from x eq er ea ef ex =
+      let dim = W .listing .table .dim in
+      let turns = W .turns in
+      let low = W .link in
+      let back : i + j - (i + j - by) ≡ by = omega arith in
+      let next = next-place n dim p (W .order) s (W .vertex) by in
+      let put : set cell at x ≡ stepped n t by (placeOf n p s) cell = rw (ea, ex, ef, eq, er, next) in
+      record {
+        listing = rw put (stepped-listing (W .listing) by _ (W .link) (walk-at W));
+        order = rw eq (order-low n dim p (W .order) by);
+        vertex = rw er (vertex-low n dim p (W .order) s (W .vertex) by);
+        link = W .other;
+        other = omega arith;
+        turns = omega arith;
+        ends = rw (put, back, eq, er, next) (W .ends);
+      }
+
+  pub walk-ends : {end cell : List ℕ} {p s by : ℕ} → Walking n t i j end cell p s by 0 → cell ≡ end
+  unfolding walked
+  walk-ends W = W .ends

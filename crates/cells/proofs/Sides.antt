@@ -1,21 +1,20 @@
 -- The test of the sides of a listed cell: its rows go through each side, by links 0..n-2, and each place is in one of them. Link n
 -- carries a side onto a side, so where it leads from the first dart of each side to no other dart of it, no side is folded.
--- Main theorems: `side-there` (what the test reads is there); `all-straight` and `straight-all` (it passes exactly if no side is
--- folded).
-use Prim.Native.Nat.{ℕ, zero, suc, _+_, _*_, _/_, _%_, _-_, _≤_, _<_}
+-- Main theorems: `all-straight` and `straight-all` (the test passes exactly if no side is folded); `round-starts` and `round-next` (the
+-- code goes through a side place by place).
+use Prim.Native.Nat.{ℕ, zero, suc, _+_, _*_, _/_, _%_, _-_, _^_, _≤_, _<_}
 use mathlib.Core.Path.{_≡_, refl, sym, ap, _∙_, subst}
 use mathlib.Core.Logic.{_≢_, inr}
 use mathlib.Core.Bool.{Bool, true, false, not, _&&_}
 use mathlib.Core.List.{List}
-use native.Mathlib.Nat.{suc-mul, le-div-iff-mul-le}
 use native.Mathlib.Omega.{arith}
-use lib.ListN.{length, getD, take, drop}
+use lib.ListN.{length, getD}
 use lib.Dec.{eqb, ltb}
 use borrow.Author.Tests.{ltb-true, eqb-true, eqb-false, eq-eqb, ne-eqb, not-true, not-false}
 use Rattle.model.specs.Lists.{indexOf, allBelow}
 use Rattle.model.specs.Table.{link}
 use Rattle.model.specs.Cell.{cellSize}
-use Rattle.model.specs.Numbering.{cellLink}
+use Rattle.model.specs.Numbering.{corners, cellLink}
 use Rattle.model.specs.Sew.{side}
 use Rattle.model.specs.Meaning.Maps.{Dim, Straight}
 use Rattle.model.specs.Meaning.Sets.{Marked}
@@ -29,7 +28,8 @@ use Rattle.model.proofs.Maps.Tables.{live-below}
 use Rattle.model.proofs.Sewing.Side.{on-side, side-own, side-far, side-within, straight-side}
 use Rattle.model.proofs.Cells.Chart.{chart-one}
 use Rattle.model.specs.Everything.{everything}
-use Rattle.numbering.specs.Orders.{nextOrder, placeOf}
+use Rattle.numbering.specs.Orders.{orders, nextOrder, nextVertex, placeOf}
+use Rattle.numbering.proofs.Orders.{order-low, vertex-low, place-low, next-place}
 use Rattle.cells.specs.Listing.{places}
 use Rattle.cells.specs.Good.{MapDart, sideSize, sideFrom, lastOrder, sideOf, notLed, isStraight, allStraight}
 use Rattle.cells.proofs.Listing.{places-length, places-at, place-live}
@@ -224,3 +224,76 @@ module _ {n : ℕ} {t : List ℕ} {d : ℕ} (D : MapDart n t d) where
   straight-all chart straight = below-of _ _ (λ k l.
       let s = side-is n k dim l in
       straight-test (chart .follow) (sideOf n k) s chart (straight _ (s .low 0 (rows-true n dim .some))))
+
+-- ---- round a side, place by place
+
+-- at the j-th place of the k-th side, the vertex s in the order p; the link `by` leads to the next
+pub record Round (n k j p s by : ℕ) : Type 0 where
+  pub order : p < orders n
+  pub vertex : s < corners n
+  pub at : placeOf n p s ≡ getD (sideOf n k) j 0
+  pub link : by ≡ turn n j
+
+module _ (n k : ℕ) (dim : Dim n) (low : k < 2 * n) where
+  pub axis-first : (n - 1) * (k / 2) < orders n
+  unfolding orders
+  axis-first = two-cases n dim (λ n. k < 2 * n → (n - 1) * (k / 2) < orders n) (λ h. omega arith) (λ h. omega arith) low
+
+  -- the vertex that the side begins at
+  isFirst : ℕ → ℕ → Bool
+  isFirst n k =
+      ltb (k % 2 * 2 ^ (k / 2) % 4294967296) (corners n)
+      && eqb (placeOf n (lastOrder n (k / 2)) (k % 2 * 2 ^ (k / 2) % 4294967296)) (getD (sideOf n k) 0 0)
+
+  firsts-true : allBelow (2 * n) (isFirst n) ≡ true
+  unfolding isFirst sideSize sideFrom lastOrder sideOf nextOrder placeOf everything
+  firsts-true = two-cases n dim (λ n. allBelow (2 * n) (isFirst n) ≡ true) refl refl
+
+  is-first : isFirst n k ≡ true
+  is-first = below-at (isFirst n) (2 * n) firsts-true k low
+
+  pub round-starts : (q p s by : ℕ) → q ≡ nextOrder n 1 ((n - 1) * (k / 2)) → p ≡ nextOrder n 2 q → s ≡ k % 2 * 2 ^ (k / 2) % 4294967296
+      → by ≡ 0 → Round n k 0 p s by
+  unfolding isFirst lastOrder
+  round-starts q p s by eq ep es eb = record {
+    order = rw (ep, eq) (order-low n dim _ (order-low n dim _ axis-first 1) 2);
+    vertex = rw es (ltb-true _ _ (and-l (ltb (k % 2 * 2 ^ (k / 2) % 4294967296) (corners n)) _ is-first));
+    at = rw (ep, eq, es) (eqb-true _ _ (and-r (ltb (k % 2 * 2 ^ (k / 2) % 4294967296) (corners n)) _ is-first));
+    link = omega arith;
+  }
+
+  pub round-next : {j p s by : ℕ} (q r : ℕ) → suc j < sideSize n → Round n k j p s by → q ≡ nextOrder n by p → r ≡ nextVertex n by p s
+      → Round n k (suc j) q r (n - 2 - by)
+  round-next {j} {p} {s} {by} q r l R eq er =
+      let side = side-is n k dim low in
+      record {
+        order = rw eq (order-low n dim p (R .order) by);
+        vertex = rw er (vertex-low n dim p (R .order) s (R .vertex) by);
+        at = rw (eq, er, next-place n dim p (R .order) s (R .vertex) by, R .at, R .link) (sym (side .next j l));
+        link = rw (R .link) (two-cases n dim (λ n. n - 2 - turn n j ≡ turn n (suc j)) (omega arith) (omega arith));
+      }
+
+  pub turn-few : {j p s by : ℕ} → Round n k j p s by → by ≤ n - 2
+  turn-few {j} R = rw (R .link) (two-cases n dim (λ n. turn n j ≤ n - 2) (omega arith) (omega arith))
+
+  -- a place of the side is one of the cell
+  pub round-in : {j p s by : ℕ} → Round n k j p s by → placeOf n p s < cellSize n
+  round-in R = place-low n dim _ (R .order) _ (R .vertex)
+
+  pub side-length : length (sideOf n k) ≡ sideSize n
+  side-length = side-is n k dim low .long
+
+pub side-some : (n : ℕ) → Dim n → 0 < sideSize n
+side-some n dim = rows-true n dim .some
+
+pub side-few : (n : ℕ) → Dim n → sideSize n ≤ 8
+unfolding sideSize cellSize
+side-few n dim = two-cases n dim (λ n. sideSize n ≤ 8) (omega arith) (omega arith)
+
+pub side-solid : (n : ℕ) → n ≡ 3 → sideSize n ≡ 8
+unfolding sideSize cellSize
+side-solid n e = rw e
+
+pub side-flat : (n : ℕ) → Dim n → n ≢ 3 → sideSize n ≡ 2
+unfolding sideSize cellSize
+side-flat n dim e = let two : n ≡ 2 = let h = dim .1 in let g = dim .0 in omega arith in rw two

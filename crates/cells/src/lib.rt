@@ -5,9 +5,9 @@ ghost use Prim.Native.Nat.{ℕ, _*_, _^_, _<_, _≤_};
 ghost use lib.ListN.{length, getD};
 ghost use Rattle.model.specs.Table.{slots};
 ghost use Rattle.model.specs.Map.{isMap};
-ghost use Rattle.model.specs.Cell.{cellOf, goodCell, inWrongCell, leastWrong, isBlock};
+ghost use Rattle.model.specs.Cell.{cellSize, cellOf, goodCell, inWrongCell, leastWrong, isBlock};
 ghost use Rattle.model.specs.Checks.{pass, dimOk, tableOk};
-ghost use Rattle.model.specs.Meaning.Maps.{MapTable};
+ghost use Rattle.model.specs.Meaning.Maps.{Dim, MapTable};
 ghost use Rattle.model.specs.Numbering.{corners};
 ghost use Rattle.numbering.specs.Orders.{orders, placeOf};
 ghost use Rattle.cells.specs.Listing.{Listing, walked, around, spread, places};
@@ -22,6 +22,14 @@ use numbering::place;
 
 // The entry of an unused slot.
 const UNUSED: u32 = 4294967295;
+
+// The dart at the place of a vertex in an axis order.
+fn dart_at(n: u32, cell: &[u32], order: u32, vertex: u32) -> u32
+    requires { ⌜ (Dim n) × (length (now cell) ≡ cellSize n) × (order < orders n) × (vertex < corners n) ⌝ }
+    ensures { λ r. ⌜ r ≡ getD (now (cell .entry)) (placeOf n order vertex) 0 ⌝ }
+{
+    cell[place(n, order, vertex) as usize]
+}
 
 // Lists darts from the place of a vertex in an axis order on, which is listed: those that `count` links lead to, i, j, i, .. in turn.
 fn walk(
@@ -42,7 +50,7 @@ fn walk(
     let mut s = vertex;
     let mut by = i;
     for step in 0..count {
-        let from = cell[place(n, p, s) as usize];
+        let from = dart_at(n, cell, p, s);
         s = next_vertex(n, by, p, s);
         p = next_order(n, by, p);
         cell[place(n, p, s) as usize] = link_in(table, by as usize, from);
@@ -103,9 +111,9 @@ fn follows(n: u32, table: &[u32], cell: &[u32], i: u32, order: u32, vertex: u32)
     requires { ⌜ (Listing n (now table) (now cell)) × (order < orders n) × (vertex < corners n) × (i < n) ⌝ }
     ensures { λ r. ⌜ r ≡ followsAt n (now (table .entry)) (now (cell .entry)) i (placeOf n order vertex) ⌝ }
 {
-    let from = cell[place(n, order, vertex) as usize];
-    let to = place(n, next_order(n, i, order), next_vertex(n, i, order, vertex));
-    link_in(table, i as usize, from) == cell[to as usize]
+    let from = dart_at(n, cell, order, vertex);
+    let to = dart_at(n, cell, next_order(n, i, order), next_vertex(n, i, order, vertex));
+    link_in(table, i as usize, from) == to
 }
 
 // Whether it does so at the vertices from `first` on.
@@ -157,13 +165,13 @@ fn is_straight(n: u32, table: &[u32], cell: &[u32], k: u32) -> bool
     let axis = k / 2;
     let mut p = next_order(n, 2, next_order(n, 1, (n - 1) * axis));
     let mut s = (k % 2) << axis;
-    let to = link_in(table, n as usize, cell[place(n, p, s) as usize]);
-    let size = if n == 3 { 8 } else { 2 };
+    let to = link_in(table, n as usize, dart_at(n, cell, p, s));
+    let size: u32 = if n == 3 { 8 } else { 2 };
     let mut by = 0;
     for step in 1..size {
         s = next_vertex(n, by, p, s);
         p = next_order(n, by, p);
-        if cell[place(n, p, s) as usize] == to {
+        if dart_at(n, cell, p, s) == to {
             return false;
         }
         by = n - 2 - by;

@@ -37,6 +37,10 @@ module _ (n : ℕ) where
   unfolding orders
   orders-flat e = rw (ne-eqb n 3 e, orders)
 
+  pub orders-few : orders n ≤ 6
+  unfolding orders
+  orders-few = test (eqb n 3) (λ e. rw (e, orders) (omega arith)) (λ e. rw (e, orders) (omega arith))
+
   pub axis-solid : (p : ℕ) → n ≡ 3 → p / 2 ≡ firstAxis n p
   unfolding firstAxis
   axis-solid p e = rw e

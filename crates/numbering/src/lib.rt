@@ -2,9 +2,9 @@
 ghost use mathlib.Core.Path.{_≡_};
 ghost use mathlib.Core.Logic.{_≢_};
 ghost use Prim.Native.Nat.{_<_};
-ghost use Rattle.model.specs.Checks.{pass, dimOk};
 ghost use Rattle.model.specs.Cell.{cellSize};
 ghost use Rattle.model.specs.Numbering.{corners, swapFirst, swapLast, cellLink};
+ghost use Rattle.model.specs.Meaning.Maps.{Dim};
 ghost use Rattle.numbering.specs.Orders.{orders, firstAxis, secondAxis, orderOf, nextOrder, nextVertex, placeOf};
 
 // The number of vertices of a cell.
@@ -16,7 +16,7 @@ pub fn corners(n: u32) -> u32
 
 // The place of a vertex in an axis order.
 pub fn place(n: u32, order: u32, vertex: u32) -> u32
-    requires { ⌜ (dimOk n ≡ pass) × (order < orders n) × (vertex < corners n) ⌝ }
+    requires { ⌜ (Dim n) × (order < orders n) × (vertex < corners n) ⌝ }
     ensures { λ r. ⌜ r ≡ placeOf n order vertex ⌝ }
 {
     corners(n) * order + vertex
@@ -86,7 +86,7 @@ pub fn next_order(n: u32, i: u32, order: u32) -> u32
 
 // The vertex that link i leads to, from a vertex in an axis order: link 0 flips the bit of the first axis.
 pub fn next_vertex(n: u32, i: u32, order: u32, vertex: u32) -> u32
-    requires { ⌜ (dimOk n ≡ pass) × (order < orders n) × (vertex < corners n) ⌝ }
+    requires { ⌜ (Dim n) × (order < orders n) × (vertex < corners n) ⌝ }
     ensures { λ r. ⌜ r ≡ nextVertex n i order vertex ⌝ }
 {
     if i == 0 {
@@ -98,7 +98,7 @@ pub fn next_vertex(n: u32, i: u32, order: u32, vertex: u32) -> u32
 
 // The place that link i leads to from the place k.
 pub fn cell_link(n: u32, i: u32, k: u32) -> u32
-    requires { ⌜ (dimOk n ≡ pass) × (k < cellSize n) ⌝ }
+    requires { ⌜ (Dim n) × (k < cellSize n) ⌝ }
     ensures { λ r. ⌜ r ≡ cellLink n i k ⌝ }
 {
     let corners = corners(n);

@@ -3,8 +3,6 @@ use Prim.Native.Nat.{_/_, _%_, _<_}
 use mathlib.Core.Path.{_≡_, ap, _∙_}
 use borrow.Author.Needs.{needs}
 use Rattle.model.specs.Numbering.{corners, cellLink}
-use Rattle.model.specs.Meaning.Maps.{Dim}
-use Rattle.model.proofs.Calls.Pass.{dim-pass}
 use Rattle.numbering.specs.Orders.{orders, placeOf}
 use Rattle.numbering.proofs.Orders.{corners-some, order-in, vertex-in, place-is, order-low, vertex-low, next-place}
 use Rattle.numbering.proofs.cell_link.Statement.{statement}
@@ -13,18 +11,15 @@ use Rattle.numbering.proofs.cell_link.Tie as tie
 corners-requires : tie.Need-corners-requires
 corners-requires c κs = search needs
 
-dimOf : (c : tie.After-corners) → Dim (c .before .args .n)
-dimOf c = dim-pass (c .before .args .n) (c .before .pre .0)
-
 -- the order and the vertex of the place
 order : (c : tie.After-corners) → c .before .args .k / c .corners .result < orders (c .before .args .n)
-order c = rw (c .corners .ensures) (order-in (c .before .args .n) (dimOf c) (c .before .args .k) (c .before .pre .1))
+order c = rw (c .corners .ensures) (order-in (c .before .args .n) (c .before .pre .0) (c .before .args .k) (c .before .pre .1))
 
 vertex : (c : tie.After-corners) → c .before .args .k % c .corners .result < corners (c .before .args .n)
-vertex c = rw (c .corners .ensures) (vertex-in (c .before .args .n) (dimOf c) (c .before .args .k))
+vertex c = rw (c .corners .ensures) (vertex-in (c .before .args .n) (c .before .pre .0) (c .before .args .k))
 
 div-order : tie.Need-div-order
-div-order c = rw (c .corners .ensures) (corners-some (c .before .args .n) (dimOf c))
+div-order c = rw (c .corners .ensures) (corners-some (c .before .args .n) (c .before .pre .0))
 
 rem-vertex : tie.Need-rem-vertex
 rem-vertex c = div-order c
@@ -40,9 +35,8 @@ place-requires c κs =
     let o = c .before in
     let b = o .before in
     let s = b .before in
-    let dim = dimOf b in
-    (s .pre .0, rw (o .next-order .ensures) (order-low (s .args .n) dim _ (order b) (s .args .i)),
-    rw (c .next-vertex .ensures) (vertex-low (s .args .n) dim _ (order b) _ (vertex b) (s .args .i)))
+    (s .pre .0, rw (o .next-order .ensures) (order-low (s .args .n) (s .pre .0) _ (order b) (s .args .i)),
+    rw (c .next-vertex .ensures) (vertex-low (s .args .n) (s .pre .0) _ (order b) _ (vertex b) (s .args .i)))
 
 returns : tie.Need-returns
 returns c =
@@ -50,9 +44,9 @@ returns c =
     let o = v .before in
     let b = o .before in
     let a = b .before .args in
-    let linked = next-place (a .n) (dimOf b) _ (order b) _ (vertex b) (a .i) in
+    let linked = next-place (a .n) (b .before .pre .0) _ (order b) _ (vertex b) (a .i) in
     let at : placeOf (a .n) (a .k / b .corners .result) (a .k % b .corners .result) ≡ a .k
-    = rw (b .corners .ensures) (place-is (a .n) (dimOf b) (a .k)) in
+    = rw (b .corners .ensures) (place-is (a .n) (b .before .pre .0) (a .k)) in
     rw (c .place .ensures, o .next-order .ensures, v .next-vertex .ensures) (linked ∙ ap (cellLink (a .n) (a .i)) at)
 
 pub cell-link-spec : {M : Type 1} → statement M

@@ -1,7 +1,6 @@
 -- `numbering::next_vertex` meets its contract.
 use mathlib.Core.Path.{_∙_}
 use borrow.Author.Needs.{needs}
-use Rattle.model.proofs.Calls.Pass.{dim-pass}
 use Rattle.numbering.proofs.Orders.{axis-few, flip-axis, vertex-zero, vertex-rest}
 use Rattle.numbering.proofs.next_vertex.Statement.{statement}
 use Rattle.numbering.proofs.next_vertex.Tie as tie
@@ -12,13 +11,13 @@ first-axis-requires c κs = search needs
 shl-result : tie.Need-shl-result
 shl-result c =
     let s = c .before .before in
-    rw (c .first-axis .ensures) (axis-few (s .args .n) (dim-pass _ (s .pre .0)) (s .args .order) (s .pre .1))
+    rw (c .first-axis .ensures) (axis-few (s .args .n) (s .pre .0) (s .args .order) (s .pre .1))
 
 returns : tie.Need-returns
 returns c =
     let s = c .before .before in
     let a = s .args in
-    rw (c .first-axis .ensures) (flip-axis (a .n) (dim-pass _ (s .pre .0)) (a .order) (s .pre .1) (a .vertex) (s .pre .2))
+    rw (c .first-axis .ensures) (flip-axis (a .n) (s .pre .0) (a .order) (s .pre .1) (a .vertex) (s .pre .2))
     ∙ vertex-zero (a .n) (a .i) (a .order) (a .vertex) (c .before .if1 .taken)
 
 returns-2 : tie.Need-returns-2

@@ -2,7 +2,6 @@
 use Prim.Native.Nat.{_+_, _*_, _<_}
 use native.Mathlib.Omega.{arith}
 use borrow.Author.Needs.{needs}
-use Rattle.model.proofs.Calls.Pass.{dim-pass}
 use Rattle.numbering.specs.Orders.{placeOf}
 use Rattle.numbering.proofs.Orders.{size-few, place-low}
 use Rattle.numbering.proofs.place.Statement.{statement}
@@ -16,9 +15,8 @@ low : (c : tie.After-corners) → let a = c .before .args in c .corners .result 
 unfolding placeOf
 low c =
     let s = c .before in
-    let dim = dim-pass (s .args .n) (s .pre .0) in
-    let few = size-few (s .args .n) dim in
-    let inside = place-low (s .args .n) dim (s .args .order) (s .pre .1) (s .args .vertex) (s .pre .2) in
+    let few = size-few (s .args .n) (s .pre .0) in
+    let inside = place-low (s .args .n) (s .pre .0) (s .args .order) (s .pre .1) (s .args .vertex) (s .pre .2) in
     rw (c .corners .ensures) (omega arith)
 
 mul-result : tie.Need-mul-result
