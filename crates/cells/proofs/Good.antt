@@ -4,7 +4,7 @@
 -- numbering and none but the first is the cell's dart).
 use Prim.Native.Nat.{ℕ, zero, suc, _-_, _/_, _%_, _<_}
 use mathlib.Core.Path.{_≡_, refl, sym, ap, _∙_}
-use mathlib.Core.Logic.{_≢_, inr, ⊎-elim}
+use mathlib.Core.Logic.{_≢_, inl, inr, ⊎-elim}
 use mathlib.Core.Bool.{Bool, true, false, not, _&&_, _||_}
 use mathlib.Core.List.{List}
 use native.Mathlib.Omega.{arith}
@@ -23,7 +23,7 @@ use Rattle.model.proofs.Maps.Dim.{two-cases}
 use Rattle.model.proofs.Maps.Tables.{rule-at}
 use Rattle.model.proofs.Cells.Rows.{rows-in, row-comes}
 use Rattle.numbering.specs.Orders.{orders, placeOf}
-use Rattle.numbering.proofs.Orders.{vertex-in, place-is, place-low}
+use Rattle.numbering.proofs.Orders.{orders-solid, orders-some, vertex-in, place-is, place-low}
 use Rattle.cells.specs.Listing.{places}
 use Rattle.cells.specs.Good.{MapDart, followsAt, followFrom, allFollow, notAgain, onlyFirst}
 use Rattle.cells.proofs.Listing.{places-length, places-at, place-live}
@@ -54,11 +54,7 @@ isIn : ℕ → ℕ → ℕ → ℕ → ℕ → ℕ → Bool
 isIn n j p a k i = eqb i j && (eqb (k / corners n) p && not (ltb (k % corners n) a))
 
 isTested : ℕ → ℕ → ℕ → Bool
-isTested n k i =
-    elim (eqb n 3) [
-      | true ↦ isIn 3 2 4 0 k i || (isIn 3 0 0 2 k i || isIn 3 0 2 4 k i)
-      | false ↦ isIn 2 0 0 2 k i
-    ]
+isTested n k i = isIn n 0 0 2 k i || (not (eqb n 2) && (isIn n 0 2 4 k i || isIn n 2 4 0 k i))
 
 module _ (n : ℕ) (dim : Dim n) (t cell : List ℕ) where
   from-at : (j p a k i : ℕ) → followFrom n t cell j p a ≡ true → isIn n j p a k i ≡ true → followsAt n t cell i k ≡ true
@@ -72,19 +68,18 @@ module _ (n : ℕ) (dim : Dim n) (t cell : List ℕ) where
       let here = below-at (λ s. ltb s a || followsAt n t cell j (placeOf n p s)) (corners n) h (k % corners n) (vertex-in n dim k) in
       rw (link, ← is) (⊎-elim (λ f. absurd (clash f behind)) (λ f. f) (or-cases (ltb (k % corners n) a) _ here))
 
-tested-at : (n : ℕ) (t cell : List ℕ) → Dim n → allFollow n t cell ≡ true
-    → (k i : ℕ) → isTested n k i ≡ true → followsAt n t cell i k ≡ true
-unfolding isTested allFollow
-tested-at n t cell dim h k i e =
-    two-cases n dim (λ n. Dim n → allFollow n t cell ≡ true → isTested n k i ≡ true → followsAt n t cell i k ≡ true)
-    (λ flat h. from-at 2 flat t cell 0 0 2 k i h)
-    (λ solid h e.
-    let first = followFrom 3 t cell 2 4 0 in
-    let second = followFrom 3 t cell 0 0 2 in
-    let later = and-r first _ h in
-    ⊎-elim (from-at 3 solid t cell 2 4 0 k i (and-l first _ h))
-    (λ e. ⊎-elim (from-at 3 solid t cell 0 0 2 k i (and-l second _ later)) (from-at 3 solid t cell 0 2 4 k i (and-r second _ later))
-    (or-cases (isIn 3 0 0 2 k i) _ e)) (or-cases (isIn 3 2 4 0 k i) _ e)) dim h e
+  tested-at : allFollow n t cell ≡ true → (k i : ℕ) → isTested n k i ≡ true → followsAt n t cell i k ≡ true
+  unfolding isTested allFollow
+  tested-at h k i e =
+      let first = followFrom n t cell 0 0 2 in
+      let second = followFrom n t cell 0 2 4 in
+      ⊎-elim (from-at 0 0 2 k i (and-l first _ h))
+      (λ e.
+      let solid = not-true _ (and-l (not (eqb n 2)) _ e) in
+      let later = ⊎-elim (λ two. absurd (clash two solid)) (λ g. g) (or-cases (eqb n 2) _ (and-r first _ h)) in
+      ⊎-elim (from-at 0 2 4 k i (and-l second _ later)) (from-at 2 4 0 k i (and-r second _ later))
+      (or-cases (isIn n 0 2 4 k i) _ (and-r (not (eqb n 2)) _ e)))
+      (or-cases (isIn n 0 0 2 k i) _ e)
 
 -- ---- each link is a step, is tested, or is one of these turned round; or it is link 0 beside such links
 
@@ -174,7 +169,7 @@ module _ {n : ℕ} {t : List ℕ} {d : ℕ} (D : MapDart n t d) where
 
   module _ (all : allFollow n t (places n t d) ≡ true) where
     by-test : (i k : ℕ) → i < n → k < cellSize n → isTested n k i ≡ true → Follows i k
-    by-test i k hi hk h = eqb-true _ _ (sym (follows-is i k hi hk) ∙ tested-at n t _ (D .table .dim) all k i h)
+    by-test i k hi hk h = eqb-true _ _ (sym (follows-is i k hi hk) ∙ tested-at n (D .table .dim) t _ all k i h)
 
     by-known : (i k : ℕ) → i < n → k < cellSize n → known n k i ≡ true → Follows i k
     unfolding known
@@ -241,10 +236,12 @@ module _ {n : ℕ} {t : List ℕ} {d : ℕ} (D : MapDart n t d) where
       if-eq k 0 (λ e. rw e (not-again-first d _))
       (λ e. not-again d _ k (rw (places-at D k low) (h .other k (omega arith) low))))
 
-pub follow-tests : (n : ℕ) (t : List ℕ) (d : ℕ) → MapDart n t d → Listed n t d → allFollow n t (places n t d) ≡ true
-unfolding allFollow orders
-follow-tests n t d D h =
-    two-cases n (D .table .dim) (λ n. MapDart n t d → Listed n t d → allFollow n t (places n t d) ≡ true)
-    (λ D h. follow-from D h 0 0 2 (omega arith) (omega arith))
-    (λ D h. and-i (follow-from D h 2 4 0 (omega arith) (omega arith))
-    (and-i (follow-from D h 0 0 2 (omega arith) (omega arith)) (follow-from D h 0 2 4 (omega arith) (omega arith)))) D h
+  pub follow-tests : Listed n t d → allFollow n t (places n t d) ≡ true
+  unfolding allFollow
+  follow-tests h =
+      let dim = D .table .dim in
+      let some = orders-some n in
+      and-i (follow-from h 0 0 2 (omega arith) (omega arith))
+      (or-i (eqb n 2) _ (if-eq n 2 (λ e. inl (eq-eqb n 2 e)) (λ e.
+      let six = orders-solid n (omega arith) in
+      inr (and-i (follow-from h 0 2 4 (omega arith) (omega arith)) (follow-from h 2 4 0 (omega arith) (omega arith))))))

@@ -1,9 +1,10 @@
 -- The listing of a cell: a step keeps a live slot at each place, and after all steps each place has its dart.
 -- Main theorems: `start-listing`, `walked-listing`, `around-listing` and `spread-listing`; `listed-flat` and `listed-solid`.
-use Prim.Native.Nat.{ℕ, zero, suc, _+_, _*_, _-_, _^_, _≤_, _<_}
+use Prim.Native.Nat.{ℕ, zero, suc, _+_, _*_, _-_, _%_, _^_, _≤_, _<_}
 use mathlib.Core.Path.{_≡_, refl, sym, ap, _∙_}
 use mathlib.Core.Bool.{Bool, true}
 use mathlib.Core.List.{List}
+use native.Mathlib.Numerals.{add-one}
 use native.Mathlib.Omega.{arith}
 use lib.ListN.{length, getD, set, length-set, length-replicate, getD-replicate}
 use lib.Seq.{getD-set-same, getD-set-other}
@@ -92,6 +93,9 @@ around-listing far k low L =
 pub bit-few : (a : ℕ) → a < 3 → 2 ^ a ≤ 4
 bit-few = below-three (λ a. 2 ^ a ≤ 4) (omega arith) (omega arith) (omega arith)
 
+pub bit-is : (a : ℕ) → a < 3 → 1 * 2 ^ a % 4294967296 ≡ 2 ^ a
+bit-is = below-three (λ a. 1 * 2 ^ a % 4294967296 ≡ 2 ^ a) refl refl refl
+
 pub spread-listing : {t : List ℕ} (a far c s : ℕ) {cell : List ℕ} → a < 3 → s + c ≤ 2 ^ a → Listing 3 t cell
     → Listing 3 t (spread t a far c s cell)
 unfolding spread placeOf corners cellSize
@@ -100,6 +104,17 @@ spread-listing a far (suc c) s low ends L =
     let few = bit-few a low in
     spread-listing a far c (suc s) low (omega arith)
     (around-listing far _ (omega arith) (walked-listing 1 0 0 _ (omega arith) (omega arith) (omega arith) L))
+
+-- from a vertex to the next
+pub spread-next : (t : List ℕ) (a far c s bit : ℕ) (cell once both end : List ℕ) → bit ≡ 2 ^ a
+    → once ≡ walked 3 t 1 0 0 (placeOf 3 (2 * a) s) cell → both ≡ around t far (placeOf 3 (2 * a) (s + bit)) once
+    → spread t a far (suc c) s cell ≡ end → spread t a far c (s + 1) both ≡ end
+unfolding spread
+spread-next t a far c s bit cell once both end e f g h = rw (g, f, e, add-one s) h
+
+pub spread-none : (t : List ℕ) (a far s : ℕ) (cell end : List ℕ) → spread t a far 0 s cell ≡ end → cell ≡ end
+unfolding spread
+spread-none t a far s cell end h = h
 
 -- ---- all steps
 

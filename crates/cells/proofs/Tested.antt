@@ -40,7 +40,7 @@ module _ {n : ℕ} {t : List ℕ} {d : ℕ} (D : MapDart n t d) where
       }))
       (λ g.
       let listed = good-exactly (D .table) d (D .lives) .0 g in
-      and-i (and-i (follow-tests n t d D listed) (other-tests D listed))
+      and-i (and-i (follow-tests D listed) (other-tests D listed))
       (straight-all D (good-chart (D .table) d (D .lives) g) (listed .straight)))
 
   -- ---- the same of what the code is given

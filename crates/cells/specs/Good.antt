@@ -27,13 +27,10 @@ followsAt n t cell i k = eqb (link t i (getD cell k 0)) (getD cell (cellLink n i
 unfoldable pub followFrom : ℕ → List ℕ → List ℕ → ℕ → ℕ → ℕ → Bool
 followFrom n t cell i p a = allBelow (corners n) (λ s. ltb s a || followsAt n t cell i (placeOf n p s))
 
--- the links that are tested: link 0 in one order of each axis but the last, from vertices that it was not listed by; in 3D link 2 from zxy
+-- the links that are tested: link 0 along x from the vertices that have y or z; in 3D along y from those that have z, and link 2 from zxy
 unfoldable pub allFollow : ℕ → List ℕ → List ℕ → Bool
 allFollow n t cell =
-    elim (eqb n 3) [
-      | true ↦ followFrom 3 t cell 2 4 0 && (followFrom 3 t cell 0 0 2 && followFrom 3 t cell 0 2 4)
-      | false ↦ followFrom 2 t cell 0 0 2
-    ]
+    followFrom n t cell 0 0 2 && (eqb n 2 || (followFrom n t cell 0 2 4 && followFrom n t cell 2 4 0))
 
 -- the place k is the first, or does not hold d
 unfoldable pub notAgain : ℕ → List ℕ → ℕ → Bool

@@ -135,13 +135,16 @@ fn all_follow(n: u32, table: &[u32], cell: &[u32]) -> bool
     requires { ⌜ Listing n (now table) (now cell) ⌝ }
     ensures { λ r. ⌜ r ≡ allFollow n (now (table .entry)) (now (cell .entry)) ⌝ }
 {
-    if n == 3 {
-        follow_from(3, table, cell, 2, 4, 0)
-            && follow_from(3, table, cell, 0, 0, 2)
-            && follow_from(3, table, cell, 0, 2, 4)
-    } else {
-        follow_from(2, table, cell, 0, 0, 2)
+    if !follow_from(n, table, cell, 0, 0, 2) {
+        return false;
     }
+    if n == 2 {
+        return true;
+    }
+    if !follow_from(n, table, cell, 0, 2, 4) {
+        return false;
+    }
+    follow_from(n, table, cell, 2, 4, 0)
 }
 
 // Whether no place but the first holds d.

@@ -41,6 +41,10 @@ module _ (n : ℕ) where
   unfolding orders
   orders-few = test (eqb n 3) (λ e. rw (e, orders) (omega arith)) (λ e. rw (e, orders) (omega arith))
 
+  pub orders-some : 0 < orders n
+  unfolding orders
+  orders-some = test (eqb n 3) (λ e. rw (e, orders) (omega arith)) (λ e. rw (e, orders) (omega arith))
+
   pub axis-solid : (p : ℕ) → n ≡ 3 → p / 2 ≡ firstAxis n p
   unfolding firstAxis
   axis-solid p e = rw e
