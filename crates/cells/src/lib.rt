@@ -13,12 +13,12 @@ ghost use Rattle.numbering.specs.Orders.{orders, placeOf};
 ghost use Rattle.cells.specs.Listing.{Listing, walked, around, spread, places};
 ghost use Rattle.cells.specs.Good.{MapDart, followsAt, followFrom, allFollow, onlyFirst, sideOf, isStraight, allStraight};
 ghost use Rattle.cells.specs.Good.{seenWith, SeenGood};
-use reading::link_in;
-use reading::slots;
 use numbering::corners;
 use numbering::next_order;
 use numbering::next_vertex;
 use numbering::place;
+use reading::link_in;
+use reading::slots;
 
 // The entry of an unused slot.
 const UNUSED: u32 = 4294967295;
@@ -112,7 +112,12 @@ fn follows(n: u32, table: &[u32], cell: &[u32], i: u32, order: u32, vertex: u32)
     ensures { λ r. ⌜ r ≡ followsAt n (now (table .entry)) (now (cell .entry)) i (placeOf n order vertex) ⌝ }
 {
     let from = dart_at(n, cell, order, vertex);
-    let to = dart_at(n, cell, next_order(n, i, order), next_vertex(n, i, order, vertex));
+    let to = dart_at(
+        n,
+        cell,
+        next_order(n, i, order),
+        next_vertex(n, i, order, vertex),
+    );
     link_in(table, i as usize, from) == to
 }
 

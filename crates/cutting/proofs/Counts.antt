@@ -1,7 +1,7 @@
--- Marks that are 1 or 2, counted one by one: `counted-none`, `counted-more`, `counted-same`.
+-- Marks that are 1 or 2, counted one by one: `counted-none`, `counted-more`, `counted-same`; `low-marked` tells one by 0 and 3.
 use Prim.Native.Nat.{ℕ, zero, suc, _+_, _≤_, _<_}
 use mathlib.Core.Path.{_≡_, refl}
-use mathlib.Core.Bool.{true, false}
+use mathlib.Core.Bool.{true, false, not, _&&_}
 use mathlib.Core.List.{List, [], _∷_}
 use native.Mathlib.Numerals.{add-one}
 use native.Mathlib.Omega.{arith}
@@ -46,3 +46,16 @@ module _ {m : List ℕ} {x k : ℕ} (C : Counted m x k) (low : x < length m) whe
 
   pub counted-same : marked m x ≡ false → Counted m (x + 1) k
   counted-same none = let n = C .number in record { number = rw (marked-more m x low, none) (omega arith); few = omega arith }
+
+-- of the marks up to 3, those that are neither 0 nor 3 are 1 or 2
+low-mark : (k : ℕ) → k ≤ 3 → (not (eqb k 0) && not (eqb k 3)) ≡ cellMark k
+unfolding cellMark
+low-mark zero h = refl
+low-mark (suc zero) h = refl
+low-mark (suc (suc zero)) h = refl
+low-mark (suc (suc (suc zero))) h = refl
+low-mark (suc (suc (suc (suc k)))) h = absurd (omega arith)
+
+pub low-marked : (m : List ℕ) (x : ℕ) → getD m x 0 ≤ 3 → (not (eqb (getD m x 0) 0) && not (eqb (getD m x 0) 3)) ≡ marked m x
+unfolding marked
+low-marked m x h = low-mark (getD m x 0) h

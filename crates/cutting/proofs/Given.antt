@@ -1,18 +1,22 @@
 -- What the passed checks of a layer say, as the crates below ask it: `layered`, `flooding`, `sized`; and `Sheeted`, where the sheet
 -- has been marked.
-use Prim.Native.Nat.{ℕ, _≤_}
+use Prim.Native.Nat.{ℕ, _≤_, _<_}
 use mathlib.Core.Path.{_≡_}
+use mathlib.Core.Bool.{_&&_}
 use mathlib.Core.List.{List}
 use native.Mathlib.Omega.{arith}
-use lib.ListN.{length}
+use lib.ListN.{length, getD}
 use Rattle.model.specs.Lists.{indexOf}
-use Rattle.model.specs.Table.{slots}
+use Rattle.model.specs.Table.{slots, link, live}
+use Rattle.model.specs.Reach.{inSet}
+use Rattle.model.specs.Sheet.{sheet, markOf, markAt, sheetMarks}
 use Rattle.model.specs.Checks.{pass, inOrder, layerChecks, dimOk, tableOk, marksOk, mapChecks, dartOk}
 use Rattle.model.specs.Runs.{Op}
 use Rattle.model.specs.Meaning.Ends.{opNumbers}
 use Rattle.model.specs.Meaning.Numbers.{JournalRule}
 use Rattle.model.specs.Meaning.Sheets.{BlockDart, marksOf}
 use Rattle.model.specs.Meaning.Walks.{Layer}
+use Rattle.model.proofs.Lists.Scan.{test, getD-tab}
 use Rattle.model.proofs.Calls.Checks.{passed-number}
 use Rattle.model.proofs.Layers.Marks.{sheet-layer}
 use Rattle.model.proofs.Calls.Pass.{journal-pass, RulesPass, rules-pass, layer-passed}
@@ -51,6 +55,13 @@ module _ {n d : ℕ} {t m j : List ℕ} where
   pub sized : Layered n t m j d → Sized t
   sized L = table-passed t (L .table)
 
+mark-low : (n : ℕ) (t s c : List ℕ) (x : ℕ) → markAt n t s c x ≤ 3
+unfolding markAt markOf
+mark-low n t s c x =
+    test (inSet s x) (λ e. rw (e, markOf) (omega arith))
+    (λ e. test (inSet c x) (λ f. rw (e, f, markOf) (omega arith))
+    (λ f. test (live t x && inSet c (link t n x)) (λ g. rw (e, f, g, markOf) (omega arith)) (λ g. rw (e, f, g, markOf) (omega arith))))
+
 -- ---- the checks up to 8 have passed, and s are the marks of the sheet
 
 pub record Sheeted (n : ℕ) (t m j : List ℕ) (d : ℕ) (s : List ℕ) : Type 0 where
@@ -66,3 +77,9 @@ module _ {n d : ℕ} {t m j s : List ℕ} (H : Sheeted n t m j d s) where
 
   pub marks-few : length s ≤ 65536
   marks-few = let long = layer .long in let few = sized given .few in omega arith
+
+  pub marks-low : (x : ℕ) → x < length s → getD s x 0 ≤ 3
+  unfolding sheetMarks
+  marks-low x low =
+      let long = layer .long in
+      rw (H .marked, getD-tab (markAt n t (sheet n t d) _) (slots t) x 0 (omega arith)) (mark-low n t (sheet n t d) _ x)

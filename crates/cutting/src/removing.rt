@@ -3,22 +3,23 @@ use answers::Answer;
 use answers::numbers;
 use edits::Edit;
 ghost use mathlib.Core.Path.{_≡_};
-ghost use Prim.Native.Nat.{_≤_};
-ghost use lib.ListN.{length};
+ghost use Prim.Native.Nat.{ℕ, _≤_, _<_};
+ghost use lib.ListN.{length, getD};
 ghost use Rattle.model.specs.Table.{slots};
 ghost use Rattle.model.specs.Remove.{countMarked};
 ghost use Rattle.model.specs.Checks.{pass, inOrder, layerChecks};
 ghost use Rattle.model.specs.Calls.{removeCall};
 ghost use Rattle.answers.specs.Answers.{outcome};
 
-// How many marks are 1 or 2.
+// How many of a sheet's marks are 1 or 2: neither 0 nor 3.
 fn count_marked(marks: &[u8]) -> u32
-    requires { ⌜ length (now marks) ≤ 65536 ⌝ }
+    requires { ⌜ (length (now marks) ≤ 65536) × ((x : ℕ) → x < length (now marks) → getD (now marks) x 0 ≤ 3) ⌝ }
     ensures { λ r. ⌜ r ≡ countMarked (now (marks .entry)) ⌝ }
 {
     let mut k: u32 = 0;
     for x in 0..marks.len() {
-        if layers::cell_mark(marks[x]) {
+        let mark = marks[x];
+        if (mark != 0) & (mark != 3) {
             k += 1;
         }
     }

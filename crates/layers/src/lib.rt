@@ -1,8 +1,8 @@
 // The links that remove, add and split give, slot by slot, and the lists that they are found by.
+use numbering::cell_link;
 use reading::link;
 use reading::link_in;
 use reading::slots;
-use numbering::cell_link;
 ghost use mathlib.Core.Path.{_≡_};
 ghost use mathlib.Core.Bool.{false};
 ghost use mathlib.Core.List.{[], _∷_};

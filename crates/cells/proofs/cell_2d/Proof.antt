@@ -26,9 +26,13 @@ slice-aggregate-walk-2 c = search needs
 walk-requires-2 : tie.Need-walk-requires-2
 unfolding start orders corners cellSize placeOf
 walk-requires-2 c κs =
-    let w = c .before .before in
-    (rw (w .walk .ensures) (walked-listing 4 0 1 _ (omega arith) (omega arith) (omega arith) (begun (w .before .before .before))),
-    omega arith, omega arith, omega arith, omega arith)
+    let w = c .before .before in (
+      rw (w .walk .ensures) (walked-listing 4 0 1 _ (omega arith) (omega arith) (omega arith) (begun (w .before .before .before))),
+      omega arith,
+      omega arith,
+      omega arith,
+      omega arith,
+    )
 
 returns : tie.Need-returns
 unfolding start cellSize

@@ -20,9 +20,12 @@ dart-at-requires-2 : tie.Need-dart-at-requires-2
 dart-at-requires-2 c κs =
     let o = c .before in
     let s = o .before .before .before .before in
-    let dim = s .pre .0 .table .dim in
-    (dim, s .pre .0 .long, rw (o .next-order .ensures) (order-low (s .args .n) dim _ (s .pre .1) (s .args .i)),
-    rw (c .next-vertex .ensures) (vertex-low (s .args .n) dim _ (s .pre .1) _ (s .pre .2) (s .args .i)))
+    let dim = s .pre .0 .table .dim in (
+      dim,
+      s .pre .0 .long,
+      rw (o .next-order .ensures) (order-low (s .args .n) dim _ (s .pre .1) (s .args .i)),
+      rw (c .next-vertex .ensures) (vertex-low (s .args .n) dim _ (s .pre .1) _ (s .pre .2) (s .args .i)),
+    )
 
 link-in-requires : tie.Need-link-in-requires
 link-in-requires c κs =

@@ -99,9 +99,12 @@ loop-again c =
     let inv = l .before .loop .inv in
     let near = vertices l in
     let bit = 1 * 2 ^ s .args .axis % 4294967296 in
-    let more : bit - l .before .loop .vertex ≡ suc (bit - (l .before .loop .vertex + 1)) = omega arith in
-    (omega arith, inv .1, rw (a .around .ensures) (around-listing _ _ (far-low c) (along w)),
-    spread-next _ _ _ _ _ _ _ _ _ _ (inv .1) (w .walk .ensures) (a .around .ensures) (rw more at (inv .3)))
+    let more : bit - l .before .loop .vertex ≡ suc (bit - (l .before .loop .vertex + 1)) = omega arith in (
+      omega arith,
+      inv .1,
+      rw (a .around .ensures) (around-listing _ _ (far-low c) (along w)),
+      spread-next _ _ _ _ _ _ _ _ _ _ (inv .1) (w .walk .ensures) (a .around .ensures) (rw more at (inv .3)),
+    )
 
 same-length : tie.Need-same-length Inv-loop μ-loop
 same-length c =

@@ -66,9 +66,10 @@ comes-to c =
     let o = c .before in
     let v = o .before in
     let W = v .before .before .before .before .loop .inv .1 in
-    let dim = W .listing .table .dim in
-    (rw (o .next-order .ensures) (order-low _ dim _ (W .order) _),
-    rw (v .next-vertex .ensures) (vertex-low _ dim _ (W .order) _ (W .vertex) _))
+    let dim = W .listing .table .dim in (
+      rw (o .next-order .ensures) (order-low _ dim _ (W .order) _),
+      rw (v .next-vertex .ensures) (vertex-low _ dim _ (W .order) _ (W .vertex) _),
+    )
 
 place-requires : tie.Need-place-requires Inv-loop μ-loop
 place-requires c κs =
@@ -110,9 +111,11 @@ loop-again c =
     let o = i .before in
     let v = o .before in
     let d = v .before in
-    let l = d .before .before in
-    (omega arith, walk-next _ _ _ _ (going l) _ _ _ _ _ (o .next-order .ensures) (v .next-vertex .ensures) (c .place .ensures)
-    (d .dart-at .ensures) (i .link-in .ensures))
+    let l = d .before .before in (
+      omega arith,
+      walk-next _ _ _ _ (going l) _ _ _ _ _ (o .next-order .ensures) (v .next-vertex .ensures) (c .place .ensures)
+          (d .dart-at .ensures) (i .link-in .ensures),
+    )
 
 same-length : tie.Need-same-length Inv-loop μ-loop
 same-length c =

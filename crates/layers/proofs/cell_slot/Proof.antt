@@ -10,7 +10,10 @@ use Rattle.layers.proofs.cell_slot.Statement.{statement}
 use Rattle.layers.proofs.cell_slot.Tie as tie
 
 cell-link-requires : tie.Need-cell-link-requires
-cell-link-requires c κs = search needs
+cell-link-requires c κs =
+    let s = c .before in
+    let size = s .pre .0 .1 in
+    (dim-pass (s .args .n) (s .pre .0 .0), omega arith)
 
 cast-result : tie.Need-cast-result
 cast-result c = search needs

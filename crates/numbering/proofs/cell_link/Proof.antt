@@ -34,9 +34,11 @@ place-requires : tie.Need-place-requires
 place-requires c κs =
     let o = c .before in
     let b = o .before in
-    let s = b .before in
-    (s .pre .0, rw (o .next-order .ensures) (order-low (s .args .n) (s .pre .0) _ (order b) (s .args .i)),
-    rw (c .next-vertex .ensures) (vertex-low (s .args .n) (s .pre .0) _ (order b) _ (vertex b) (s .args .i)))
+    let s = b .before in (
+      s .pre .0,
+      rw (o .next-order .ensures) (order-low (s .args .n) (s .pre .0) _ (order b) (s .args .i)),
+      rw (c .next-vertex .ensures) (vertex-low (s .args .n) (s .pre .0) _ (order b) _ (vertex b) (s .args .i)),
+    )
 
 returns : tie.Need-returns
 returns c =

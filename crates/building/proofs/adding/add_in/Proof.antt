@@ -5,7 +5,7 @@ use borrow.Author.Needs.{needs}
 use borrow.Author.Tests.{not-true, not-false}
 use Rattle.model.specs.Checks.{Check, addChecks, mapChecks}
 use Rattle.model.proofs.Calls.Pass.{dim-pass}
-use Rattle.layers.proofs.Orders.{size-few}
+use Rattle.numbering.proofs.Orders.{size-few}
 use Rattle.answers.proofs.Ladder.{Rung, rise, up, out, all-passed}
 use Rattle.answers.proofs.Verdicts.{equal-passes, equal-refuses}
 use Rattle.edits.proofs.Carrying.{carried-same}

@@ -6,8 +6,7 @@ use native.Mathlib.Omega.{arith}
 use lib.ListN.{length}
 use lib.Seq.{take-all}
 use borrow.Author.Needs.{needs}
-use Rattle.model.specs.Remove.{marked}
-use Rattle.cutting.proofs.Counts.{Counted, counted-none, counted-more, counted-same}
+use Rattle.cutting.proofs.Counts.{Counted, counted-none, counted-more, counted-same, low-marked}
 use Rattle.cutting.proofs.removing.count_marked.Statement.{statement}
 use Rattle.cutting.proofs.removing.count_marked.Tie as tie
 
@@ -20,14 +19,11 @@ abbrev μ-loop : tie.MeasureT-loop
 loop-holds : tie.Need-loop-holds Inv-loop μ-loop
 loop-holds c = (counted-none _, omega arith, refl)
 
-shared-slice-read-cell-mark : tie.Need-shared-slice-read-cell-mark Inv-loop μ-loop
-shared-slice-read-cell-mark c = search needs
-
-cell-mark-requires : tie.Need-cell-mark-requires Inv-loop μ-loop
-cell-mark-requires c κs = search needs
+shared-slice-read-mark : tie.Need-shared-slice-read-mark Inv-loop μ-loop
+shared-slice-read-mark c = search needs
 
 add-k : tie.Need-add-k Inv-loop μ-loop
-add-k c = let n = c .before .before .before .before .loop .inv .0 .few in omega arith
+add-k c = let n = c .before .before .before .loop .inv .0 .few in omega arith
 
 add-x : tie.Need-add-x Inv-loop μ-loop
 add-x c = search needs
@@ -36,15 +32,15 @@ loop-less : tie.Need-loop-less Inv-loop μ-loop
 loop-less c = search needs
 
 loop-again : tie.Need-loop-again Inv-loop μ-loop
-unfolding marked
 loop-again c =
-    let l = c .before .before .before .before in
-    let inv = l .loop .inv in
-    let low : l .loop .x < length (l .before .before .args .marks .now) = omega arith in
-    let at = inv .0 in
-    let asked = sym (c .before .cell-mark .ensures) in (
-      ⊎-elim (λ w. rw (w .1) (counted-more at low (asked ∙ w .0 .taken)))
-          (λ w. rw (w .1) (counted-same at low (asked ∙ w .0 .left))) (c .if1 .came),
+    let l = c .before .before .before in
+    let s = l .before in
+    let m = s .args .marks .now in
+    let low : l .loop .x < length m = omega arith in
+    let at = l .loop .inv .0 in
+    let told = sym (low-marked m (l .loop .x) (s .pre .1 (l .loop .x) low)) in (
+      ⊎-elim (λ w. rw (w .1) (counted-more at low (told ∙ w .0 .taken)))
+          (λ w. rw (w .1) (counted-same at low (told ∙ w .0 .left))) (c .if1 .came),
       omega arith,
       refl,
     )
@@ -52,7 +48,7 @@ loop-again c =
 returns : tie.Need-returns Inv-loop μ-loop
 returns c =
     let n = c .before .loop .inv .0 .number in
-    let m = c .before .before .before .args .marks .now in
+    let m = c .before .before .args .marks .now in
     rw (take-all (c .before .loop .x) m (omega arith)) at n
 
 pub count-marked-spec : {M : Type 1} → statement M
@@ -62,8 +58,7 @@ count-marked-spec =
     Inv-loop
     μ-loop
     loop-holds
-    shared-slice-read-cell-mark
-    cell-mark-requires
+    shared-slice-read-mark
     add-k
     add-x
     loop-less

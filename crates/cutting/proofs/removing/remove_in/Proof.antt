@@ -1,7 +1,7 @@
 -- `cutting::removing::remove_in` meets its contract: the sheet, the count of its cells' darts, and `edits::commit`.
 use borrow.Author.Needs.{needs}
 use borrow.Author.Tests.{not-true, not-false}
-use Rattle.cutting.proofs.Given.{Sheeted, layered, flooding, sized, given, layer, marks-few}
+use Rattle.cutting.proofs.Given.{Sheeted, layered, flooding, sized, given, layer, marks-few, marks-low}
 use Rattle.cutting.proofs.Ends.{remove-no-room, remove-done}
 use Rattle.cutting.proofs.removing.remove_in.Statement.{statement}
 use Rattle.cutting.proofs.removing.remove_in.Tie as tie
@@ -24,7 +24,9 @@ sheet-requires c κs =
     flooding (layered (p .0)) (p .1)
 
 count-marked-requires : tie.Need-count-marked-requires
-count-marked-requires c κs = marks-few (sheeted (c .before .before .before .before .before))
+count-marked-requires c κs =
+    let H = sheeted (c .before .before .before .before .before) in
+    (marks-few H, marks-low H)
 
 commit-requires : tie.Need-commit-requires
 commit-requires c κs =
