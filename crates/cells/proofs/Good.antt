@@ -10,19 +10,19 @@ use mathlib.Core.List.{List}
 use native.Mathlib.Omega.{arith}
 use lib.ListN.{length, getD}
 use lib.Dec.{eqb, ltb}
-use borrow.Author.Tests.{ltb-true, eqb-true, eq-eqb, ne-eqb, not-true}
+use borrow.Author.Tests.{eqb-true, eq-eqb, ne-eqb, not-true}
 use Rattle.model.specs.Lists.{tabulate, allBelow}
-use Rattle.model.specs.Table.{link}
+use Rattle.model.specs.Table.{link, live}
 use Rattle.model.specs.Cell.{cellSize}
 use Rattle.model.specs.Numbering.{corners, cellLink}
 use Rattle.model.specs.Everything.{everything}
-use Rattle.model.specs.Meaning.Maps.{Dim}
+use Rattle.model.specs.Meaning.Maps.{Dim, MapTable}
 use Rattle.model.specs.Meaning.Places.{path, place, Listed}
 use Rattle.model.proofs.Lists.Scan.{test, if-eq, clash, and-l, and-r, and-i, or-cases, or-i, below-at, below-of, below-both, getD-tab}
 use Rattle.model.proofs.Maps.Dim.{two-cases}
 use Rattle.model.proofs.Maps.Tables.{rule-at}
 use Rattle.model.proofs.Cells.Rows.{rows-in, row-comes}
-use Rattle.numbering.specs.Orders.{orders, placeOf}
+use Rattle.numbering.specs.Orders.{orders, nextVertex, placeOf}
 use Rattle.numbering.proofs.Orders.{orders-solid, orders-some, vertex-in, place-is, place-low}
 use Rattle.cells.specs.Listing.{places}
 use Rattle.cells.specs.Good.{MapDart, followsAt, followFrom, allFollow, notAgain, onlyFirst}
@@ -49,9 +49,11 @@ module _ (d : ℕ) (cell : List ℕ) where
 
 -- ---- the links that are tested
 
--- link i from the place k is link j in the order p at a vertex from a on
+-- link i from the place k is link j in the order p, from a vertex from a on that is the lower end
 isIn : ℕ → ℕ → ℕ → ℕ → ℕ → ℕ → Bool
-isIn n j p a k i = eqb i j && (eqb (k / corners n) p && not (ltb (k % corners n) a))
+isIn n j p a k i =
+    let s = k % corners n in
+    eqb i j && (eqb (k / corners n) p && (not (ltb s a) && not (ltb (nextVertex n j p s) s)))
 
 isTested : ℕ → ℕ → ℕ → Bool
 isTested n k i = isIn n 0 0 2 k i || (not (eqb n 2) && (isIn n 0 2 4 k i || isIn n 2 4 0 k i))
@@ -63,10 +65,15 @@ module _ (n : ℕ) (dim : Dim n) (t cell : List ℕ) where
       let link = eqb-true i j (and-l (eqb i j) _ e) in
       let later = and-r (eqb i j) _ e in
       let order = eqb-true (k / corners n) p (and-l (eqb (k / corners n) p) _ later) in
-      let behind = not-true _ (and-r (eqb (k / corners n) p) _ later) in
-      let is : placeOf n p (k % corners n) ≡ k = rw (← order) (place-is n dim k) in
-      let here = below-at (λ s. ltb s a || followsAt n t cell j (placeOf n p s)) (corners n) h (k % corners n) (vertex-in n dim k) in
-      rw (link, ← is) (⊎-elim (λ f. absurd (clash f behind)) (λ f. f) (or-cases (ltb (k % corners n) a) _ here))
+      let s = k % corners n in
+      let which = and-r (eqb (k / corners n) p) _ later in
+      let behind = not-true _ (and-l (not (ltb s a)) _ which) in
+      let lower = not-true _ (and-r (not (ltb s a)) _ which) in
+      let is : placeOf n p s ≡ k = rw (← order) (place-is n dim k) in
+      let here = below-at (λ s. ltb s a || (ltb (nextVertex n j p s) s || followsAt n t cell j (placeOf n p s))) (corners n) h s
+      (vertex-in n dim k) in
+      rw (link, ← is) (⊎-elim (λ f. absurd (clash f behind))
+      (λ g. ⊎-elim (λ f. absurd (clash f lower)) (λ f. f) (or-cases (ltb (nextVertex n j p s) s) _ g)) (or-cases (ltb s a) _ here))
 
   tested-at : allFollow n t cell ≡ true → (k i : ℕ) → isTested n k i ≡ true → followsAt n t cell i k ≡ true
   unfolding isTested allFollow
@@ -105,7 +112,7 @@ isBeside n k i =
     && (isShown n m 0 && (isShown n m 2 && (isShown n (cellLink n 0 m) 2 && eqb (cellLink n 2 (cellLink n 0 m)) (cellLink n 0 k))))
 
 shown-true : (n : ℕ) → Dim n → allBelow (cellSize n) (λ k. allBelow n (λ i. isShown n k i || isBeside n k i)) ≡ true
-unfolding isIn isTested lastLink isStep known isShown isBeside path everything
+unfolding isIn isTested lastLink isStep known isShown isBeside nextVertex path everything
 shown-true n dim =
     two-cases n dim (λ n. allBelow (cellSize n) (λ k. allBelow n (λ i. isShown n k i || isBeside n k i)) ≡ true) refl refl
 
@@ -186,15 +193,20 @@ module _ {n : ℕ} {t : List ℕ} {d : ℕ} (D : MapDart n t d) where
     beside k three hk first second third same =
         let m = cellLink n 2 k in
         let x = place n t d m in
-        let rule = rule-at (D .table) x (place-live D m (goes-in 2 k (omega arith) hk)) in
-        let near = rule-at (D .table) _ (rule .goes 2 (omega arith)) in
+        let y = link t 2 (link t 0 x) in
+        let lives = place-live D m (goes-in 2 k (omega arith) hk) in
+        let y-lives = goes _ 2 (goes x 0 lives (omega arith)) (omega arith) in
         let at : link t 2 x ≡ place n t d k = second ∙ ap (place n t d) (comes 2 k (omega arith) hk) in
-        let there : link t 2 (link t 0 x) ≡ place n t d (cellLink n 0 k) = ap (link t 2) first ∙ third ∙ ap (place n t d) same in
-        let meet : link t 0 (link t 2 (link t 0 x)) ≡ link t 2 x =
-        sym (rule-at (D .table) _ (rule-at (D .table) _ (rule-at (D .table) _ (rule .goes 0 (omega arith)) .goes 2 (omega arith)) .goes 0 (omega arith)) .comes 2 (omega arith))
-        ∙ ap (link t 2) (rule .cross 0 2 (omega arith) (omega arith)) in
-        ap (link t 0) (sym at ∙ sym meet)
-        ∙ rule-at (D .table) _ (rule-at (D .table) _ (rule .goes 0 (omega arith)) .goes 2 (omega arith)) .comes 0 (omega arith) ∙ there
+        let there : y ≡ place n t d (cellLink n 0 k) = ap (link t 2) first ∙ third ∙ ap (place n t d) same in
+        let round : link t 0 y ≡ link t 2 x
+        = sym (rule-at T _ (goes y 0 y-lives (omega arith)) .comes 2 (omega arith)) ∙ ap (link t 2) (rule-at T x lives .cross 0 2 (omega arith) (omega arith)) in
+        ap (link t 0) (sym at ∙ sym round) ∙ rule-at T y y-lives .comes 0 (omega arith) ∙ there
+      where
+        T : MapTable n t
+        T = D .table
+
+        goes : (x i : ℕ) → live t x ≡ true → i < 4 → live t (link t i x) ≡ true
+        goes x i lives l = rule-at T x lives .goes i l
 
     by-beside : (i k : ℕ) → k < cellSize n → isBeside n k i ≡ true → Follows i k
     unfolding isBeside
@@ -227,7 +239,7 @@ module _ {n : ℕ} {t : List ℕ} {d : ℕ} (D : MapDart n t d) where
   unfolding followFrom
   follow-from h i p a hi hp = below-of _ _ (λ s l.
       let low = place-low n (D .table .dim) p hp s l in
-      or-i (ltb s a) _ (inr (follows-is i _ hi low ∙ eq-eqb _ _ (h .follow i _ hi low))))
+      or-i (ltb s a) _ (inr (or-i (ltb (nextVertex n i p s) s) _ (inr (follows-is i _ hi low ∙ eq-eqb _ _ (h .follow i _ hi low))))))
 
   pub other-tests : Listed n t d → onlyFirst d (places n t d) ≡ true
   unfolding onlyFirst

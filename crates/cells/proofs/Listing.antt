@@ -1,8 +1,8 @@
 -- The listing of a cell: a step keeps a live slot at each place, and after all steps each place has its dart.
 -- Main theorems: `start-listing`, `walked-listing`, `around-listing` and `spread-listing`; `listed-flat` and `listed-solid`.
 use Prim.Native.Nat.{ℕ, zero, suc, _+_, _*_, _-_, _%_, _^_, _≤_, _<_}
-use mathlib.Core.Path.{_≡_, refl, sym, ap, _∙_}
-use mathlib.Core.Bool.{Bool, true}
+use mathlib.Core.Path.{_≡_, refl, _∙_}
+use mathlib.Core.Bool.{true}
 use mathlib.Core.List.{List}
 use native.Mathlib.Numerals.{add-one}
 use native.Mathlib.Omega.{arith}

@@ -24,7 +24,6 @@ use Rattle.model.specs.Meaning.Places.{place, Follows, Chart}
 use Rattle.model.proofs.Lists.Scan.{if-eq, clash, and-l, and-r, or-i, below-at, below-of, below-not}
 use Rattle.model.proofs.Lists.Ones.{member-in, index-in, getD-index}
 use Rattle.model.proofs.Maps.Dim.{two-cases}
-use Rattle.model.proofs.Maps.Tables.{live-below}
 use Rattle.model.proofs.Sewing.Side.{on-side, side-own, side-far, side-within, straight-side}
 use Rattle.model.proofs.Cells.Chart.{chart-one}
 use Rattle.model.specs.Everything.{everything}
@@ -32,7 +31,7 @@ use Rattle.numbering.specs.Orders.{orders, nextOrder, nextVertex, placeOf}
 use Rattle.numbering.proofs.Orders.{order-low, vertex-low, place-low, next-place}
 use Rattle.cells.specs.Listing.{places}
 use Rattle.cells.specs.Good.{MapDart, sideSize, sideFrom, lastOrder, sideOf, notLed, isStraight, allStraight}
-use Rattle.cells.proofs.Listing.{places-length, places-at, place-live}
+use Rattle.cells.proofs.Listing.{places-at, place-live}
 
 -- ---- the test that link n does not lead to a place
 

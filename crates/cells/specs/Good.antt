@@ -12,7 +12,7 @@ use Rattle.model.specs.Table.{slots, link, live}
 use Rattle.model.specs.Cell.{cellSize, inWrongCell}
 use Rattle.model.specs.Numbering.{corners, cellLink}
 use Rattle.model.specs.Meaning.Maps.{MapTable}
-use Rattle.numbering.specs.Orders.{nextOrder, placeOf}
+use Rattle.numbering.specs.Orders.{nextOrder, nextVertex, placeOf}
 
 -- d is a live slot of a map
 pub record MapDart (n : ℕ) (t : List ℕ) (d : ℕ) : Type 0 where
@@ -23,9 +23,10 @@ pub record MapDart (n : ℕ) (t : List ℕ) (d : ℕ) : Type 0 where
 unfoldable pub followsAt : ℕ → List ℕ → List ℕ → ℕ → ℕ → Bool
 followsAt n t cell i k = eqb (link t i (getD cell k 0)) (getD cell (cellLink n i k) 0)
 
--- so it does in the order p at the vertices from a on
+-- so it does in the order p at the vertices from a on; an edge is looked at from its lower end
 unfoldable pub followFrom : ℕ → List ℕ → List ℕ → ℕ → ℕ → ℕ → Bool
-followFrom n t cell i p a = allBelow (corners n) (λ s. ltb s a || followsAt n t cell i (placeOf n p s))
+followFrom n t cell i p a =
+    allBelow (corners n) (λ s. ltb s a || (ltb (nextVertex n i p s) s || followsAt n t cell i (placeOf n p s)))
 
 -- the links that are tested: link 0 along x from the vertices that have y or z; in 3D along y from those that have z, and link 2 from zxy
 unfoldable pub allFollow : ℕ → List ℕ → List ℕ → Bool

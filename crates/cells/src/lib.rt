@@ -121,14 +121,16 @@ fn follows(n: u32, table: &[u32], cell: &[u32], i: u32, order: u32, vertex: u32)
     link_in(table, i as usize, from) == to
 }
 
-// Whether it does so at the vertices from `first` on.
+// Whether it does so at the vertices from `first` on; an edge is looked at from its lower end.
 fn follow_from(n: u32, table: &[u32], cell: &[u32], i: u32, order: u32, first: u32) -> bool
     requires { ⌜ (Listing n (now table) (now cell)) × (order < orders n) × (i < n) ⌝ }
     ensures { λ r. ⌜ r ≡ followFrom n (now (table .entry)) (now (cell .entry)) i order first ⌝ }
 {
     for vertex in first..corners(n) {
-        if !follows(n, table, cell, i, order, vertex) {
-            return false;
+        if next_vertex(n, i, order, vertex) >= vertex {
+            if !follows(n, table, cell, i, order, vertex) {
+                return false;
+            }
         }
     }
     true

@@ -2,7 +2,7 @@
 -- Main theorems: `swap-first-three`, `swap-last-three` and `flip-axis` (the model's rows are what is worked out); `order-low`,
 -- `vertex-low`, `place-low` and `next-place` (link i leads from a place to a place).
 use Prim.Native.Nat.{ℕ, _+_, _*_, _-_, _/_, _%_, _^_, _≤_, _<_}
-use mathlib.Core.Path.{_≡_, refl, sym, ap, _∙_}
+use mathlib.Core.Path.{_≡_, refl}
 use mathlib.Core.Logic.{_≢_, ⊎-elim}
 use mathlib.Core.Bool.{Bool, true, false, not, _&&_, _||_}
 use native.Mathlib.Omega.{arith}

@@ -1,6 +1,6 @@
 -- `cells::all_follow` meets its contract.
 use mathlib.Core.Path.{_≡_, sym, _∙_}
-use mathlib.Core.Bool.{true}
+use mathlib.Core.Bool.{Bool, true, false}
 use native.Mathlib.Omega.{arith}
 use borrow.Author.Tests.{eq-eqb, ne-eqb, not-true, not-false}
 use Rattle.numbering.proofs.Orders.{orders-some, orders-solid}
@@ -14,17 +14,22 @@ follow-from-requires c κs =
     let dim = s .pre .table .dim in
     (s .pre, orders-some (s .args .n), omega arith)
 
+-- the test along x
+along-x : (c : tie.After-follow-from) (r : Bool) → c .follow-from .result ≡ r →
+    let a = c .before .before .before .args in
+    followFrom (a .n) (a .table .now) (a .cell .now) 0 0 2 ≡ r
+along-x c r e = sym (c .follow-from .ensures) ∙ e
+
+passed : (c : tie.Else1) → let a = c .before .before .before .before .args in followFrom (a .n) (a .table .now) (a .cell .now) 0 0 2 ≡ true
+passed c = along-x (c .before) true (not-false _ (c .if1 .left))
+
 returns : tie.Need-returns
 unfolding allFollow
-returns c = rw (sym (c .before .follow-from .ensures) ∙ not-true _ (c .if1 .taken))
-
--- what was tested first
-along-x : (c : tie.Else1) → let a = c .before .before .before .before .args in followFrom (a .n) (a .table .now) (a .cell .now) 0 0 2 ≡ true
-along-x c = sym (c .before .follow-from .ensures) ∙ not-false _ (c .if1 .left)
+returns c = rw (along-x (c .before) false (not-true _ (c .if1 .taken)))
 
 returns-2 : tie.Need-returns-2
 unfolding allFollow
-returns-2 c = rw (along-x (c .before), eq-eqb _ 2 (c .if2 .taken))
+returns-2 c = rw (passed (c .before), eq-eqb _ 2 (c .if2 .taken))
 
 solid : (c : tie.Else2) → c .before .before .before .before .before .args .n ≡ 3
 solid c =
@@ -43,7 +48,7 @@ returns-3 : tie.Need-returns-3
 unfolding allFollow
 returns-3 c =
     let e = c .before .before in
-    rw (along-x (e .before), ne-eqb _ 2 (e .if2 .left), sym (c .before .follow-from2 .ensures) ∙ not-true _ (c .if3 .taken))
+    rw (passed (e .before), ne-eqb _ 2 (e .if2 .left), sym (c .before .follow-from2 .ensures) ∙ not-true _ (c .if3 .taken))
 
 follow-from-requires-3 : tie.Need-follow-from-requires-3
 follow-from-requires-3 c κs =
@@ -57,7 +62,7 @@ unfolding allFollow
 returns-4 c =
     let b = c .before in
     let e = b .before .before in
-    rw (along-x (e .before), ne-eqb _ 2 (e .if2 .left), sym (b .before .follow-from2 .ensures) ∙ not-false _ (b .if3 .left))
+    rw (passed (e .before), ne-eqb _ 2 (e .if2 .left), sym (b .before .follow-from2 .ensures) ∙ not-false _ (b .if3 .left))
     (c .follow-from3 .ensures)
 
 pub all-follow-spec : {M : Type 1} → statement M

@@ -27,7 +27,7 @@ walk-requires-2 : tie.Need-walk-requires-2
 unfolding start orders corners cellSize placeOf
 walk-requires-2 c κs =
     let w = c .before .before in (
-      rw (w .walk .ensures) (walked-listing 4 0 1 _ (omega arith) (omega arith) (omega arith) (begun (w .before .before .before))),
+      rw (w .walk .ensures) (walked-listing _ 0 1 _ (omega arith) (omega arith) (omega arith) (begun (w .before .before .before))),
       omega arith,
       omega arith,
       omega arith,

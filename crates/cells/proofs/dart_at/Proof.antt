@@ -1,7 +1,7 @@
 -- `cells::dart_at` meets its contract.
 use native.Mathlib.Omega.{arith}
 use borrow.Author.Needs.{needs}
-use Rattle.numbering.proofs.Orders.{size-few, place-low}
+use Rattle.numbering.proofs.Orders.{place-low}
 use Rattle.cells.proofs.dart_at.Statement.{statement}
 use Rattle.cells.proofs.dart_at.Tie as tie
 

@@ -1,6 +1,6 @@
 -- `cells::spread` meets its contract. The loop's invariant: what is left ends where the whole ends.
 use Prim.Native.Nat.{suc, _+_, _*_, _-_, _%_, _^_, _≤_, _<_}
-use mathlib.Core.Path.{_≡_, refl, sym, _∙_}
+use mathlib.Core.Path.{_≡_, sym, _∙_}
 use native.Mathlib.Omega.{arith}
 use borrow.Author.Needs.{needs}
 use Rattle.model.specs.Cell.{cellSize}
