@@ -1,5 +1,6 @@
 -- The listing of a cell: a step keeps a live slot at each place, and after all steps each place has its dart.
--- Main theorems: `start-listing`, `walked-listing`, `around-listing` and `spread-listing`; `listed-flat` and `listed-solid`.
+-- Main theorems: `start-listing`, `walked-listing`, `around-listing` and `spread-listing`; `listed-flat` and `listed-solid`;
+-- `walk-starts`, `walk-next` and `walk-ends` (the loop of a walk).
 use Prim.Native.Nat.{ℕ, zero, suc, _+_, _*_, _-_, _%_, _^_, _≤_, _<_}
 use mathlib.Core.Path.{_≡_, refl, _∙_}
 use mathlib.Core.Bool.{true}
@@ -89,7 +90,7 @@ unfolding around cellSize
 around-listing far k low L =
     walked-listing (5 - far) 2 1 k (omega arith) (omega arith) low (walked-listing far 1 2 k (omega arith) (omega arith) low L)
 
--- the vertices before 2 ^ a, and those from there to twice as many, are vertices of a hexahedron
+-- no axis has more edges than a face has vertices
 pub bit-few : (a : ℕ) → a < 3 → 2 ^ a ≤ 4
 bit-few = below-three (λ a. 2 ^ a ≤ 4) (omega arith) (omega arith) (omega arith)
 
@@ -118,17 +119,13 @@ spread-none t a far s cell end h = h
 
 -- ---- all steps
 
-unfoldable pub listingComputed : Unit {0}
-unfolding stepped walked around spread start placeOf places place path everything
-listingComputed = tt
-
 pub listed-flat : (t : List ℕ) (d : ℕ) → walked 2 t 3 1 0 (placeOf 2 0 0) (walked 2 t 4 0 1 (placeOf 2 0 0) (start 2 d)) ≡ places 2 t d
-unfolding listingComputed
+unfolding stepped walked start placeOf places place path everything
 listed-flat t d = refl
 
 pub listed-solid : (t : List ℕ) (d : ℕ)
     → spread t 2 5 (2 ^ 2) 0 (spread t 1 3 (2 ^ 1) 0 (spread t 0 3 (2 ^ 0) 0 (around t 3 (placeOf 3 0 0) (start 3 d)))) ≡ places 3 t d
-unfolding listingComputed
+unfolding stepped walked around spread start placeOf places place path everything
 listed-solid t d = refl
 
 -- ---- a walk on its way

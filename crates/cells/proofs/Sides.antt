@@ -233,23 +233,23 @@ pub record Round (n k j p s by : ℕ) : Type 0 where
   pub at : placeOf n p s ≡ getD (sideOf n k) j 0
   pub link : by ≡ turn n j
 
+-- the vertex that the k-th side begins at, as the code works it out, is one, and at the side's first place
+isFirst : ℕ → ℕ → Bool
+isFirst n k =
+    ltb (k % 2 * 2 ^ (k / 2) % 4294967296) (corners n)
+    && eqb (placeOf n (lastOrder n (k / 2)) (k % 2 * 2 ^ (k / 2) % 4294967296)) (getD (sideOf n k) 0 0)
+
+firsts-true : (n : ℕ) → Dim n → allBelow (2 * n) (isFirst n) ≡ true
+unfolding isFirst sideSize sideFrom lastOrder sideOf nextOrder placeOf everything
+firsts-true n dim = two-cases n dim (λ n. allBelow (2 * n) (isFirst n) ≡ true) refl refl
+
 module _ (n k : ℕ) (dim : Dim n) (low : k < 2 * n) where
   pub axis-first : (n - 1) * (k / 2) < orders n
   unfolding orders
   axis-first = two-cases n dim (λ n. k < 2 * n → (n - 1) * (k / 2) < orders n) (λ h. omega arith) (λ h. omega arith) low
 
-  -- the vertex that the side begins at
-  isFirst : ℕ → ℕ → Bool
-  isFirst n k =
-      ltb (k % 2 * 2 ^ (k / 2) % 4294967296) (corners n)
-      && eqb (placeOf n (lastOrder n (k / 2)) (k % 2 * 2 ^ (k / 2) % 4294967296)) (getD (sideOf n k) 0 0)
-
-  firsts-true : allBelow (2 * n) (isFirst n) ≡ true
-  unfolding isFirst sideSize sideFrom lastOrder sideOf nextOrder placeOf everything
-  firsts-true = two-cases n dim (λ n. allBelow (2 * n) (isFirst n) ≡ true) refl refl
-
   is-first : isFirst n k ≡ true
-  is-first = below-at (isFirst n) (2 * n) firsts-true k low
+  is-first = below-at (isFirst n) (2 * n) (firsts-true n dim) k low
 
   pub round-starts : (q p s by : ℕ) → q ≡ nextOrder n 1 ((n - 1) * (k / 2)) → p ≡ nextOrder n 2 q → s ≡ k % 2 * 2 ^ (k / 2) % 4294967296
       → by ≡ 0 → Round n k 0 p s by

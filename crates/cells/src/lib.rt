@@ -31,7 +31,7 @@ fn dart_at(n: u32, cell: &[u32], order: u32, vertex: u32) -> u32
     cell[place(n, order, vertex) as usize]
 }
 
-// Lists darts from the place of a vertex in an axis order on, which is listed: those that `count` links lead to, i, j, i, .. in turn.
+// Lists the darts that `count` links lead to, i, j, i, .. in turn, from the place of a vertex in an axis order, which is listed.
 fn walk(
     n: u32,
     table: &[u32],
@@ -136,8 +136,9 @@ fn follow_from(n: u32, table: &[u32], cell: &[u32], i: u32, order: u32, first: u
     true
 }
 
-// Whether the links of a listed cell lead where the numbering says. Those that it was listed by do, and in a map links 0 and 2 commute;
-// so link 0 is left to test in an order for each axis but the last, and in 3D link 2 from zxy to zyx.
+// Whether the links of a listed cell lead where the numbering says. Those that it was listed by do, and in a map links 0 and 2 commute.
+// So what is left is link 0 in the order of x, from the vertices that have y or z; in 3D also in that of y, from those that have z, and
+// link 2 from zxy to zyx.
 fn all_follow(n: u32, table: &[u32], cell: &[u32]) -> bool
     requires { ⌜ Listing n (now table) (now cell) ⌝ }
     ensures { λ r. ⌜ r ≡ allFollow n (now (table .entry)) (now (cell .entry)) ⌝ }

@@ -17,7 +17,8 @@ placeOf n p s = corners n * p + s
 unfoldable pub firstAxis : ℕ → ℕ → ℕ
 firstAxis n p = elim (eqb n 3) [ true ↦ p / 2 | false ↦ p ]
 
--- the second axis of the order p of three axes: of the two that are left, the lower in the first of two orders, else the higher
+-- the second axis of the order p of three axes: of the two orders with the same first axis, the lower of the axes left follows it in
+-- one, the higher in the other
 unfoldable pub secondAxis : ℕ → ℕ
 secondAxis p = elim (ltb (p % 2) (p / 2)) [ true ↦ p % 2 | false ↦ p % 2 + 1 ]
 

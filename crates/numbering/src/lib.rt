@@ -29,7 +29,8 @@ fn first_axis(n: u32, order: u32) -> u32
     if n == 3 { order / 2 } else { order }
 }
 
-// The second axis of an order of three axes: the lower of the two that are left in the first order of two, else the higher.
+// The second axis of an order of three axes. Two orders have the same first axis: in one the lower of the axes left follows it, in
+// the other the higher.
 fn second_axis(order: u32) -> u32
     ensures { λ r. ⌜ r ≡ secondAxis order ⌝ }
 {
@@ -38,7 +39,7 @@ fn second_axis(order: u32) -> u32
     if left < first { left } else { left + 1 }
 }
 
-// The order of three axes with these two first.
+// The order of three axes that begins with these two.
 fn order_of(first: u32, second: u32) -> u32
     requires { ⌜ (first < 3) × (second < 3) × (first ≢ second) ⌝ }
     ensures { λ r. ⌜ r ≡ orderOf first second ⌝ }
@@ -51,7 +52,7 @@ fn order_of(first: u32, second: u32) -> u32
 }
 
 // The axis order with the first two axes exchanged.
-pub fn swap_first(n: u32, order: u32) -> u32
+fn swap_first(n: u32, order: u32) -> u32
     requires { ⌜ order < orders n ⌝ }
     ensures { λ r. ⌜ r ≡ swapFirst n order ⌝ }
 {
@@ -63,7 +64,7 @@ pub fn swap_first(n: u32, order: u32) -> u32
 }
 
 // The axis order with the last two axes exchanged, of three.
-pub fn swap_last(order: u32) -> u32
+fn swap_last(order: u32) -> u32
     requires { ⌜ order < 6 ⌝ }
     ensures { λ r. ⌜ r ≡ swapLast order ⌝ }
 {
