@@ -51,7 +51,7 @@ fn mark(marks: &[u8], x: u32) -> u8
 }
 
 // Whether a mark is 1 or 2, as in the layer's cells.
-pub fn cell_mark(mark: u8) -> bool
+fn cell_mark(mark: u8) -> bool
     ensures { λ r. ⌜ r ≡ cellMark mark ⌝ }
 {
     (mark == 1) | (mark == 2)
