@@ -1,5 +1,5 @@
 -- What the passed checks say, as the crates below ask it: `rules-given` and `map-given` for the block test, `flood-given` for orbit
--- and sheet, `room-given` and `room-small` for a lent buffer.
+-- and sheet, `room-given` and `room-small` for a lent buffer, `told-given` for the unused slots.
 use Prim.Native.Nat.{ℕ, _*_, _≤_}
 use mathlib.Core.Path.{_≡_}
 use mathlib.Core.Bool.{true}
@@ -7,10 +7,13 @@ use mathlib.Core.List.{List}
 use native.Mathlib.Omega.{arith}
 use lib.ListN.{length}
 use borrow.Author.Tests.{eqb-true}
-use Rattle.model.specs.Table.{slots}
+use Rattle.model.specs.Table.{slots, link}
 use Rattle.model.specs.Map.{links-live, links-return, pairs-commute, stays-flat, isMap}
 use Rattle.model.specs.Checks.{pass, dimOk, tableOk, marksOk, ruleOk, dartOk}
+use Rattle.model.specs.Meaning.Maps.{MapTable}
+use Rattle.model.proofs.Maps.Tables.{live-below, rule-at}
 use Rattle.model.proofs.Calls.Pass.{must-pass, dim-pass, table-pass, RulesPass, rules-pass, map-pass, dart-pass}
+use Rattle.reading.specs.Lowest.{Told}
 use Rattle.reach.specs.Given.{Given}
 
 -- the checks of a map pass, before others
@@ -46,3 +49,10 @@ flood-given n t m q d dim table marks rules dart room =
       room = room;
       start = dart-pass t d dart;
     }
+
+-- what `reading::list_unused` asks of a map
+pub told-given : {n : ℕ} {t : List ℕ} → MapTable n t → Told t
+told-given T x l q =
+    let to = live-below T (link _ 0 x) (rule-at T x l .goes 0 (omega arith)) in
+    let few = T .few in
+    omega arith

@@ -4,3 +4,5 @@ pub mod Settled
 pub mod Opened
 pub mod Given
 pub mod Determined
+pub mod Commits
+pub mod Layered

@@ -1,13 +1,11 @@
 // add and unsew. Each takes any input, and its contract is an equation with the model's definition of the call: the refusals
 // in the order of the numbers, and then what the call gives and leaves.
-pub use adding::add;
 pub use unsewing::unsew;
 ghost use mathlib.Core.Path.{_≡_};
 ghost use Prim.Native.Nat.{_<_};
 ghost use lib.Dec.{eqb};
 ghost use Rattle.model.specs.Table.{link};
 
-mod adding;
 mod unsewing;
 
 // "d is i-free if d.i = d."

@@ -28,19 +28,19 @@ unfolding cursor drafted
 draft-cursor [] cs h = absurd (omega arith)
 draft-cursor (x ∷ xs) cs h = refl
 
+draft-long : (j : List ℕ) (cs : List Change) → length (drafted j cs)
+    ≡ min (suc (suc (cursor j))) (length j) + 3 * length cs + (length j - (suc (suc (cursor j)) + 3 * length cs))
+draft-long j cs = unfold drafted in simp (length-append, length-triples, length-take, length-drop)
+
 -- where there is room behind a draft, there is as much in the journal that it was begun in
 draft-room : (j : List ℕ) (cs : List Change) (m : ℕ) → 2 < m
     → cursor (drafted j cs) + (3 * length cs + m) ≤ length (drafted j cs)
     → (cursor (drafted j cs) ≡ cursor j) × (cursor j + (3 * length cs + m) ≤ length j)
 draft-room j cs m some h =
-    let l = long in
+    let l = draft-long j cs in
     let p : zero < length j = omega arith in
     let q = draft-cursor j cs p in
     (q, omega arith)
-  where
-    long : length (drafted j cs)
-        ≡ min (suc (suc (cursor j))) (length j) + 3 * length cs + (length j - (suc (suc (cursor j)) + 3 * length cs))
-    long = unfold drafted in simp (length-append, length-triples, length-take, length-drop)
 
 module _ (j : List ℕ) (cs : List Change) where
   abbrev front : List ℕ
@@ -142,7 +142,20 @@ module _ (j : List ℕ) (cs : List Change) where
       ∙ append-assoc (triples cs) (n ∷ []) (drop e j))
       ∙ read-triples cs _
 
--- ---- what the code stores, in a draft w of k changes
+-- ---- what the code stores
+
+-- a triple at the word behind the last one
+pub draft-at : (v j : List ℕ) (cs : List Change) (c : Change) (w : ℕ) → v ≡ drafted j cs → w ≡ cursor j + (3 * length cs + 2)
+    → w + 4 ≤ length v → set (set (set v w (c .entry)) (w + 1) (c .old)) (w + 2) (c .new) ≡ drafted j (cs ++ c ∷ [])
+draft-at v j cs c w draft at h =
+    let l = draft-long j cs in
+    let long = ap length draft in
+    let x : w ≡ stop j cs = omega arith in
+    let y : stop j cs + 1 ≡ suc (stop j cs) = omega arith in
+    let z : stop j cs + 2 ≡ suc (suc (stop j cs)) = omega arith in
+    rw (draft, x, y, z) (added j cs c (omega arith))
+
+-- in a draft w of k changes
 
 module _ (w j : List ℕ) (cs : List Change) (k : ℕ) (draft : w ≡ drafted j cs) (count : k ≡ length cs) where
   -- a triple behind the last one: a draft of one change more

@@ -5,3 +5,5 @@ pub mod Puts
 pub mod Breaks
 pub mod Steps
 pub mod Commits
+pub mod Passes
+pub mod Carrying

@@ -1,3 +1,5 @@
 pub mod Passed
 pub mod Rules
 pub mod Neighbours
+pub mod Lowest
+pub mod Four

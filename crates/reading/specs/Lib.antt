@@ -1,3 +1,5 @@
 pub mod Sized
 pub mod Near
 pub mod RuleOf
+pub mod Lowest
+pub mod Four

@@ -4,3 +4,12 @@ pub mod Relinked
 pub mod Adding
 pub mod Walking
 pub mod BothWays
+pub mod Turning
+pub mod SideTurns
+pub mod SideTests
+pub mod Seeking
+pub mod Going
+pub mod Mirrors
+pub mod SidePairs
+pub mod SideLists
+pub mod Turnings

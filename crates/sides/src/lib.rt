@@ -1,4 +1,13 @@
 // Pairing two sides for sew, by a walk of both at once over a queue that the caller lends; and the links that sew and unsew give.
+pub use marked::write_marked;
+pub use turns::Links;
+pub use turns::in_step;
+pub use turns::meets;
+pub use turns::side_links;
+
+mod marked;
+mod turns;
+
 ghost use mathlib.Core.Path.{_≡_};
 ghost use mathlib.Core.Bool.{false};
 ghost use mathlib.Core.List.{List};

@@ -12,7 +12,7 @@ use borrow.Author.Tests.{eqb-false, eq-eqb, ne-eqb, ltb-true, not-true}
 use Rattle.model.specs.Table.{link, walk}
 use Rattle.model.specs.Split.{newDart, newDartLink, halved}
 use Rattle.model.specs.Meaning.Maps.{BlockTable, Rule}
-use Rattle.model.proofs.Lists.Scan.{and-l, and-r, or-cases, if-eq, below-three}
+use Rattle.model.proofs.Lists.Scan.{and-l, and-r, or-cases, if-eq, below-three, below-four}
 use Rattle.model.proofs.Maps.Tables.{mapTable, rule-at}
 use Rattle.model.proofs.Cells.Places.{same, same-eq}
 use Rattle.model.proofs.Layers.Sheet.{Sheet}
@@ -60,10 +60,6 @@ keepsSheet [] = true
 keepsSheet (i ∷ []) = onward i
 keepsSheet (i ∷ j ∷ []) = onward i && onward j
 keepsSheet (i ∷ j ∷ k ∷ w) = (same (i ∷ j ∷ k ∷ []) opposed && keepsSheet w) || (onward i && keepsSheet (j ∷ k ∷ w))
-
-below-four : (P : ℕ → Type 0) → P 0 → P 1 → P 2 → P 3 → (j : ℕ) → j < 4 → P j
-below-four P p q r s zero h = p
-below-four P p q r s (suc j) h = below-three (λ k. P (suc k)) q r s j (omega arith)
 
 module _ {n : ℕ} {t gs : List ℕ} (B : BlockTable n t) (S : Sheet n t gs) where
   pub sheet-rule : (x : ℕ) → In x gs → Rule n t x

@@ -68,6 +68,10 @@ below-three P a b c (suc zero) l = b
 below-three P a b c (suc (suc zero)) l = c
 below-three P a b c (suc (suc (suc i))) l = absurd (omega arith)
 
+pub below-four : (P : ℕ → Type 0) → P 0 → P 1 → P 2 → P 3 → (i : ℕ) → i < 4 → P i
+below-four P a b c d zero l = a
+below-four P a b c d (suc i) l = below-three (λ k. P (suc k)) b c d i (omega arith)
+
 module _ (p : ℕ → Bool) where
   -- ---- every number
 

@@ -1,0 +1,116 @@
+-- `call_orbit::orbit` meets its contract: its opening, the checks 6 and 7, and behind them `orbit_in`.
+use mathlib.Core.List.{List}
+use borrow.Author.Needs.{needs}
+use Rattle.model.specs.Checks.{Check, orbitChecks, mapChecks}
+use Rattle.answers.proofs.Ladder.{Rung, up, out, all-passed}
+use Rattle.answers.proofs.Verdicts.{passes, refuses, marks-test, dart-test}
+use Rattle.answers.proofs.Settled.{Opening, opened, handed-on}
+use Rattle.answers.proofs.Opened.{opened-marks}
+use Rattle.answers.proofs.Given.{room-small, room-given}
+use Rattle.call_orbit.proofs.Ends.{orbit-refused}
+use Rattle.call_orbit.proofs.orbit.Statement.{statement}
+use Rattle.call_orbit.proofs.orbit.Tie as tie
+
+-- ---- the rungs
+
+abbrev checks : tie.Start → List Check
+checks p = orbitChecks (p .args .n) (p .args .table .now) (p .args .marks .now) (p .args .mask) (p .args .d)
+
+abbrev opening : tie.After-struct-known → Opening checks 7
+unfolding orbitChecks mapChecks
+opening c = record {
+  entry = c .before .before .before .before;
+  answer = _;
+  settles = opened-marks _ _ _ _ (marks-test _ _) (c .before .opening .ensures);
+}
+
+abbrev map : tie.Else1 → Rung checks 7
+unfolding orbitChecks mapChecks
+map c = opened (opening (c .before)) (c .if1 .left)
+
+abbrev mask : tie.Else2 → Rung checks 8
+unfolding orbitChecks mapChecks
+mask c = up (map (c .before .before)) (passes _ 6 (c .before .mask-fits .ensures) (c .if2 .left))
+
+abbrev dart : tie.Else3 → Rung checks 9
+unfolding orbitChecks mapChecks
+dart c = up (mask (c .before .before)) (passes _ 7 (dart-test _ _ (c .before .live .ensures)) (c .if3 .left))
+
+-- ---- the refusals, and what the callees ask
+
+opening-requires : tie.Need-opening-requires
+opening-requires c κs = search needs
+
+returns : tie.Need-returns
+unfolding orbitChecks mapChecks
+returns c = handed-on (opening (c .before)) (c .if1 .taken) (orbit-refused _ _ _ _ _)
+
+mask-fits-requires : tie.Need-mask-fits-requires
+unfolding orbitChecks mapChecks
+mask-fits-requires c κs = let p = map c .passed in search
+
+returns-2 : tie.Need-returns-2
+unfolding orbitChecks mapChecks
+returns-2 c =
+    orbit-refused _ _ _ _ _ (out (map (c .before .before)) (refuses _ 6 (c .before .mask-fits .ensures) (c .if2 .taken)))
+
+live-requires : tie.Need-live-requires
+live-requires c κs = search needs
+
+returns-3 : tie.Need-returns-3
+unfolding orbitChecks mapChecks
+returns-3 c =
+    orbit-refused _ _ _ _ _
+    (out (mask (c .before .before)) (refuses _ 7 (dart-test _ _ (c .before .live .ensures)) (c .if3 .taken)))
+
+-- ---- behind the checks
+
+slice-aggregate-orbit-in : tie.Need-slice-aggregate-orbit-in
+slice-aggregate-orbit-in c = search needs
+
+orbit-in-requires : tie.Need-orbit-in-requires
+unfolding orbitChecks mapChecks
+orbit-in-requires c κs =
+    let small = c .before .before in
+    let p = dart (small .before) .passed in
+    (all-passed _ p, room-small 8192 _ (search) (small .if4 .taken))
+
+same-length : tie.Need-same-length
+same-length c = search needs
+
+returns-4 : tie.Need-returns-4
+returns-4 c = search needs
+
+slice-aggregate-orbit-in-2 : tie.Need-slice-aggregate-orbit-in-2
+slice-aggregate-orbit-in-2 c = search needs
+
+orbit-in-requires-2 : tie.Need-orbit-in-requires-2
+unfolding orbitChecks mapChecks
+orbit-in-requires-2 c κs =
+    let p = dart (c .before .before .before) .passed in
+    (all-passed _ p, room-given _ (search))
+
+same-length-2 : tie.Need-same-length-2
+same-length-2 c = search needs
+
+returns-5 : tie.Need-returns-5
+returns-5 c = search needs
+
+pub orbit-spec : {M : Type 1} → statement M
+orbit-spec =
+    tie.close
+    (tie.spec
+    opening-requires
+    returns
+    mask-fits-requires
+    returns-2
+    live-requires
+    returns-3
+    slice-aggregate-orbit-in
+    orbit-in-requires
+    same-length
+    returns-4
+    slice-aggregate-orbit-in-2
+    orbit-in-requires-2
+    same-length-2
+    returns-5)

@@ -1,0 +1,4 @@
+pub mod Halves
+pub mod Marks
+pub mod Spreading
+pub mod Layers
