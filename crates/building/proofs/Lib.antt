@@ -1,4 +1,0 @@
-pub mod Ends
-pub mod Given
-pub mod Tests
-pub mod Listed

@@ -1,9 +1,0 @@
-pub mod Edited
-pub mod Skipping
-pub mod Merging
-pub mod Cases
-pub mod Untouched
-pub mod Pass
-pub mod Carrying
-pub mod Tables
-pub mod Fitting

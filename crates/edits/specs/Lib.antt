@@ -1,4 +1,0 @@
-pub mod Skips
-pub mod Edits
-pub mod Passes
-pub mod Carried

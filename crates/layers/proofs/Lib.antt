@@ -1,5 +1,0 @@
-pub mod Four
-pub mod Walk
-pub mod Ranks
-pub mod Halves
-pub mod Sheets
