@@ -66,15 +66,6 @@ part-as to from A = record {
 abbrev pub Among : List ℕ → List ℕ → ℕ → ℕ → Type 0
 Among xs ys k x = (l : ℕ) × (l < k) × ((x ≡ getD xs l 0) ⊎ (x ≡ getD ys l 0))
 
-pub part-none : (t u m : List ℕ) (i : ℕ) (xs ys : List ℕ) → Part t u m i (Among xs ys 0) t m
-part-none t u m i xs ys = record {
-  long = refl;
-  wide = refl;
-  other = λ x j low ne. refl;
-  new = λ x p. absurd (let low = p .1 in omega arith);
-  old = λ x out. (refl, refl);
-}
-
 pub among-more : (xs ys : List ℕ) (k x : ℕ) → With (With (Among xs ys k) (getD xs k 0)) (getD ys k 0) x → Among xs ys (k + 1) x
 among-more xs ys k x p = ⊎-elim
     (⊎-elim (λ (l, low, is). (l, omega arith, is)) (λ e. (k, omega arith, inl e)))
@@ -124,6 +115,15 @@ module _ {n : ℕ} {t m : List ℕ} {i d e : ℕ} {xs ys : List ℕ} {size : ℕ
       let top = index in
       let wide = J .wide in
       record { index = index; entry = omega (arith, A .long); mark = omega (arith, A .wide) }
+
+  pub part-none : Part t (sewTable n t i d e) m i (Among xs ys 0) t m
+  part-none = record {
+    long = refl;
+    wide = refl;
+    other = λ x j low ne. refl;
+    new = λ x p. absurd (let low = p .1 in omega arith);
+    old = λ x out. (refl, refl);
+  }
 
   -- the k-th pair is linked and marked
   module _ (k : ℕ) (low : k < size) {t′ m′ : List ℕ} (A : Part t (sewTable n t i d e) m i (Among xs ys k) t′ m′)

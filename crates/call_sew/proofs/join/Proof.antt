@@ -24,7 +24,7 @@ abbrev start : tie.At-loop Inv-loop μ-loop → tie.Start Inv-loop μ-loop
 start l = l .before .before .before .before .before
 
 loop-holds : tie.Need-loop-holds Inv-loop μ-loop
-loop-holds c = (omega arith, λ n d e J. part-none _ _ _ _ _ _)
+loop-holds c = (omega arith, λ n d e J. part-none J)
 
 cast-x : tie.Need-cast-x Inv-loop μ-loop
 cast-x c = search needs
