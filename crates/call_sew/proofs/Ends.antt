@@ -14,7 +14,7 @@ use Rattle.model.specs.Table.{slots, link}
 use Rattle.model.specs.Reach.{inSet}
 use Rattle.model.specs.Journal.{changesFrom}
 use Rattle.model.specs.Sew.{side, isPaired, sewTable}
-use Rattle.model.specs.Checks.{pass, refuse, must, andThen, inOrder, apartOk, freeOk, pairingOk, sidesChecks, sewChecks}
+use Rattle.model.specs.Checks.{pass, refuse, must, andThen, inOrder, tableOk, apartOk, freeOk, pairingOk, sidesChecks, sewChecks}
 use Rattle.model.specs.Calls.{refused, commit, sewCall}
 use Rattle.model.specs.Meaning.Maps.{MapTable}
 use Rattle.model.specs.Meaning.Sets.{Marked}
@@ -63,9 +63,14 @@ free-test t i d e one other = rw (one, other)
 
 -- ---- the checks before 12 have passed
 
-pub journal-rule : (n : ℕ) (t j : List ℕ) (i d e : ℕ) → inOrder (sidesChecks n t j i d e) ≡ pass → JournalRule j
-unfolding sidesChecks
-journal-rule n t j i d e h = journal-pass j (passed-at (sidesChecks n t j i d e) h 2)
+module _ (n : ℕ) (t j : List ℕ) (i d e : ℕ) (h : inOrder (sidesChecks n t j i d e) ≡ pass) where
+  pub table-rule : tableOk t ≡ pass
+  unfolding sidesChecks
+  table-rule = passed-at (sidesChecks n t j i d e) h 1
+
+  pub journal-rule : JournalRule j
+  unfolding sidesChecks
+  journal-rule = journal-pass j (passed-at (sidesChecks n t j i d e) h 2)
 
 module _ {n : ℕ} {t : List ℕ} {i d e : ℕ} (passed : SidesPassed n t i d e) where
   pub sides-apart : {xs ys : List ℕ} → slots t ≤ 2 * length xs → slots t ≤ 2 * length ys → Apart n t i d e xs ys
