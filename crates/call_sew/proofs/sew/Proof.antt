@@ -165,7 +165,6 @@ slice-aggregate-sew-in-3 : tie.Need-slice-aggregate-sew-in-3
 slice-aggregate-sew-in-3 c = search needs
 
 sew-in-requires : tie.Need-sew-in-requires
-unfolding sidesChecks mapChecks
 sew-in-requires c κs =
     let small = c .before .before .before .before .before in
     let h = all-pass (small .before) in
@@ -182,7 +181,6 @@ returns-5 : tie.Need-returns-5
 returns-5 c = search needs
 
 sew-large-requires : tie.Need-sew-large-requires
-unfolding sidesChecks mapChecks
 sew-large-requires c κs = all-pass (c .before .before .before)
 
 same-length-11 : tie.Need-same-length-11
