@@ -6,7 +6,7 @@ use native.Mathlib.Omega.{arith}
 use Rattle.model.specs.Table.{slots}
 use Rattle.model.specs.Journal.{cursor}
 use Rattle.sides.specs.Marked.{Turning}
-use Rattle.sides.proofs.Turnings.{turn-start, turn-length, turn-end, Skipped, skipped-here, skipped-all}
+use Rattle.sides.proofs.MarkedPass.{turn-start, turn-length, turn-end, Skipped, skipped-here, skipped-all}
 use Rattle.sides.proofs.marked.write_marked.Statement.{statement}
 use Rattle.sides.proofs.marked.write_marked.Tie as tie
 

@@ -1,12 +1,11 @@
 -- The record of marked darts that link i sews or frees: what happens at a slot (`marked-one`, `unmarked-stays`), and the pass from
 -- `turn-start` by `turn-more` and over slots that are `Skipped` to `turn-end`.
 use Prim.Native.Nat.{ℕ, _+_, _*_, _≤_, _<_}
-use mathlib.Core.Path.{_≡_, refl, sym, ap, _∙_}
-use mathlib.Core.Logic.{_≢_}
+use mathlib.Core.Path.{_≡_, refl, sym, _∙_}
 use mathlib.Core.Bool.{Bool, true, false}
 use mathlib.Core.List.{List}
 use native.Mathlib.Omega.{arith}
-use lib.ListN.{length, getD}
+use lib.ListN.{length}
 use Rattle.model.specs.Table.{slots, link}
 use Rattle.model.specs.Journal.{cursor, changesFrom}
 use Rattle.model.specs.Meaning.Sets.{Marked}
