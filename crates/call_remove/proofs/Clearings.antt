@@ -106,6 +106,9 @@ module _ {n : ℕ} {t m : List ℕ} (S : OfSheet n t m) where
   pub of-layer : Layer n t m
   of-layer = rw (S .marks) (L (S .dart))
 
+  pub of-long : length t ≡ length (removed n t m)
+  of-long = sym (rw (S .marks) (R (S .dart) .long))
+
   module _ (x : ℕ) where
     pub edge-out : getD m x 0 ≡ 3 → marked m x ≡ false
     edge-out = rw (S .marks) (mark-out (S .dart) x)
@@ -130,7 +133,7 @@ module _ {n : ℕ} {t m j : List ℕ} where
       record {
         sheet = G .sheet;
         few = G .rule .few;
-        pass = pass-start (sym (rw (G .sheet .marks) (R (G .sheet .dart) .long))) (B .whole) (B .few) (G .room);
+        pass = pass-start (of-long (G .sheet)) (B .whole) (B .few) (G .room);
       }
 
   module _ {x at : ℕ} {w : List ℕ} (C : Clearing n t m j x at w) where

@@ -29,7 +29,8 @@ struct Counts {
 // Those with the marks 1 and 2, and those with the mark 3, of a sheet's marks.
 fn count_layer(marks: &[u8]) -> Counts
     requires { ⌜ (length (now marks) ≤ 65536) × ((x : ℕ) → x < length (now marks) → getD (now marks) x 0 ≤ 3) ⌝ }
-    ensures { λ r. ⌜ (r .darts ≡ countMarked (now (marks .entry))) × (r .edge ≡ count 3 (now (marks .entry))) ⌝ }
+    ensures { λ r. ⌜ (r .darts ≡ countMarked (now (marks .entry))) × (r .edge ≡ count 3 (now (marks .entry)))
+        × (r .darts + r .edge ≤ length (now (marks .entry))) ⌝ }
 {
     let mut darts: u32 = 0;
     let mut edge: u32 = 0;

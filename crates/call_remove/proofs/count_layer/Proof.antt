@@ -51,7 +51,8 @@ returns : tie.Need-returns Inv-loop μ-loop
 returns c =
     let C = c .before .loop .inv .0 in
     let all = take-all (c .before .loop .x) (c .before .before .args .marks .now) (omega arith) in
-    (rw all at (C .inner), rw all at (C .three))
+    let few = C .few in
+    (rw all at (C .inner), rw all at (C .three), omega arith)
 
 pub count-layer-spec : {M : Type 1} → statement M
 count-layer-spec =
