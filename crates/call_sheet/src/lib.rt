@@ -1,5 +1,9 @@
 // sheet: the sheet of a dart, the cells that it goes through, and what touches them.
 use answers::Answer;
+use answers::numbers;
+const SMALL: usize = 2048;
+const MIDDLE: usize = 16384;
+const LARGE: usize = 65536;
 ghost use mathlib.Core.Path.{_≡_};
 ghost use mathlib.Core.List.{[]};
 ghost use Prim.Native.Nat.{_*_, _≤_};
@@ -24,8 +28,27 @@ fn sheet_in(n: u32, table: &[u32], marks: &mut [u8], work: &mut [u16], d: u32) -
     }
 }
 
+// sheet on a larger table, where its checks pass. As it calls itself it has a stack frame of its own, which small tables and refusals
+// do not pay for; the table fits, so it never does.
+fn sheet_large(n: u32, table: &[u32], marks: &mut [u8], d: u32) -> Answer
+    requires { ⌜ inOrder (sheetChecks n (now table) (now marks) d) ≡ pass ⌝ }
+    ensures { λ r. ⌜ outcome r (now (table .entry)) (now (marks .exit)) []
+        ≡ sheetCall n (now (table .entry)) (now (marks .entry)) d ⌝ }
+{
+    if !reading::table_fits(table) {
+        sheet_large(n, table, marks, d);
+        return numbers::WRONG_TABLE_LENGTH;
+    }
+    if table.len() <= 4 * MIDDLE {
+        let mut work = [0u16; MIDDLE / 2];
+        return sheet_in(n, table, marks, &mut work, d);
+    }
+    let mut work = [0u16; LARGE / 2];
+    sheet_in(n, table, marks, &mut work, d)
+}
+
 // "Marks: 1 in S, 2 for other darts of cells that hold a dart of S", 3 for what touches these cells, "0 elsewhere. Count: size
-// of S." A small table does not pay for a long work list.
+// of S."
 pub fn sheet(n: u32, table: &[u32], marks: &mut [u8], d: u32) -> Answer
     ensures { λ r. ⌜ outcome r (now (table .entry)) (now (marks .exit)) []
         ≡ sheetCall n (now (table .entry)) (now (marks .entry)) d ⌝ }
@@ -34,14 +57,9 @@ pub fn sheet(n: u32, table: &[u32], marks: &mut [u8], d: u32) -> Answer
     if opened.number != 0 {
         return opened;
     }
-    if table.len() <= 8192 {
-        let mut work = [0u16; 1024];
+    if table.len() <= 4 * SMALL {
+        let mut work = [0u16; SMALL / 2];
         return sheet_in(n, table, marks, &mut work, d);
     }
-    if table.len() <= 65536 {
-        let mut work = [0u16; 8192];
-        return sheet_in(n, table, marks, &mut work, d);
-    }
-    let mut work = [0u16; 32768];
-    sheet_in(n, table, marks, &mut work, d)
+    sheet_large(n, table, marks, d)
 }
