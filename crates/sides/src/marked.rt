@@ -16,7 +16,15 @@ fn pick(holds: bool, x: u32, y: u32) -> u32
 
 // A pass of that record comes to the slot x, with the next triple at the word w: where x is marked, the triple is written; the word of
 // the next one.
-fn write_turn(table: &[u32], journal: &mut [u32], marks: &[u8], i: u32, sews: bool, w: usize, x: u32) -> usize
+fn write_turn(
+    table: &[u32],
+    journal: &mut [u32],
+    marks: &[u8],
+    i: u32,
+    sews: bool,
+    w: usize,
+    x: u32,
+) -> usize
     requires { ⌜ ToTurn sews (now table) (now marks) i x w (now journal) ⌝ }
     ensures { λ r. ⌜ ((v j : List ℕ) → Turn sews (now (table .entry)) v (now (marks .entry)) i j x w (now (journal .entry))
         → Turn sews (now (table .entry)) v (now (marks .entry)) i j (x + 1) r (now (journal .exit))) ⌝ }
