@@ -1,5 +1,5 @@
 -- The record of remove, slot by slot: what happens at a slot (`bare-stays`, `edge-one`, `gone-four`), and the pass from
--- `clearing-start` by `clearing-stays` and `clearing-more` to `clearing-end`.
+-- `clearing-start` by `clearing-over`, `clearing-stays` and `clearing-more` to `clearing-end`.
 use Prim.Native.Nat.{ℕ, _+_, _*_, _≤_, _<_}
 use mathlib.Core.Path.{_≡_, refl, sym, ap, _∙_}
 use mathlib.Core.Logic.{inl, inr, ⊎-elim, _≢_}
@@ -17,11 +17,12 @@ use Rattle.model.proofs.Maps.Rules.{link-retable}
 use Rattle.model.proofs.Maps.Tables.{mapTable, live-below, rule-at}
 use Rattle.model.proofs.Layers.Marks.{marks-three, marks-cells, marks-outside, sheet-layer}
 use Rattle.model.proofs.Layers.Remove.{found-link, remove-removes}
+use Rattle.reading.specs.Clear.{Skips}
 use Rattle.reading.specs.Four.{four}
 use Rattle.reading.proofs.Four.{four-at}
 use Rattle.journal.specs.Records.{drafted}
 use Rattle.journal.specs.Passes.{Pass, OneLink, FourLinks}
-use Rattle.journal.proofs.Passes.{pass-start, pass-stays, pass-word, pass-length, pass-end}
+use Rattle.journal.proofs.Passes.{pass-start, pass-stays, pass-over, pass-word, pass-length, pass-end}
 use Rattle.call_remove.specs.Removing.{OfSheet, Removing, Clearing}
 
 -- ---- a slot of the table, by its mark
@@ -150,6 +151,17 @@ module _ {n : ℕ} {t m j : List ℕ} where
 
     pub clearing-stays : x < slots t → getD m x 0 ≡ 0 → Clearing n t m j (x + 1) at w
     clearing-stays inside e = record { sheet = C .sheet; few = C .few; pass = pass-stays (C .pass) inside (bare-stays (C .sheet) x e) }
+
+    -- over marks that are 0
+    pub clearing-over : {y : ℕ} → Skips m x y → Clearing n t m j y at w
+    clearing-over {y} s =
+        let long = of-layer (C .sheet) .long in
+        let within = s .within in
+        record {
+          sheet = C .sheet;
+          few = C .few;
+          pass = pass-over (C .pass) y (s .onward) (omega arith) (λ z low high. bare-stays (C .sheet) z (s .clear z low high));
+        }
 
     pub clearing-more : {at′ : ℕ} {w′ : List ℕ} → Pass t (removed n t m) j (x + 1) at′ w′ → Clearing n t m j (x + 1) at′ w′
     clearing-more P = record { sheet = C .sheet; few = C .few; pass = P }

@@ -2,7 +2,11 @@
 // the call.
 use answers::Answer;
 use answers::numbers;
+use reading::LARGE;
+use reading::MIDDLE;
+use reading::SMALL;
 use reading::UNUSED;
+use reading::skip_clear;
 use walk::first_outside;
 ghost use mathlib.Core.Path.{_≡_};
 ghost use mathlib.Core.List.{List};
@@ -34,13 +38,15 @@ fn count_layer(marks: &[u8]) -> Counts
 {
     let mut darts: u32 = 0;
     let mut edge: u32 = 0;
-    for x in 0..marks.len() {
+    let mut x = skip_clear(marks, 0);
+    while x < marks.len() {
         let mark = marks[x];
         if mark == 3 {
             edge += 1;
         } else if mark != 0 {
             darts += 1;
         }
+        x = skip_clear(marks, x + 1);
     }
     Counts { darts, edge }
 }
@@ -68,10 +74,12 @@ fn write_layer(n: u32, table: &[u32], journal: &mut [u32], marks: &[u8])
         (changesFrom 0 (now (table .entry)) (removed n (now (table .entry)) (now (marks .entry)))) ⌝ }
 {
     let mut w = journal[0] as usize + 2;
-    for x in 0..marks.len() {
+    let mut x = skip_clear(marks, 0);
+    while x < marks.len() {
         if marks[x] != 0 {
             w = write_marked(n, table, journal, marks, w, x as u32);
         }
+        x = skip_clear(marks, x + 1);
     }
 }
 
@@ -103,4 +111,59 @@ fn remove_in(
         place: 0,
         count: counts.darts,
     }
+}
+
+// remove on a larger table, where the checks up to 8 have passed. As it calls itself it has a stack frame of its own, which small
+// tables and refusals do not pay for; the table fits, so it never does.
+fn remove_large(
+    n: u32,
+    table: &mut [u32],
+    marks: &mut [u8],
+    journal: &mut [u32],
+    tag: u32,
+    d: u32,
+) -> Answer
+    requires { ⌜ inOrder (layerChecks n (now table) (now marks) (now journal) d) ≡ pass ⌝ }
+    ensures { λ r. ⌜ outcome r (now (table .exit)) (now (marks .exit)) (now (journal .exit))
+        ≡ removeCall n (now (table .entry)) (now (marks .entry)) (now (journal .entry)) tag d ⌝ }
+{
+    if !reading::table_fits(table) {
+        remove_large(n, table, marks, journal, tag, d);
+        return numbers::WRONG_TABLE_LENGTH;
+    }
+    if table.len() <= 4 * MIDDLE {
+        let mut work = [0u16; MIDDLE / 2];
+        return remove_in(n, table, marks, journal, tag, d, &mut work);
+    }
+    let mut work = [0u16; LARGE / 2];
+    remove_in(n, table, marks, journal, tag, d, &mut work)
+}
+
+// "cells with marks 1 or 2 become unused." "Count: darts removed."
+pub fn remove(
+    n: u32,
+    table: &mut [u32],
+    marks: &mut [u8],
+    journal: &mut [u32],
+    tag: u32,
+    d: u32,
+) -> Answer
+    ensures { λ r. ⌜ outcome r (now (table .exit)) (now (marks .exit)) (now (journal .exit))
+        ≡ removeCall n (now (table .entry)) (now (marks .entry)) (now (journal .entry)) tag d ⌝ }
+{
+    let opened = answers::opening_layer(
+        n,
+        table,
+        marks.len() == table.len() / 4,
+        reading::journal_fits(journal),
+        d,
+    );
+    if opened.number != 0 {
+        return opened;
+    }
+    if table.len() <= 4 * SMALL {
+        let mut work = [0u16; SMALL / 2];
+        return remove_in(n, table, marks, journal, tag, d, &mut work);
+    }
+    remove_large(n, table, marks, journal, tag, d)
 }

@@ -1,9 +1,9 @@
 // sheet: the sheet of a dart, the cells that it goes through, and what touches them.
 use answers::Answer;
 use answers::numbers;
-const SMALL: usize = 2048;
-const MIDDLE: usize = 16384;
-const LARGE: usize = 65536;
+use reading::LARGE;
+use reading::MIDDLE;
+use reading::SMALL;
 ghost use mathlib.Core.Path.{_≡_};
 ghost use mathlib.Core.List.{[]};
 ghost use Prim.Native.Nat.{_*_, _≤_};
