@@ -1,7 +1,6 @@
 -- `call_sheet::sheet_large` meets its contract, by `sheet_in`. It does not call itself: the table fits.
 use Prim.Native.Nat.{ℕ, _<_}
 use mathlib.Core.Path.{sym, _∙_}
-use native.Mathlib.Omega.{arith}
 use borrow.Author.Needs.{needs}
 use borrow.Fn.Kinds.{In}
 use borrow.Fn.PlainCycle.{Measures, is, falls, and}
