@@ -2,18 +2,22 @@
 // definition of the call.
 use answers::Answer;
 use answers::numbers;
+use reading::LARGE;
+use reading::MIDDLE;
+use reading::SMALL;
 ghost use mathlib.Core.Path.{_≡_};
 ghost use mathlib.Core.List.{[]};
 ghost use Prim.Native.Nat.{ℕ, _+_, _*_, _≤_};
-ghost use lib.ListN.{length, set, replicate};
+ghost use lib.ListN.{length, set};
 ghost use Rattle.model.specs.Table.{slots};
 ghost use Rattle.model.specs.Checks.{pass, inOrder, sidesChecks};
 ghost use Rattle.model.specs.Calls.{sewCall};
+ghost use Rattle.model.specs.Meaning.Sets.{Marked};
 ghost use Rattle.answers.specs.Answers.{outcome};
 ghost use Rattle.call_sew.specs.Joins.{Fit, Joining, SomeJoining, Joined};
 
 // Link i of x becomes y, and x gets the mark 1.
-fn turn(table: &mut [u32], marks: &mut [u8], i: u32, x: u32, y: u32)
+fn relink(table: &mut [u32], marks: &mut [u8], i: u32, x: u32, y: u32)
     requires { ⌜ Fit (now table) (now marks) i x ⌝ }
     ensures { λ _. ⌜ (now (table .exit) ≡ set (now (table .entry)) (4 * x + i) y)
         × (now (marks .exit) ≡ set (now (marks .entry)) x 1) ⌝ }
@@ -31,8 +35,8 @@ fn join(table: &mut [u32], marks: &mut [u8], i: u32, xs: &[u16], ys: &[u16], siz
     for k in 0..size {
         let x = xs[k as usize] as u32;
         let y = ys[k as usize] as u32;
-        turn(table, marks, i, x, y);
-        turn(table, marks, i, y, x);
+        relink(table, marks, i, x, y);
+        relink(table, marks, i, y, x);
     }
 }
 
@@ -50,7 +54,7 @@ fn sew_in(
     ys: &mut [u16],
 ) -> Answer
     requires { ⌜ inOrder (sidesChecks n (now table) (now journal) i d e) ≡ pass ⌝ }
-    requires { ⌜ (now marks ≡ replicate (length (now marks)) 0) × (slots (now table) ≤ length (now marks)) ⌝ }
+    requires { ⌜ ((x : ℕ) → Marked (now marks) x → ⊥) × (slots (now table) ≤ length (now marks)) ⌝ }
     requires { ⌜ (slots (now table) ≤ 2 * length (now xs)) × (slots (now table) ≤ 2 * length (now ys)) ⌝ }
     ensures { λ r. ⌜ outcome r (now (table .exit)) [] (now (journal .exit))
         ≡ sewCall n (now (table .entry)) (now (journal .entry)) tag i d e ⌝ }
@@ -71,6 +75,59 @@ fn sew_in(
         place: 0,
         count: changes,
     }
+}
+
+// sew on a larger table, where the checks up to 10 have passed. As it calls itself it has a stack frame of its own, which small tables
+// and refusals do not pay for; the table fits, so it never does.
+fn sew_large(
+    n: u32,
+    table: &mut [u32],
+    journal: &mut [u32],
+    tag: u32,
+    i: u32,
+    d: u32,
+    e: u32,
+) -> Answer
+    requires { ⌜ inOrder (sidesChecks n (now table) (now journal) i d e) ≡ pass ⌝ }
+    ensures { λ r. ⌜ outcome r (now (table .exit)) [] (now (journal .exit))
+        ≡ sewCall n (now (table .entry)) (now (journal .entry)) tag i d e ⌝ }
+{
+    if !reading::table_fits(table) {
+        sew_large(n, table, journal, tag, i, d, e);
+        return numbers::WRONG_TABLE_LENGTH;
+    }
+    if table.len() <= 4 * MIDDLE {
+        let mut marks = [0u8; MIDDLE];
+        let mut xs = [0u16; MIDDLE / 2];
+        let mut ys = [0u16; MIDDLE / 2];
+        return sew_in(
+            n,
+            table,
+            journal,
+            tag,
+            i,
+            d,
+            e,
+            &mut marks,
+            &mut xs,
+            &mut ys,
+        );
+    }
+    let mut marks = [0u8; LARGE];
+    let mut xs = [0u16; LARGE / 2];
+    let mut ys = [0u16; LARGE / 2];
+    sew_in(
+        n,
+        table,
+        journal,
+        tag,
+        i,
+        d,
+        e,
+        &mut marks,
+        &mut xs,
+        &mut ys,
+    )
 }
 
 // "Count: entries changed." A small table does not pay for clearing large buffers.
@@ -99,10 +156,10 @@ pub fn sew(
     if !(reading::is_free(table, i, d) & reading::is_free(table, i, e)) {
         return numbers::NOT_FREE;
     }
-    if table.len() <= 8192 {
-        let mut marks = [0u8; 2048];
-        let mut xs = [0u16; 1024];
-        let mut ys = [0u16; 1024];
+    if table.len() <= 4 * SMALL {
+        let mut marks = [0u8; SMALL];
+        let mut xs = [0u16; SMALL / 2];
+        let mut ys = [0u16; SMALL / 2];
         return sew_in(
             n,
             table,
@@ -116,36 +173,5 @@ pub fn sew(
             &mut ys,
         );
     }
-    if table.len() <= 65536 {
-        let mut marks = [0u8; 16384];
-        let mut xs = [0u16; 8192];
-        let mut ys = [0u16; 8192];
-        return sew_in(
-            n,
-            table,
-            journal,
-            tag,
-            i,
-            d,
-            e,
-            &mut marks,
-            &mut xs,
-            &mut ys,
-        );
-    }
-    let mut marks = [0u8; 65536];
-    let mut xs = [0u16; 32768];
-    let mut ys = [0u16; 32768];
-    sew_in(
-        n,
-        table,
-        journal,
-        tag,
-        i,
-        d,
-        e,
-        &mut marks,
-        &mut xs,
-        &mut ys,
-    )
+    sew_large(n, table, journal, tag, i, d, e)
 }

@@ -45,9 +45,11 @@ pub fn write_marked(table: &[u32], journal: &mut [u32], marks: &[u8], i: u32, se
         → now (journal .exit) ≡ drafted (now (journal .entry))
         (changesFrom 0 (before sews (now (table .entry)) v) (after sews (now (table .entry)) v))) ⌝ }
 {
-    let end = (table.len() / 4) as u32;
+    let end = table.len() / 4;
     let mut w = journal[0] as usize + 2;
-    for x in 0..end {
-        w = write_turn(table, journal, marks, i, sews, w, x);
+    let mut x = reading::skip_clear(marks, 0);
+    while x < end {
+        w = write_turn(table, journal, marks, i, sews, w, x as u32);
+        x = reading::skip_clear(marks, x + 1);
     }
 }
