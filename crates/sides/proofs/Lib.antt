@@ -7,6 +7,7 @@ pub mod BothWays
 pub mod Turning
 pub mod SideTurns
 pub mod SideTests
+pub mod Standing
 pub mod Seeking
 pub mod Going
 pub mod Mirrors
