@@ -1,5 +1,5 @@
--- What a branch of the code says of a check, whether it is left (the check passes) or taken (it refuses): `passes`, `refuses`
--- for a test that is a Boolean, `equal-passes`, `equal-refuses`, `differ-passes`, `differ-refuses` for two numbers,
+-- What a branch of the code says of a check, whether it is left (the check passes) or taken (it refuses): `passes`, `refuses`,
+-- `clear-passes`, `clear-refuses` for a test that is a Boolean, `equal-passes`, `equal-refuses`, `differ-passes`, `differ-refuses` for two numbers,
 -- `least-passes`, `least-refuses` for a least slot and the number of slots, `rule-passes`, `rule-refuses` for a rule of a map.
 -- `marks-test` and the like say by which test a check goes.
 use Prim.Native.Nat.{ℕ, _/_, _≤_, _<_}
@@ -30,6 +30,15 @@ passes b z e h = sym e ∙ ap (λ b. must b z) (not-false b h)
 pub refuses : (b : Bool) (z : ℕ) {c : Check} → must b z ≡ c → not b ≡ true → c ≡ refuse z 0 0
 unfolding must
 refuses b z e h = sym e ∙ ap (λ b. must b z) (not-true b h)
+
+-- `if b`
+pub clear-passes : (b : Bool) (z : ℕ) {c : Check} → must (not b) z ≡ c → b ≡ false → c ≡ pass
+unfolding must
+clear-passes b z e h = sym e ∙ ap (λ b. must (not b) z) h
+
+pub clear-refuses : (b : Bool) (z : ℕ) {c : Check} → must (not b) z ≡ c → b ≡ true → c ≡ refuse z 0 0
+unfolding must
+clear-refuses b z e h = sym e ∙ ap (λ b. must (not b) z) h
 
 -- `if x != y`
 pub equal-passes : (x y z : ℕ) {c : Check} → must (eqb x y) z ≡ c → x ≡ y → c ≡ pass

@@ -66,15 +66,6 @@ part-as to from A = record {
 abbrev pub Among : List ℕ → List ℕ → ℕ → ℕ → Type 0
 Among xs ys k x = (l : ℕ) × (l < k) × ((x ≡ getD xs l 0) ⊎ (x ≡ getD ys l 0))
 
-pub part-none : (t u m : List ℕ) (i : ℕ) (xs ys : List ℕ) → Part t u m i (Among xs ys 0) t m
-part-none t u m i xs ys = record {
-  long = refl;
-  wide = refl;
-  other = λ x j low ne. refl;
-  new = λ x p. absurd (let low = p .1 in omega arith);
-  old = λ x out. (refl, refl);
-}
-
 pub among-more : (xs ys : List ℕ) (k x : ℕ) → With (With (Among xs ys k) (getD xs k 0)) (getD ys k 0) x → Among xs ys (k + 1) x
 among-more xs ys k x p = ⊎-elim
     (⊎-elim (λ (l, low, is). (l, omega arith, is)) (λ e. (k, omega arith, inl e)))
@@ -117,27 +108,36 @@ module _ {n : ℕ} {t m : List ℕ} {i d e : ℕ} {xs ys : List ℕ} {size : ℕ
   index : i < 4
   index = let top = J .able .left .table .dim .1 in let low = J .able .left .index in omega arith
 
-  -- what a turn asks, of the table and the marks as they are then
-  pub turn-fits : {P : ℕ → Type 0} {u t′ m′ : List ℕ} → Part t u m i P t′ m′ → (x : ℕ) → x < slots t → Fit t′ m′ i x
-  turn-fits A x low =
+  -- what `relink` asks, of the table and the marks as they are then
+  pub relink-fits : {P : ℕ → Type 0} {u t′ m′ : List ℕ} → Part t u m i P t′ m′ → (x : ℕ) → x < slots t → Fit t′ m′ i x
+  relink-fits A x low =
       let whole = J .able .left .table .whole in
       let top = index in
       let wide = J .wide in
       record { index = index; entry = omega (arith, A .long); mark = omega (arith, A .wide) }
 
+  pub part-none : Part t (sewTable n t i d e) m i (Among xs ys 0) t m
+  part-none = record {
+    long = refl;
+    wide = refl;
+    other = λ x j low ne. refl;
+    new = λ x p. absurd (let low = p .1 in omega arith);
+    old = λ x out. (refl, refl);
+  }
+
   -- the k-th pair is linked and marked
   module _ (k : ℕ) (low : k < size) {t′ m′ : List ℕ} (A : Part t (sewTable n t i d e) m i (Among xs ys k) t′ m′)
       {t″ m″ : List ℕ} (first : (t″ ≡ set t′ (4 * getD xs k 0 + i) (getD ys k 0)) × (m″ ≡ set m′ (getD xs k 0) 1))
     where
-      pub first-turn : Part t (sewTable n t i d e) m i (With (Among xs ys k) (getD xs k 0)) t″ m″
-      first-turn = rw (first .0, first .1)
-          (part-more A (getD xs k 0) (getD ys k 0) (turn-fits A (getD xs k 0) (x-below k low)) (x-new k low))
+      pub first-relinked : Part t (sewTable n t i d e) m i (With (Among xs ys k) (getD xs k 0)) t″ m″
+      first-relinked = rw (first .0, first .1)
+          (part-more A (getD xs k 0) (getD ys k 0) (relink-fits A (getD xs k 0) (x-below k low)) (x-new k low))
 
       pub part-pair : {t‴ m‴ : List ℕ}
           → (t‴ ≡ set t″ (4 * getD ys k 0 + i) (getD xs k 0)) × (m‴ ≡ set m″ (getD ys k 0) 1)
           → Part t (sewTable n t i d e) m i (Among xs ys (k + 1)) t‴ m‴
       part-pair second = rw (second .0, second .1) (part-as (among-more xs ys k) (among-less xs ys k)
-          (part-more first-turn (getD ys k 0) (getD xs k 0) (turn-fits first-turn (getD ys k 0) (y-below k low)) (y-new k low)))
+          (part-more first-relinked (getD ys k 0) (getD xs k 0) (relink-fits first-relinked (getD ys k 0) (y-below k low)) (y-new k low)))
 
   among-sides : (x : ℕ) → Among xs ys size x → Marked (side n t i d) x ⊎ Marked (side n t i e) x
   among-sides x (l, low, is) = ⊎-elim (λ q. inl (subst (Marked (side n t i d)) (sym q) (x-in l low)))
@@ -178,6 +178,4 @@ module _ {n : ℕ} {t m : List ℕ} {i d e : ℕ} {xs ys : List ℕ} {size : ℕ
       by-place : (x : ℕ) → Marked m′ x → Place (side n t i d) (side n t i e) x → Marked (side n t i d) x ⊎ Marked (side n t i e) x
       by-place x h (own a) = inl a
       by-place x h (other b) = inr b
-      by-place x h (outside a b) =
-          let zero = A .old x (λ p. ⊎-elim a b (among-sides x p)) .1 ∙ J .clear x in
-          absurd (omega arith)
+      by-place x h (outside a b) = absurd (J .clear x (sym (A .old x (λ p. ⊎-elim a b (among-sides x p)) .1) ∙ h))

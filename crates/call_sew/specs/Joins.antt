@@ -32,7 +32,7 @@ pub record Fit (t m : List ℕ) (i x : ℕ) : Type 0 where
 pub record Joining (n : ℕ) (t m : List ℕ) (i d e : ℕ) (xs ys : List ℕ) (size : ℕ) : Type 0 where
   pub able : Sewable n t i d e
   pub lists : Listing n t i d e size xs ys
-  pub clear : (x : ℕ) → getD m x 0 ≡ 0
+  pub clear : (x : ℕ) → Marked m x → ⊥
   pub wide : slots t ≤ length m
   pub room : (size ≤ length xs) × (size ≤ length ys)
 

@@ -5,15 +5,16 @@ use answers::numbers;
 ghost use mathlib.Core.Path.{_≡_};
 ghost use mathlib.Core.List.{[]};
 ghost use Prim.Native.Nat.{ℕ, _+_, _*_, _≤_};
-ghost use lib.ListN.{length, set, replicate};
+ghost use lib.ListN.{length, set};
 ghost use Rattle.model.specs.Table.{slots};
 ghost use Rattle.model.specs.Checks.{pass, inOrder, sidesChecks};
 ghost use Rattle.model.specs.Calls.{sewCall};
+ghost use Rattle.model.specs.Meaning.Sets.{Marked};
 ghost use Rattle.answers.specs.Answers.{outcome};
 ghost use Rattle.call_sew.specs.Joins.{Fit, Joining, SomeJoining, Joined};
 
 // Link i of x becomes y, and x gets the mark 1.
-fn turn(table: &mut [u32], marks: &mut [u8], i: u32, x: u32, y: u32)
+fn relink(table: &mut [u32], marks: &mut [u8], i: u32, x: u32, y: u32)
     requires { ⌜ Fit (now table) (now marks) i x ⌝ }
     ensures { λ _. ⌜ (now (table .exit) ≡ set (now (table .entry)) (4 * x + i) y)
         × (now (marks .exit) ≡ set (now (marks .entry)) x 1) ⌝ }
@@ -31,8 +32,8 @@ fn join(table: &mut [u32], marks: &mut [u8], i: u32, xs: &[u16], ys: &[u16], siz
     for k in 0..size {
         let x = xs[k as usize] as u32;
         let y = ys[k as usize] as u32;
-        turn(table, marks, i, x, y);
-        turn(table, marks, i, y, x);
+        relink(table, marks, i, x, y);
+        relink(table, marks, i, y, x);
     }
 }
 
@@ -50,7 +51,7 @@ fn sew_in(
     ys: &mut [u16],
 ) -> Answer
     requires { ⌜ inOrder (sidesChecks n (now table) (now journal) i d e) ≡ pass ⌝ }
-    requires { ⌜ (now marks ≡ replicate (length (now marks)) 0) × (slots (now table) ≤ length (now marks)) ⌝ }
+    requires { ⌜ ((x : ℕ) → Marked (now marks) x → ⊥) × (slots (now table) ≤ length (now marks)) ⌝ }
     requires { ⌜ (slots (now table) ≤ 2 * length (now xs)) × (slots (now table) ≤ 2 * length (now ys)) ⌝ }
     ensures { λ r. ⌜ outcome r (now (table .exit)) [] (now (journal .exit))
         ≡ sewCall n (now (table .entry)) (now (journal .entry)) tag i d e ⌝ }

@@ -1,9 +1,4 @@
-pub mod Least
 pub mod Entries
-pub mod Relinked
-pub mod Adding
-pub mod Walking
-pub mod BothWays
 pub mod Turning
 pub mod SideTurns
 pub mod SideTests
@@ -13,4 +8,4 @@ pub mod Going
 pub mod Mirrors
 pub mod SidePairs
 pub mod SideLists
-pub mod Turnings
+pub mod MarkedPass

@@ -21,7 +21,7 @@ use Rattle.sides.specs.Turns.{turned, turns, SideLinks, Gone, BothEnd, T
 use Rattle.sides.specs.Turns.{Mirrors, Mirrored, Apart, Listing, InStep}
 use Rattle.sides.proofs.Turning.{turned-apart, mirror-apart, open-all}
 use Rattle.sides.proofs.SideTurns.{both, both-low, both-high, few-both}
-use Rattle.sides.proofs.SideTurns.{side-start, side-turning, side-turns, turns-live, turns-few}
+use Rattle.sides.proofs.SideTurns.{side-start, side-turning, side-turns, turns-live, turns-few, turns-fit}
 use Rattle.sides.proofs.SidePairs.{bothLinks, turned-both, couple-is, couple-turning, couple-own, couple-round, Couple, Place}
 use Rattle.sides.proofs.SidePairs.{not-paired, listing}
 
@@ -209,13 +209,16 @@ module _ {n : ℕ} {t : List ℕ} {i d e : ℕ} {xs₀ ys₀ : List ℕ} (A : Ap
     -- they have met an end, or differ
     pub step-round : (size : ℕ) → Walked t a b d e size ended xs ys → (ended || eqb size 0) ≡ true → InStep n t i d e size xs ys
     step-round zero w h = record {
+      few = omega arith;
       lists = λ l. absurd (omega arith);
       differs = λ _. let j = w .differs refl in not-paired (A .left) (A .right) links (j .0) (j .1);
     }
     step-round (suc m) w h =
         let g = w .round (omega arith) in
         let end = g .end (⊎-elim (λ z. z) (λ z. let q = eqb-true (suc m) 0 z in absurd (omega arith)) (or-cases ended (eqb (suc m) 0) h)) in
+        let P = step-parted in
         record {
+          few = turns-fit (P .left) (P .right) (P .apart) m (g .left .new) (g .right .new);
           lists = λ _. open-listing (A .left) (A .right) links m g end;
           differs = λ z. absurd (omega arith);
         }
@@ -269,7 +272,9 @@ module _ {n : ℕ} {t : List ℕ} {i d e : ℕ} {xs₀ ys₀ : List ℕ} (A : Ap
           let s = step-shut size w h in
           let e = s .is in
           let l = some in
+          let fit = room in
           record {
+            few = omega arith;
             lists = λ _. shut-listing (A .left) (A .right) links (s .less) (s .together) (rw e at lm) (rw e at rm) (2 * size) (omega arith);
             differs = λ z. absurd (omega arith);
           }

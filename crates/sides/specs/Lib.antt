@@ -1,5 +1,2 @@
-pub mod Walk
-pub mod Given
-pub mod Paired
 pub mod Turns
 pub mod Marked

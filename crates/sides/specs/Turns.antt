@@ -10,7 +10,6 @@ use Rattle.model.specs.Table.{slots, link, live}
 use Rattle.model.specs.Sew.{side, isPaired}
 use Rattle.model.specs.Meaning.Sets.{Marked}
 use Rattle.model.specs.Meaning.Pairings.{Far, OnSide, Pairing}
-use Rattle.sides.specs.Given.{Linked}
 
 -- where k turns lead from x; a turn is a and then b
 unfoldable pub turned : {A : Type 0} → (A → A) → (A → A) → A → ℕ → A
@@ -35,7 +34,13 @@ pub record SideLinks (n i a b : ℕ) : Type 0 where
 
 -- ---- what is asked of a table
 
--- each link of a live slot leads to a live slot, and back
+-- each link of a live slot is a live slot
+pub record Linked (t : List ℕ) : Type 0 where
+  pub fits : length t ≡ 4 * slots t
+  pub few : slots t ≤ 65536
+  pub goes : (x j : ℕ) → live t x ≡ true → j < 4 → live t (link t j x) ≡ true
+
+-- .. and leads back
 pub record Mapped (t : List ℕ) : Type 0 where
   pub linked : Linked t
   pub comes : (x j : ℕ) → live t x ≡ true → j < 4 → link t j (link t j x) ≡ x
@@ -146,7 +151,7 @@ pub record Apart (n : ℕ) (t : List ℕ) (i d e : ℕ) (xs ys : List ℕ) : Typ
   pub left-room : slots t ≤ 2 * length xs
   pub right-room : slots t ≤ 2 * length ys
 
--- the r darts of d's side and their partners; or r is 0, and there is no pairing
+-- the r darts of d's side and their partners
 pub record Listing (n : ℕ) (t : List ℕ) (i d e r : ℕ) (xs ys : List ℕ) : Type 0 where
   pub paired : isPaired n t i d e ≡ true
   pub size : r ≡ count 1 (side n t i d)
@@ -154,6 +159,8 @@ pub record Listing (n : ℕ) (t : List ℕ) (i d e r : ℕ) (xs ys : List ℕ) :
   pub marked : (k : ℕ) → k < r → Marked (side n t i d) (getD xs k 0)
   pub pairs : (f : Pairing n t i d e) (k : ℕ) → k < r → f .f (getD xs k 0) ≡ getD ys k 0
 
+-- they are listed, and no more than half of the slots; or r is 0, and there is no pairing
 pub record InStep (n : ℕ) (t : List ℕ) (i d e r : ℕ) (xs ys : List ℕ) : Type 0 where
+  pub few : r + r ≤ slots t
   pub lists : 0 < r → Listing n t i d e r xs ys
   pub differs : r ≡ 0 → isPaired n t i d e ≡ false

@@ -6,7 +6,7 @@ use lib.ListN.{length}
 use borrow.Author.Needs.{needs}
 use Rattle.model.specs.Sew.{sewTable}
 use Rattle.call_sew.specs.Joins.{Part, Joining}
-use Rattle.call_sew.proofs.Parts.{Among, part-none, part-pair, part-all, x-below, y-below, turn-fits, first-turn}
+use Rattle.call_sew.proofs.Parts.{Among, part-none, part-pair, part-all, x-below, y-below, relink-fits, first-relinked}
 use Rattle.call_sew.proofs.join.Statement.{statement}
 use Rattle.call_sew.proofs.join.Tie as tie
 
@@ -24,7 +24,7 @@ abbrev start : tie.At-loop Inv-loop μ-loop → tie.Start Inv-loop μ-loop
 start l = l .before .before .before .before .before
 
 loop-holds : tie.Need-loop-holds Inv-loop μ-loop
-loop-holds c = (omega arith, λ n d e J. part-none _ _ _ _ _ _)
+loop-holds c = (omega arith, λ n d e J. part-none J)
 
 cast-x : tie.Need-cast-x Inv-loop μ-loop
 cast-x c = search needs
@@ -50,21 +50,21 @@ shared-slice-read-y c = let room = start (c .before .before .before) .pre .is .r
 cast-y-2 : tie.Need-cast-y-2 Inv-loop μ-loop
 cast-y-2 c = omega (arith, c .shared-slice-known4 .given (c .before .before .before .loop .k))
 
-turn-requires : tie.Need-turn-requires Inv-loop μ-loop
-turn-requires c κs =
+relink-requires : tie.Need-relink-requires Inv-loop μ-loop
+relink-requires c κs =
     let i = c .before .before .before .before in
     let l = i .before in
     let J = start l .pre .is in
-    turn-fits J (l .loop .inv .1 _ _ _ J) _ (x-below J (l .loop .k) (i .loop-test .taken))
+    relink-fits J (l .loop .inv .1 _ _ _ J) _ (x-below J (l .loop .k) (i .loop-test .taken))
 
-turn-requires-2 : tie.Need-turn-requires-2 Inv-loop μ-loop
-turn-requires-2 c κs =
+relink-requires-2 : tie.Need-relink-requires-2 Inv-loop μ-loop
+relink-requires-2 c κs =
     let w = c .before .before .before .before .before .before in
     let i = w .before .before .before .before .before in
     let l = i .before in
     let J = start l .pre .is in
     let low = i .loop-test .taken in
-    turn-fits J (first-turn J (l .loop .k) low (l .loop .inv .1 _ _ _ J) (w .turn .ensures)) _ (y-below J (l .loop .k) low)
+    relink-fits J (first-relinked J (l .loop .k) low (l .loop .inv .1 _ _ _ J) (w .relink .ensures)) _ (y-below J (l .loop .k) low)
 
 add-k : tie.Need-add-k Inv-loop μ-loop
 add-k c = search needs
@@ -79,7 +79,7 @@ loop-again c =
     let i = w .before .before .before .before .before in
     let l = i .before in
     let low = i .loop-test .taken in
-    (omega arith, λ n d e J. part-pair J (l .loop .k) low (l .loop .inv .1 n d e J) (w .turn .ensures) (v .turn2 .ensures))
+    (omega arith, λ n d e J. part-pair J (l .loop .k) low (l .loop .inv .1 n d e J) (w .relink .ensures) (v .relink2 .ensures))
 
 same-length : tie.Need-same-length Inv-loop μ-loop
 same-length c = let l = c .before in l .loop .inv .1 _ _ _ (start l .pre .is) .long
@@ -108,8 +108,8 @@ join-spec =
     mul-y
     shared-slice-read-y
     cast-y-2
-    turn-requires
-    turn-requires-2
+    relink-requires
+    relink-requires-2
     add-k
     loop-less
     loop-again

@@ -199,7 +199,7 @@ zeros-bits zero i = inl refl
 zeros-bits (suc n) zero = inl refl
 zeros-bits (suc n) (suc i) = zeros-bits n i
 
-none-marked : (n x : ℕ) → Marked (replicate n 0) x → ⊥
+pub none-marked : (n x : ℕ) → Marked (replicate n 0) x → ⊥
 none-marked zero x h = absurd (omega arith)
 none-marked (suc n) zero h = absurd (omega arith)
 none-marked (suc n) (suc x) h = none-marked n x h

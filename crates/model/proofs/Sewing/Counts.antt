@@ -1,5 +1,5 @@
 -- The counts of sew and unsew are sizes.
--- `sew-changes`: sew changes two entries for each dart of d's side.
+-- `sew-changes`: sew changes two entries for each dart of d's side; link i of each dart of the two sides (`own-moved`, `other-moved`).
 -- `unsew-changes`: so does unsew, where d's partner is not in d's own side; else, one for each: `unsew-changes-folded`.
 use Prim.Native.Nat.{ℕ, _+_, _*_}
 use mathlib.Core.Path.{_≡_, sym, ap, _∙_, subst}
@@ -47,12 +47,12 @@ module _ {n : ℕ} {t : List ℕ} {i d e : ℕ} (able : Sewable n t i d e) where
   parted = sides-parted (able .left) (able .right) (able .apart)
 
   -- each dart of the two sides changes, since it was free and is linked to the other side
-  own-moved : (x : ℕ) → Marked (side n t i d) x → link t i x ≢ link made i x
+  pub own-moved : (x : ℕ) → Marked (side n t i d) x → link t i x ≢ link made i x
   own-moved x h q =
       let free = side-free (able .left) (able .free-left) x h in
       parted x h (rw (sym (sew-there able pairing x h) ∙ sym q ∙ free) at (pairing .into x h))
 
-  other-moved : (x : ℕ) → Marked (side n t i e) x → link t i x ≢ link made i x
+  pub other-moved : (x : ℕ) → Marked (side n t i e) x → link t i x ≢ link made i x
   other-moved x h q =
       let r = pairing .onto x h in
       let free = side-free (able .right) (able .free-right) x h in

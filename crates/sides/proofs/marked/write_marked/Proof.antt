@@ -8,7 +8,7 @@ use borrow.Author.Needs.{needs}
 use Rattle.model.specs.Table.{slots}
 use Rattle.model.specs.Journal.{cursor}
 use Rattle.sides.specs.Marked.{Turning, Turn}
-use Rattle.sides.proofs.Turnings.{turn-start, turn-length, turn-end}
+use Rattle.sides.proofs.MarkedPass.{turn-start, turn-length, turn-end}
 use Rattle.sides.proofs.marked.write_marked.Statement.{statement}
 use Rattle.sides.proofs.marked.write_marked.Tie as tie
 

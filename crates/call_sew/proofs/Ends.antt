@@ -1,0 +1,157 @@
+-- How sew ends: refused by a check (`sew-refused`; by 12, `sew-unpaired`), else by what is left of it, `commit` (`sew-goes`); and what
+-- it knows on the way: by which tests 9 and 10 go, what the walk of both sides asks (`sides-apart`), how many entries change
+-- (`changes-number`), what the sides are joined by (`joining`), and what the record is drafted from (`sewn-turning`) and is
+-- (`sewn-drafted`).
+use Prim.Native.Nat.{ℕ, _+_, _*_, _≤_, _<_}
+use mathlib.Core.Path.{_≡_, sym, ap, _∙_}
+use mathlib.Core.Logic.{_≢_, ⊎-elim}
+use mathlib.Core.Bool.{Bool, true, false, not, _&&_}
+use mathlib.Core.List.{List, [], _∷_}
+use native.Mathlib.Omega.{arith}
+use lib.ListN.{length}
+use lib.Dec.{eqb}
+use Rattle.model.specs.Table.{slots, link}
+use Rattle.model.specs.Reach.{inSet}
+use Rattle.model.specs.Journal.{changesFrom}
+use Rattle.model.specs.Sew.{side, isPaired, sewTable}
+use Rattle.model.specs.Checks.{pass, refuse, must, andThen, inOrder, apartOk, freeOk, pairingOk, sidesChecks, sewChecks}
+use Rattle.model.specs.Calls.{refused, commit, sewCall}
+use Rattle.model.specs.Meaning.Maps.{MapTable}
+use Rattle.model.specs.Meaning.Sets.{Marked}
+use Rattle.model.specs.Meaning.Numbers.{JournalRule}
+use Rattle.model.specs.Meaning.Pairings.{Sewable}
+use Rattle.model.proofs.Operations.Relink.{relinked-long, relinked-table}
+use Rattle.model.proofs.Calls.Checks.{append-passed, append-refused, passed-at}
+use Rattle.model.proofs.Calls.Pass.{journal-pass, SidesPassed, left-side, right-side, sides-sewable}
+use Rattle.model.proofs.Sewing.Side.{side-free}
+use Rattle.model.proofs.Sewing.Sew.{sew-relinked, sew-rest, sew-other}
+use Rattle.model.proofs.Sewing.Counts.{own-moved, other-moved, sew-changes}
+use Rattle.journal.specs.Records.{drafted}
+use Rattle.journal.specs.Passes.{Room, Drafted}
+use Rattle.sides.specs.Turns.{Apart, Listing, InStep}
+use Rattle.sides.specs.Marked.{Freed, Turning}
+use Rattle.answers.specs.Answers.{outcome, refusal}
+use Rattle.call_sew.specs.Joins.{Joining, Joined}
+
+module _ (n : ℕ) (t j : List ℕ) (tag i d e : ℕ) where
+  -- by a check before 12
+  pub sew-refused : {k p q : ℕ} → inOrder (sidesChecks n t j i d e) ≡ refuse k p q
+      → outcome (refusal k p q) t [] j ≡ sewCall n t j tag i d e
+  unfolding sewCall refused sewChecks
+  sew-refused h = rw (append-refused (sidesChecks n t j i d e) (pairingOk n t i d e ∷ []) h, sewCall)
+
+  module _ (h : inOrder (sidesChecks n t j i d e) ≡ pass) where
+    pub sew-unpaired : isPaired n t i d e ≡ false → outcome (refusal 12 0 0) t [] j ≡ sewCall n t j tag i d e
+    unfolding sewCall refused sewChecks pairingOk must inOrder andThen
+    sew-unpaired none = rw (append-passed (sidesChecks n t j i d e) (pairingOk n t i d e ∷ []) h, none, sewCall)
+
+    pub sew-goes : isPaired n t i d e ≡ true
+        → sewCall n t j tag i d e ≡ commit t (sewTable n t i d e) [] j tag 0 (λ cs. length cs)
+    unfolding sewCall sewChecks pairingOk must inOrder andThen
+    sew-goes paired = rw (append-passed (sidesChecks n t j i d e) (pairingOk n t i d e ∷ []) h, paired, sewCall)
+
+    pub journal-rule : JournalRule j
+    unfolding sidesChecks
+    journal-rule = journal-pass j (passed-at (sidesChecks n t j i d e) h 2)
+
+-- ---- the tests of the checks 9 and 10
+
+pub apart-test : (n : ℕ) (t : List ℕ) (i d e : ℕ) {b : Bool} → b ≡ inSet (side n t i d) e → must (not b) 9 ≡ apartOk n t i d e
+unfolding apartOk
+apart-test n t i d e is = ap (λ b. must (not b) 9) is
+
+pub free-test : (t : List ℕ) (i d e : ℕ) {a b : Bool} → a ≡ eqb (link t i d) d → b ≡ eqb (link t i e) e
+    → must (a && b) 10 ≡ freeOk t i d e
+unfolding freeOk
+free-test t i d e one other = rw (one, other)
+
+-- ---- the checks before 12 have passed
+
+module _ {n : ℕ} {t : List ℕ} {i d e : ℕ} (passed : SidesPassed n t i d e) where
+  pub sides-apart : {xs ys : List ℕ} → slots t ≤ 2 * length xs → slots t ≤ 2 * length ys → Apart n t i d e xs ys
+  sides-apart left right = record {
+    left = left-side passed;
+    right = right-side passed;
+    apart = passed .apart;
+    left-room = left;
+    right-room = right;
+  }
+
+  module _ {size : ℕ} {xs ys : List ℕ} (step : InStep n t i d e size xs ys) where
+    pub size-few : size + size ≤ 65536
+    size-few = let fit = step .few in let few = passed .table .few in omega arith
+
+    -- they are paired
+    module _ (some : size ≢ 0) where
+      lists : Listing n t i d e size xs ys
+      lists = step .lists (omega arith)
+
+      pub step-paired : isPaired n t i d e ≡ true
+      step-paired = lists .paired
+
+      able : Sewable n t i d e
+      able = sides-sewable passed step-paired
+
+      pub changes-number : 2 * size ≡ length (changesFrom 0 t (sewTable n t i d e))
+      changes-number = rw (lists .size) (sym (sew-changes able))
+
+      pub joining : {m : List ℕ} → ((x : ℕ) → Marked m x → ⊥) → slots t ≤ length m → slots t ≤ 2 * length xs → slots t ≤ 2 * length ys
+          → Joining n t m i d e xs ys size
+      joining clear wide left right = let fit = step .few in record {
+        able = able;
+        lists = lists;
+        clear = clear;
+        wide = wide;
+        room = (omega arith, omega arith);
+      }
+
+      -- .. and joined
+      module _ {t′ m′ : List ℕ} (J : Joined n t i d e t′ m′) where
+        map : MapTable n t
+        map = passed .table
+
+        sewn : MapTable n (sewTable n t i d e)
+        sewn = relinked-table map (passed .index) (sew-relinked able)
+
+        long : length (sewTable n t i d e) ≡ length t
+        long = relinked-long map (passed .index) (sew-relinked able)
+
+        same-slots : slots (sewTable n t i d e) ≡ slots t
+        unfolding slots
+        same-slots = rw long
+
+        -- a marked dart was free, and is sewn
+        free : (x : ℕ) → Marked m′ x → link t i x ≡ x
+        free x h = ⊎-elim (side-free (able .left) (able .free-left) x) (side-free (able .right) (able .free-right) x) (J .marked x h)
+
+        moved : (x : ℕ) → Marked m′ x → link t i x ≢ link (sewTable n t i d e) i x
+        moved x h = ⊎-elim (own-moved able x) (other-moved able x) (J .marked x h)
+
+        index : i < 4
+        index = let top = map .dim .1 in let low = passed .index in omega arith
+
+        freed : Freed (sewTable n t i d e) t m′ i
+        freed = record {
+          long = sym long;
+          fits = sewn .whole;
+          few = sewn .few;
+          wide = rw same-slots (J .wide);
+          index = index;
+          sewn = λ x _ h q. moved x h (free x h ∙ sym q);
+          free = λ x _ h. free x h;
+          rest = λ x _ out. let (a, b) = J .unmarked x out in sym (sew-rest able x a b i index);
+          other = λ x j _ low ne. sym (sew-other able x j low ne);
+        }
+
+        module _ {j : List ℕ} (rule : JournalRule j) (room : Room t (sewTable n t i d e) j) where
+          pub sewn-turning : Turning true t′ t m′ i j
+          sewn-turning = rw (J .table) (record { freed = freed; rule = rule; room = room })
+
+          pub sewn-drafted : {w : List ℕ} → w ≡ drafted j (changesFrom 0 t t′) → Drafted t (sewTable n t i d e) j (2 * size) w
+          sewn-drafted draft = record {
+            long = sym long;
+            rule = rule;
+            room = room;
+            count = changes-number;
+            draft = rw (J .table) at draft;
+          }
