@@ -11,7 +11,7 @@ ghost use Rattle.model.specs.Table.{live};
 ghost use Rattle.model.specs.Checks.{pass, inOrder, unsewChecks};
 ghost use Rattle.model.specs.Calls.{unsewCall};
 ghost use Rattle.model.specs.Meaning.Pairings.{OnSide};
-ghost use Rattle.sides.specs.Given.{Linked};
+ghost use Rattle.sides.specs.Turns.{Linked};
 ghost use Rattle.answers.specs.Answers.{outcome};
 ghost use Rattle.call_unsew.specs.Marking.{Marking, Couple, Unsewn, Wide};
 

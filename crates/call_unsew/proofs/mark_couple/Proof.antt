@@ -1,7 +1,8 @@
 -- `call_unsew::mark_couple` meets its contract.
 use native.Mathlib.Omega.{arith}
 use borrow.Author.Needs.{needs}
-use Rattle.sides.proofs.Entries.{live-low, live-entry, link-low}
+use Rattle.model.proofs.Maps.Rules.{live-in}
+use Rattle.sides.proofs.Entries.{live-entry, link-low}
 use Rattle.call_unsew.proofs.Marks.{marking-few, marking-both}
 use Rattle.call_unsew.proofs.mark_couple.Statement.{statement}
 use Rattle.call_unsew.proofs.mark_couple.Tie as tie
@@ -14,7 +15,7 @@ link-in-requires c κs =
 mark-requires : tie.Need-mark-requires
 mark-requires c κs =
     let (linked, index, lives, wide) = c .before .before .before .before .pre in
-    let low = live-low linked _ _ lives index in
+    let low = live-in _ _ (linked .fits) lives in
     omega arith
 
 mark-requires-2 : tie.Need-mark-requires-2
