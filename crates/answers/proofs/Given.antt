@@ -1,5 +1,5 @@
--- What the passed checks say, as the crates below ask it: `rules-given` and `map-given` for the block test, `flood-given` for orbit
--- and sheet, `room-given` and `room-small` for a lent buffer, `told-given` for the unused slots.
+-- What the passed checks say, as the crates below ask it: `rules-given` and `map-given` for the block test, `marks-given` for the
+-- marks, `flood-given` for orbit, `room-given` and `room-small` for a lent buffer, `told-given` for the unused slots.
 use Prim.Native.Nat.{ℕ, _*_, _≤_}
 use mathlib.Core.Path.{_≡_}
 use mathlib.Core.Bool.{true}
@@ -25,7 +25,7 @@ rules-given n t p = rules-pass n t (p .0) (p .1 .0) (p .1 .1 .0) (p .1 .1 .1 .0)
 pub map-given : (n : ℕ) (t : List ℕ) → dimOk n ≡ pass → RulesPass n t → isMap n t ≡ true
 map-given n t dim rules = map-pass n t (dim-pass n dim .1) rules
 
-marks-given : (t m : List ℕ) → marksOk t m ≡ pass → length m ≡ slots t
+pub marks-given : (t m : List ℕ) → marksOk t m ≡ pass → length m ≡ slots t
 unfolding marksOk
 marks-given t m h = eqb-true _ _ (must-pass _ 3 h)
 

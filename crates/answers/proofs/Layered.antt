@@ -1,4 +1,4 @@
--- What the passed checks of a layer say, as the crates below ask it: `layered`, `flooding`, `sized`; and `Sheeted`, where the sheet
+-- What the passed checks of a layer say, as the crates below ask it: `layered`, `marks-long`, `sized`; and `Sheeted`, where the sheet
 -- has been marked.
 use Prim.Native.Nat.{ℕ, _≤_, _<_}
 use mathlib.Core.Path.{_≡_}
@@ -22,8 +22,7 @@ use Rattle.model.proofs.Layers.Marks.{sheet-layer}
 use Rattle.model.proofs.Calls.Pass.{journal-pass, RulesPass, rules-pass, layer-passed}
 use Rattle.reading.specs.Sized.{Sized}
 use Rattle.reading.proofs.Passed.{table-passed}
-use Rattle.reach.specs.Given.{Given}
-use Rattle.answers.proofs.Given.{flood-given}
+use Rattle.answers.proofs.Given.{marks-given}
 
 pub record Layered (n : ℕ) (t m j : List ℕ) (d : ℕ) : Type 0 where
   pub dim : dimOk n ≡ pass
@@ -49,8 +48,8 @@ module _ {n d : ℕ} {t m j : List ℕ} where
         dart = layer-passed n t j m d h;
       }
 
-  pub flooding : Layered n t m j d → {q : List ℕ} → slots t ≤ length q → Given n t m q d
-  flooding L {q} room = flood-given n t m q d (L .dim) (L .table) (L .marks) (L .rules) (L .lives) room
+  pub marks-long : Layered n t m j d → length m ≡ slots t
+  marks-long L = marks-given t m (L .marks)
 
   pub sized : Layered n t m j d → Sized t
   sized L = table-passed t (L .table)

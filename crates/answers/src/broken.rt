@@ -5,6 +5,7 @@ ghost use Rattle.model.specs.Map.{leastBreaking, isMap};
 ghost use Rattle.model.specs.Checks.{inOrder, pass, dimOk, mapChecks};
 ghost use Rattle.answers.specs.Openings.{Settles};
 use crate::Answer;
+use crate::numbers;
 use reading::Rule;
 
 // The first rule that d breaks, with the least link that breaks it, where d is the least slot that breaks a rule.
@@ -15,7 +16,7 @@ pub fn broken_rule(n: u32, table: &[u32], d: u32) -> Answer
     let dead = reading::breaking_link(n, table, d, Rule::LinksLive);
     if dead < 4 {
         return Answer {
-            number: 5,
+            number: numbers::LINK_NOT_LIVE,
             place: d,
             count: dead,
         };
@@ -23,7 +24,7 @@ pub fn broken_rule(n: u32, table: &[u32], d: u32) -> Answer
     let lost = reading::breaking_link(n, table, d, Rule::LinksReturn);
     if lost < 4 {
         return Answer {
-            number: 24,
+            number: numbers::LINK_NOT_RETURNED,
             place: d,
             count: lost,
         };
@@ -31,14 +32,14 @@ pub fn broken_rule(n: u32, table: &[u32], d: u32) -> Answer
     let lower = reading::breaking_link(n, table, d, Rule::PairsCommute);
     if lower < 4 {
         return Answer {
-            number: 25,
+            number: numbers::PAIR_NOT_RETURNING,
             place: d,
             count: lower,
         };
     }
     // n is 2, and link 3 leaves d
     Answer {
-        number: 26,
+        number: numbers::LINK_3_NOT_FREE,
         place: d,
         count: 3,
     }

@@ -19,7 +19,7 @@ pub fn opening_layer(n: u32, table: &[u32], marks: bool, journal: bool, d: u32) 
     let wrong = cells::least_wrong(n, table);
     if wrong != reading::slots(table) {
         return Answer {
-            number: 8,
+            number: numbers::NO_BLOCK_MAP,
             place: wrong,
             count: 0,
         };

@@ -1,5 +1,15 @@
-// "Numbers a call gives back": the refusals whose place is 0. Those by 5, 24, 25, 26 (broken.rt) and 8 (layer.rt) have a place.
+// "Numbers a call gives back": the numbers of the refusals that have a place, and the refusals whose place is 0.
 use crate::Answer;
+
+// The rules of a map: "half-used slot or link to no live slot stays 5; a link that isn't returned; a distant pair that doesn't
+// commute; in 2D, a link 3 that leaves its dart".
+pub const LINK_NOT_LIVE: u32 = 5;
+pub const LINK_NOT_RETURNED: u32 = 24;
+pub const PAIR_NOT_RETURNING: u32 = 25;
+pub const LINK_3_NOT_FREE: u32 = 26;
+
+// "not a block map"
+pub const NO_BLOCK_MAP: u32 = 8;
 
 // No refusal: the checks before pass.
 pub const PASSED: Answer = Answer {

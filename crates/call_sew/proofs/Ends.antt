@@ -14,7 +14,7 @@ use Rattle.model.specs.Table.{slots, link}
 use Rattle.model.specs.Reach.{inSet}
 use Rattle.model.specs.Journal.{changesFrom}
 use Rattle.model.specs.Sew.{side, isPaired, sewTable}
-use Rattle.model.specs.Checks.{pass, refuse, must, andThen, inOrder, apartOk, freeOk, pairingOk, sidesChecks, sewChecks}
+use Rattle.model.specs.Checks.{pass, refuse, must, andThen, inOrder, tableOk, apartOk, freeOk, pairingOk, sidesChecks, sewChecks}
 use Rattle.model.specs.Calls.{refused, commit, sewCall}
 use Rattle.model.specs.Meaning.Maps.{MapTable}
 use Rattle.model.specs.Meaning.Sets.{Marked}
@@ -50,10 +50,6 @@ module _ (n : ℕ) (t j : List ℕ) (tag i d e : ℕ) where
     unfolding sewCall sewChecks pairingOk must inOrder andThen
     sew-goes paired = rw (append-passed (sidesChecks n t j i d e) (pairingOk n t i d e ∷ []) h, paired, sewCall)
 
-    pub journal-rule : JournalRule j
-    unfolding sidesChecks
-    journal-rule = journal-pass j (passed-at (sidesChecks n t j i d e) h 2)
-
 -- ---- the tests of the checks 9 and 10
 
 pub apart-test : (n : ℕ) (t : List ℕ) (i d e : ℕ) {b : Bool} → b ≡ inSet (side n t i d) e → must (not b) 9 ≡ apartOk n t i d e
@@ -66,6 +62,15 @@ unfolding freeOk
 free-test t i d e one other = rw (one, other)
 
 -- ---- the checks before 12 have passed
+
+module _ (n : ℕ) (t j : List ℕ) (i d e : ℕ) (h : inOrder (sidesChecks n t j i d e) ≡ pass) where
+  pub table-rule : tableOk t ≡ pass
+  unfolding sidesChecks
+  table-rule = passed-at (sidesChecks n t j i d e) h 1
+
+  pub journal-rule : JournalRule j
+  unfolding sidesChecks
+  journal-rule = journal-pass j (passed-at (sidesChecks n t j i d e) h 2)
 
 module _ {n : ℕ} {t : List ℕ} {i d e : ℕ} (passed : SidesPassed n t i d e) where
   pub sides-apart : {xs ys : List ℕ} → slots t ≤ 2 * length xs → slots t ≤ 2 * length ys → Apart n t i d e xs ys

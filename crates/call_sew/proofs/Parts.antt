@@ -1,4 +1,5 @@
--- Two sides joined pair by pair: a dart more (`part-more`), from no dart (`part-none`) to all (`part-all`).
+-- Two sides joined pair by pair: the darts that are linked so far (`Part`), one more (`part-more`), from none (`part-none`) to all
+-- (`part-all`).
 use Prim.Native.Nat.{ℕ, _+_, _*_, _≤_, _<_}
 use mathlib.Core.Path.{_≡_, refl, sym, ap, _∙_, subst}
 use mathlib.Core.Logic.{_⊎_, inl, inr, _≢_, ⊎-elim}
@@ -17,8 +18,19 @@ use Rattle.model.proofs.Operations.Relink.{table-same, relinked-long, relinked-
 use Rattle.model.proofs.Sewing.Side.{side-live, Place, own, other, outside, place}
 use Rattle.model.proofs.Sewing.Pairing.{paired-exactly}
 use Rattle.model.proofs.Sewing.Sew.{sew-relinked, sew-there, sew-back, sew-rest, sew-other}
-use Rattle.sides.specs.Turns.{Listing}
-use Rattle.call_sew.specs.Joins.{Part, With, Fit, Joining, Joined}
+use Rattle.call_sew.specs.Joins.{Fit, Joining, Joined}
+
+-- t′ is t but for link i of the darts P, which is as in u; these have the mark 1 in m′, all others the mark that they have in m
+pub record Part (t u m : List ℕ) (i : ℕ) (P : ℕ → Type 0) (t′ m′ : List ℕ) : Type 0 where
+  pub long : length t′ ≡ length t
+  pub wide : length m′ ≡ length m
+  pub other : (x j : ℕ) → j < 4 → j ≢ i → link t′ j x ≡ link t j x
+  pub new : (x : ℕ) → P x → (link t′ i x ≡ link u i x) × Marked m′ x
+  pub old : (x : ℕ) → (P x → ⊥) → (link t′ i x ≡ link t i x) × (getD m′ x 0 ≡ getD m x 0)
+
+-- and x
+abbrev pub With : (ℕ → Type 0) → ℕ → ℕ → Type 0
+With P x z = P z ⊎ (z ≡ x)
 
 -- ---- one dart
 

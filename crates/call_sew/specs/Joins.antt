@@ -1,26 +1,14 @@
--- Two sides joined pair by pair: the darts that are linked so far (`Part`), what is asked (`Joining`) and what is left (`Joined`).
+-- Two sides joined pair by pair: what is asked (`Joining`) and what is left (`Joined`).
 use Prim.Native.Nat.{ℕ, _+_, _*_, _≤_, _<_}
 use mathlib.Core.Path.{_≡_}
-use mathlib.Core.Logic.{_⊎_, _≢_}
+use mathlib.Core.Logic.{_⊎_}
 use mathlib.Core.List.{List}
-use lib.ListN.{length, getD}
-use Rattle.model.specs.Table.{slots, link}
+use lib.ListN.{length}
+use Rattle.model.specs.Table.{slots}
 use Rattle.model.specs.Sew.{side, sewTable}
 use Rattle.model.specs.Meaning.Sets.{Marked}
 use Rattle.model.specs.Meaning.Pairings.{Sewable}
 use Rattle.sides.specs.Turns.{Listing}
-
--- t′ is t but for link i of the darts P, which is as in u; these have the mark 1 in m′, all others the mark that they have in m
-pub record Part (t u m : List ℕ) (i : ℕ) (P : ℕ → Type 0) (t′ m′ : List ℕ) : Type 0 where
-  pub long : length t′ ≡ length t
-  pub wide : length m′ ≡ length m
-  pub other : (x j : ℕ) → j < 4 → j ≢ i → link t′ j x ≡ link t j x
-  pub new : (x : ℕ) → P x → (link t′ i x ≡ link u i x) × Marked m′ x
-  pub old : (x : ℕ) → (P x → ⊥) → (link t′ i x ≡ link t i x) × (getD m′ x 0 ≡ getD m x 0)
-
--- and x
-abbrev pub With : (ℕ → Type 0) → ℕ → ℕ → Type 0
-With P x z = P z ⊎ (z ≡ x)
 
 -- x is a slot with a mark
 pub record Fit (t m : List ℕ) (i x : ℕ) : Type 0 where

@@ -2,6 +2,9 @@
 // definition of the call.
 use answers::Answer;
 use answers::numbers;
+use reading::LARGE;
+use reading::MIDDLE;
+use reading::SMALL;
 ghost use mathlib.Core.Path.{_≡_};
 ghost use mathlib.Core.List.{[]};
 ghost use Prim.Native.Nat.{ℕ, _+_, _*_, _≤_};
@@ -74,6 +77,59 @@ fn sew_in(
     }
 }
 
+// sew on a larger table, where the checks up to 10 have passed. As it calls itself it has a stack frame of its own, which small tables
+// and refusals do not pay for; the table fits, so it never does.
+fn sew_large(
+    n: u32,
+    table: &mut [u32],
+    journal: &mut [u32],
+    tag: u32,
+    i: u32,
+    d: u32,
+    e: u32,
+) -> Answer
+    requires { ⌜ inOrder (sidesChecks n (now table) (now journal) i d e) ≡ pass ⌝ }
+    ensures { λ r. ⌜ outcome r (now (table .exit)) [] (now (journal .exit))
+        ≡ sewCall n (now (table .entry)) (now (journal .entry)) tag i d e ⌝ }
+{
+    if !reading::table_fits(table) {
+        sew_large(n, table, journal, tag, i, d, e);
+        return numbers::WRONG_TABLE_LENGTH;
+    }
+    if table.len() <= 4 * MIDDLE {
+        let mut marks = [0u8; MIDDLE];
+        let mut xs = [0u16; MIDDLE / 2];
+        let mut ys = [0u16; MIDDLE / 2];
+        return sew_in(
+            n,
+            table,
+            journal,
+            tag,
+            i,
+            d,
+            e,
+            &mut marks,
+            &mut xs,
+            &mut ys,
+        );
+    }
+    let mut marks = [0u8; LARGE];
+    let mut xs = [0u16; LARGE / 2];
+    let mut ys = [0u16; LARGE / 2];
+    sew_in(
+        n,
+        table,
+        journal,
+        tag,
+        i,
+        d,
+        e,
+        &mut marks,
+        &mut xs,
+        &mut ys,
+    )
+}
+
 // "Count: entries changed." A small table does not pay for clearing large buffers.
 pub fn sew(
     n: u32,
@@ -100,10 +156,10 @@ pub fn sew(
     if !(reading::is_free(table, i, d) & reading::is_free(table, i, e)) {
         return numbers::NOT_FREE;
     }
-    if table.len() <= 8192 {
-        let mut marks = [0u8; 2048];
-        let mut xs = [0u16; 1024];
-        let mut ys = [0u16; 1024];
+    if table.len() <= 4 * SMALL {
+        let mut marks = [0u8; SMALL];
+        let mut xs = [0u16; SMALL / 2];
+        let mut ys = [0u16; SMALL / 2];
         return sew_in(
             n,
             table,
@@ -117,36 +173,5 @@ pub fn sew(
             &mut ys,
         );
     }
-    if table.len() <= 65536 {
-        let mut marks = [0u8; 16384];
-        let mut xs = [0u16; 8192];
-        let mut ys = [0u16; 8192];
-        return sew_in(
-            n,
-            table,
-            journal,
-            tag,
-            i,
-            d,
-            e,
-            &mut marks,
-            &mut xs,
-            &mut ys,
-        );
-    }
-    let mut marks = [0u8; 65536];
-    let mut xs = [0u16; 32768];
-    let mut ys = [0u16; 32768];
-    sew_in(
-        n,
-        table,
-        journal,
-        tag,
-        i,
-        d,
-        e,
-        &mut marks,
-        &mut xs,
-        &mut ys,
-    )
+    sew_large(n, table, journal, tag, i, d, e)
 }

@@ -1,47 +1,46 @@
 // What a line gives: the value behind its key, if the line fits.
 ghost use mathlib.Core.Path.{_≡_};
-ghost use Prim.Native.Nat.{ℕ};
+ghost use mathlib.Core.List.{[]};
+ghost use Prim.Native.Nat.{ℕ, _<_, _≤_};
+ghost use lib.ListN.{getD};
 ghost use Rattle.model.specs.Calls.{Outcome};
 ghost use Rattle.model.specs.Text.{number, upTo};
+ghost use Rattle.model.specs.Meaning.Worked.{equal};
 ghost use Rattle.model.specs.Session.{names, placeFrom, behind, reads};
 ghost use Rattle.texts.specs.Texts.{givenBy};
 ghost use Rattle.lines.specs.Held.{dueAt};
+ghost use Rattle.lines.specs.Names.{nameStart};
 use crate::Key;
 use texts::Given;
+
+// Where the k-th of the calls' names begins, in all of them one behind the other.
+fn name_start(k: usize) -> usize
+    requires { ⌜ k ≤ 10 ⌝ }
+    ensures { λ r. ⌜ r ≡ nameStart k ⌝ }
+{
+    let starts: [usize; 11] = [0, 5, 10, 15, 18, 21, 26, 32, 37, 41, 45];
+    starts[k]
+}
+
+// Whether the text is the k-th of the calls' names.
+fn is_name(k: usize, text: &[u8]) -> bool
+    requires { ⌜ k < 10 ⌝ }
+    ensures { λ r. ⌜ r ≡ equal (getD names k []) (now (text .entry)) ⌝ }
+{
+    let names = b"checkorbitsheetaddsewunsewremovesplitundoredo";
+    let from = name_start(k);
+    let to = name_start(k + 1);
+    texts::same(&names[from..to], text)
+}
 
 // The place of an op among the names of the calls.
 fn op_named(text: &[u8]) -> Given
     ensures { λ r. ⌜ givenBy r ≡ placeFrom 0 names (now (text .entry)) ⌝ }
 {
-    if texts::same(b"check", text) {
-        return Given::Value(0);
-    }
-    if texts::same(b"orbit", text) {
-        return Given::Value(1);
-    }
-    if texts::same(b"sheet", text) {
-        return Given::Value(2);
-    }
-    if texts::same(b"add", text) {
-        return Given::Value(3);
-    }
-    if texts::same(b"sew", text) {
-        return Given::Value(4);
-    }
-    if texts::same(b"unsew", text) {
-        return Given::Value(5);
-    }
-    if texts::same(b"remove", text) {
-        return Given::Value(6);
-    }
-    if texts::same(b"split", text) {
-        return Given::Value(7);
-    }
-    if texts::same(b"undo", text) {
-        return Given::Value(8);
-    }
-    if texts::same(b"redo", text) {
-        return Given::Value(9);
+    for k in 0..10 {
+        if is_name(k, text) {
+            return Given::Value(k as u32);
+        }
     }
     Given::Unfit
 }

@@ -1,12 +1,11 @@
 -- `call_sew::join` meets its contract. The loop's invariant: the first k pairs are linked and marked.
 use Prim.Native.Nat.{ℕ, _-_, _≤_}
-use mathlib.Core.Path.{_≡_, sym, _∙_}
+use mathlib.Core.Path.{_≡_}
 use native.Mathlib.Omega.{arith}
-use lib.ListN.{length}
 use borrow.Author.Needs.{needs}
 use Rattle.model.specs.Sew.{sewTable}
-use Rattle.call_sew.specs.Joins.{Part, Joining}
-use Rattle.call_sew.proofs.Parts.{Among, part-none, part-pair, part-all, x-below, y-below, relink-fits, first-relinked}
+use Rattle.call_sew.specs.Joins.{Joining}
+use Rattle.call_sew.proofs.Parts.{Part, Among, part-none, part-pair, part-all, x-below, y-below, relink-fits, first-relinked}
 use Rattle.call_sew.proofs.join.Statement.{statement}
 use Rattle.call_sew.proofs.join.Tie as tie
 

@@ -1,16 +1,111 @@
+-- `call_sew::sew_in` meets its contract: both sides listed in step, or refused by 12; 15 by the number of changes; the sides joined and
+-- the record drafted and closed.
+use native.Mathlib.Omega.{arith}
 use borrow.Author.Needs.{needs}
+use borrow.Author.Tests.{not-true, not-false}
+use Prim.Native.Nat.{_*_}
+use mathlib.Core.Path.{refl}
+use mathlib.Core.Bool.{true}
+use Rattle.model.specs.Sew.{sewTable}
+use Rattle.model.specs.Meaning.Numbers.{JournalRule}
+use Rattle.model.proofs.Calls.Pass.{SidesPassed, sides-passed}
+use Rattle.journal.specs.Passes.{Room, Drafted}
+use Rattle.journal.proofs.Commits.{fits-room}
+use Rattle.journal.proofs.Carrying.{draft-closes}
+use Rattle.answers.proofs.Commits.{commit-full, commit-done}
+use Rattle.sides.specs.Marked.{Turning}
+use Rattle.call_sew.specs.Joins.{Joining, Joined}
+use Rattle.call_sew.proofs.Ends.{sew-unpaired, sew-goes, journal-rule, sides-apart, size-few, step-paired, changes-number}
+use Rattle.call_sew.proofs.Ends.{joining, sewn-turning, sewn-drafted}
 use Rattle.call_sew.proofs.sew_in.Statement.{statement}
 use Rattle.call_sew.proofs.sew_in.Tie as tie
-use Rattle.call_sew.proofs.sew_in.Reads as reads
-use Rattle.call_sew.proofs.sew_in.Lts as lts
-use Rattle.call_sew.proofs.join.Reads as join-reads
-use Rattle.journal.proofs.close_record.Reads as close-record-reads
-use Rattle.journal.proofs.record_fits.Reads as record-fits-reads
-use Rattle.sides.proofs.write_marked.Reads as write-marked-reads
-use Rattle.sides.proofs.in_step.Reads as in-step-reads
+
+-- ---- places in the code
+
+-- the function's entry, from where the sides are walked
+abbrev start : tie.After-in-step → tie.Start
+start s = s .before .before .before .before .before .before .before .before .before
+
+abbrev stepped : tie.After-slice-known7 → tie.After-in-step
+stepped c = c .before .before .before .before
+
+-- where they are paired, from where the record fits
+abbrev paired : tie.Else2 → tie.Else1
+paired c = c .before .before .before
+
+-- where the record fits, from where the sides are joined
+abbrev fitting : tie.After-join → tie.Else2
+fitting c = c .before .before .before .before .before
+
+-- where they are joined, from where the record is drafted
+abbrev joined : tie.After-write-marked → tie.After-join
+joined c = c .before .before .before .before .before .before .before .before
+
+-- ---- what is known there
+
+passed : (c : tie.Start) → let a = c .args in SidesPassed (a .n) (a .table .now) (a .i) (a .d) (a .e)
+passed c = sides-passed _ _ _ _ _ _ (c .pre .0)
+
+rule : (c : tie.Start) → JournalRule (c .args .journal .now)
+rule c = journal-rule _ _ _ _ _ _ (c .pre .0)
+
+room : (c : tie.Else2) →
+    let a = start (stepped (paired c .before)) .args in
+    Room (a .table .now) (sewTable (a .n) (a .table .now) (a .i) (a .d) (a .e)) (a .journal .now)
+room c =
+    let p = paired c in
+    let s = stepped (p .before) in
+    fits-room _ _ _ _ (changes-number (passed (start s)) (s .in-step .ensures) (p .if1 .left)) _
+    (c .before .record-fits .ensures) (not-false _ (c .if2 .left))
+
+joins : (c : tie.Else2) →
+    let s = stepped (paired c .before) in
+    let a = start s .args in
+    Joining (a .n) (a .table .now) (a .marks .now) (a .i) (a .d) (a .e)
+    (s .in-step .last .1 .1 .1 .1 .1 .0) (s .in-step .last .1 .1 .1 .1 .1 .1 .0) (s .in-step .result)
+joins c =
+    let p = paired c in
+    let s = stepped (p .before) in
+    let pre = start s .pre .1 in
+    let long = s .in-step .kept .1 .1 .1 .1 .1 .0 in
+    let wide = s .in-step .kept .1 .1 .1 .1 .1 .1 .0 in
+    let left = pre .1 .0 in
+    let right = pre .1 .1 in
+    joining (passed (start s)) (s .in-step .ensures) (p .if1 .left) (pre .0 .0) (pre .0 .1) (omega arith) (omega arith)
+
+sewn : (c : tie.After-join) →
+    let a = start (stepped (paired (fitting c) .before)) .args in
+    Joined (a .n) (a .table .now) (a .i) (a .d) (a .e) (c .join .last .0) (c .join .last .1 .0)
+sewn c = c .join .ensures _ _ _ (joins (fitting c))
+
+turning : (c : tie.After-join) →
+    let a = start (stepped (paired (fitting c) .before)) .args in
+    Turning true (c .join .last .0) (a .table .now) (c .join .last .1 .0) (a .i) (a .journal .now)
+turning c =
+    let f = fitting c in
+    let p = paired f in
+    let s = stepped (p .before) in
+    sewn-turning (passed (start s)) (s .in-step .ensures) (p .if1 .left) (sewn c) (rule (start s)) (room f)
+
+drafts : (c : tie.After-write-marked) →
+    let s = stepped (paired (fitting (joined c)) .before) in
+    let a = start s .args in
+    Drafted (a .table .now) (sewTable (a .n) (a .table .now) (a .i) (a .d) (a .e)) (a .journal .now) (2 * s .in-step .result)
+    (c .write-marked .last .1 .0)
+drafts c =
+    let j = joined c in
+    let f = fitting j in
+    let p = paired f in
+    let s = stepped (p .before) in
+    sewn-drafted (passed (start s)) (s .in-step .ensures) (p .if1 .left) (sewn j) (rule (start s)) (room f)
+    (c .write-marked .ensures _ (turning j))
+
+-- ---- the needs
 
 in-step-requires : tie.Need-in-step-requires
-in-step-requires c κs = ?
+in-step-requires c κs =
+    let s = c .before .before .before .before .before .before .before .before in
+    sides-apart (passed s) (s .pre .1 .1 .0) (s .pre .1 .1 .1)
 
 same-length : tie.Need-same-length
 same-length c = search needs
@@ -22,13 +117,23 @@ same-length-3 : tie.Need-same-length-3
 same-length-3 c = search needs
 
 returns : tie.Need-returns
-returns c = ?
+returns c =
+    let s = stepped (c .before) in
+    sew-unpaired _ _ _ _ _ _ _ (start s .pre .0) (s .in-step .ensures .differs (c .if1 .taken))
 
 mul-changes : tie.Need-mul-changes
-mul-changes c = ?
+mul-changes c =
+    let s = stepped (c .before) in
+    let few = size-few (passed (start s)) (s .in-step .ensures) in
+    omega arith
 
 record-fits-requires : tie.Need-record-fits-requires
-record-fits-requires c κs = ?
+record-fits-requires c κs =
+    let r = rule (start (stepped (c .before .before))) in
+    let long = r .long in
+    let ends = r .ends in
+    let within = r .within in
+    (omega arith, omega arith)
 
 same-length-4 : tie.Need-same-length-4
 same-length-4 c = search needs
@@ -43,16 +148,21 @@ same-length-7 : tie.Need-same-length-7
 same-length-7 c = search needs
 
 returns-2 : tie.Need-returns-2
-returns-2 c = ?
+returns-2 c =
+    let p = c .before .before .before in
+    let s = stepped (p .before) in
+    let step = s .in-step .ensures in
+    commit-full _ _ _ _ _ _ _ (sew-goes _ _ _ _ _ _ _ (start s .pre .0) (step-paired (passed (start s)) step (p .if1 .left)))
+    (changes-number (passed (start s)) step (p .if1 .left)) (c .before .record-fits .ensures) (not-true _ (c .if2 .taken))
 
 join-requires : tie.Need-join-requires
-join-requires c κs = ?
+join-requires c κs = record { n = _; d = _; e = _; is = joins (c .before .before .before .before) }
 
 write-marked-requires : tie.Need-write-marked-requires
-write-marked-requires c κs = ?
+write-marked-requires c κs = record { v = _; is = turning (c .before .before .before .before .before .before .before) }
 
 close-record-requires : tie.Need-close-record-requires
-close-record-requires c κs = ?
+close-record-requires c κs = draft-closes (drafts (c .before .before .before))
 
 same-length-8 : tie.Need-same-length-8
 same-length-8 c = search needs
@@ -70,7 +180,18 @@ same-length-12 : tie.Need-same-length-12
 same-length-12 c = search needs
 
 returns-3 : tie.Need-returns-3
-returns-3 c = ?
+returns-3 c =
+    let closed = c .before .before in
+    let w = closed .before .before .before .before in
+    let f = fitting (joined w) in
+    let p = paired f in
+    let s = stepped (p .before) in
+    let step = s .in-step .ensures in
+    let count = changes-number (passed (start s)) step (p .if1 .left) in
+    let D = drafts w in
+    commit-done _ _ _ _ _ _ _ (sew-goes _ _ _ _ _ _ _ (start s .pre .0) (step-paired (passed (start s)) step (p .if1 .left)))
+    count (f .before .record-fits .ensures) (not-false _ (f .if2 .left))
+    (sewn (joined w) .table, closed .close-record .ensures _ _ (D .draft) (D .count)) refl count
 
 pub sew-in-spec : {M : Type 1} → statement M
 sew-in-spec =

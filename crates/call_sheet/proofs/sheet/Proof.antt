@@ -1,13 +1,13 @@
--- `call_sheet::sheet` meets its contract: its opening, and behind it `sheet_in`.
+-- `call_sheet::sheet` meets its contract: its opening, and behind it `sheet_in` or `sheet_large`.
+use mathlib.Core.Path.{_≡_}
 use mathlib.Core.List.{List}
 use borrow.Author.Needs.{needs}
-use Rattle.model.specs.Checks.{Check, sheetChecks, mapChecks}
-use Rattle.answers.proofs.Ladder.{Rung, all-passed}
+use Rattle.model.specs.Checks.{Check, pass, inOrder, sheetChecks, mapChecks}
 use Rattle.answers.proofs.Verdicts.{marks-test}
-use Rattle.answers.proofs.Settled.{Opening, opened, handed-on}
+use Rattle.answers.proofs.Settled.{Opening, handed-on}
 use Rattle.answers.proofs.Opened.{opened-sheet}
-use Rattle.answers.proofs.Given.{room-small, room-given}
-use Rattle.call_sheet.proofs.Ends.{sheet-refused}
+use Rattle.answers.proofs.Given.{room-small}
+use Rattle.call_sheet.proofs.Ends.{sheet-refused, sheet-table}
 use Rattle.call_sheet.proofs.sheet.Statement.{statement}
 use Rattle.call_sheet.proofs.sheet.Tie as tie
 
@@ -22,9 +22,9 @@ opening c = record {
   settles = opened-sheet _ _ _ _ (marks-test _ _) _ (c .before .opening-layer .ensures);
 }
 
-abbrev block : tie.Else1 → Rung checks 9
+passed : (c : tie.Else1) → inOrder (checks (c .before .before .before .before .before)) ≡ pass
 unfolding sheetChecks mapChecks
-block c = opened (opening (c .before)) (c .if1 .left)
+passed c = opening (c .before) .settles .passes (c .if1 .left)
 
 opening-layer-requires : tie.Need-opening-layer-requires
 opening-layer-requires c κs = search needs
@@ -35,15 +35,18 @@ returns c = handed-on (opening (c .before)) (c .if1 .taken) (sheet-refused _ _ _
 
 -- ---- behind the checks
 
+mul-if2 : tie.Need-mul-if2
+mul-if2 c = search needs
+
 slice-aggregate-sheet-in : tie.Need-slice-aggregate-sheet-in
 slice-aggregate-sheet-in c = search needs
 
 sheet-in-requires : tie.Need-sheet-in-requires
-unfolding sheetChecks mapChecks
 sheet-in-requires c κs =
     let small = c .before .before in
-    let p = block (small .before) .passed in
-    (all-passed _ p, room-small 8192 _ (search) (small .if2 .taken))
+    let h = passed (small .before) in
+    let room = room-small 2048 _ (sheet-table _ _ _ _ h) (small .if2 .taken) in
+    (h, search needs)
 
 same-length : tie.Need-same-length
 same-length c = search needs
@@ -51,14 +54,8 @@ same-length c = search needs
 returns-2 : tie.Need-returns-2
 returns-2 c = search needs
 
-slice-aggregate-sheet-in-2 : tie.Need-slice-aggregate-sheet-in-2
-slice-aggregate-sheet-in-2 c = search needs
-
-sheet-in-requires-2 : tie.Need-sheet-in-requires-2
-unfolding sheetChecks mapChecks
-sheet-in-requires-2 c κs =
-    let p = block (c .before .before .before) .passed in
-    (all-passed _ p, room-given _ (search))
+sheet-large-requires : tie.Need-sheet-large-requires
+sheet-large-requires c κs = passed (c .before .before)
 
 same-length-2 : tie.Need-same-length-2
 same-length-2 c = search needs
@@ -72,11 +69,11 @@ sheet-spec =
     (tie.spec
     opening-layer-requires
     returns
+    mul-if2
     slice-aggregate-sheet-in
     sheet-in-requires
     same-length
     returns-2
-    slice-aggregate-sheet-in-2
-    sheet-in-requires-2
+    sheet-large-requires
     same-length-2
     returns-3)

@@ -1,18 +1,14 @@
--- `call_sheet::sheet_in` meets its contract, by `reach::sheet`.
+-- `call_sheet::sheet_in` meets its contract, by `sheets::sheet`.
 use borrow.Author.Needs.{needs}
-use Rattle.model.specs.Checks.{sheetChecks, mapChecks}
-use Rattle.answers.proofs.Ladder.{passed-all}
-use Rattle.answers.proofs.Given.{rules-given, flood-given}
-use Rattle.call_sheet.proofs.Ends.{sheet-accepted}
+use Rattle.call_sheet.proofs.Ends.{sheet-given, sheet-accepted}
 use Rattle.call_sheet.proofs.sheet_in.Statement.{statement}
 use Rattle.call_sheet.proofs.sheet_in.Tie as tie
 
 sheet-requires : tie.Need-sheet-requires
-unfolding sheetChecks mapChecks
 sheet-requires c κs =
-    let given = c .before .before .before .before .before .pre in
-    let p = passed-all _ (given .0) in
-    flood-given _ _ _ _ _ (search) (search) (search) (rules-given _ _ (p .1 .1 .1)) (search) (given .1)
+    let (passed, room) = c .before .before .before .before .before .pre in
+    let (dart, long) = sheet-given _ _ _ _ passed in
+    (dart, long, room)
 
 same-length : tie.Need-same-length
 same-length c = search needs

@@ -1,9 +1,7 @@
 -- `sides::marked::write_turn` meets its contract.
-use Prim.Native.Nat.{_≤_}
-use mathlib.Core.Path.{sym}
 use native.Mathlib.Omega.{arith}
 use borrow.Author.Needs.{needs}
-use Rattle.sides.proofs.MarkedPass.{slots-before, marked-one, turn-stays, turn-more, turn-word, turn-length}
+use Rattle.sides.proofs.MarkedPass.{marked-one, turn-stays, turn-more, turn-word, turn-length}
 use Rattle.sides.proofs.marked.write_turn.Statement.{statement}
 use Rattle.sides.proofs.marked.write_turn.Tie as tie
 

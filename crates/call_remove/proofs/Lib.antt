@@ -1,0 +1,4 @@
+pub mod Hops
+pub mod Counting
+pub mod Clearings
+pub mod Ends
