@@ -2,14 +2,18 @@
 // model's definition of the call.
 use answers::Answer;
 use answers::numbers;
+use reading::LARGE;
+use reading::MIDDLE;
+use reading::SMALL;
 ghost use mathlib.Core.Path.{_≡_};
 ghost use mathlib.Core.Bool.{true};
 ghost use mathlib.Core.List.{[]};
-ghost use Prim.Native.Nat.{_<_};
-ghost use lib.ListN.{length, replicate};
+ghost use Prim.Native.Nat.{ℕ, _<_};
+ghost use lib.ListN.{length};
 ghost use Rattle.model.specs.Table.{live};
 ghost use Rattle.model.specs.Checks.{pass, inOrder, unsewChecks};
 ghost use Rattle.model.specs.Calls.{unsewCall};
+ghost use Rattle.model.specs.Meaning.Sets.{Marked};
 ghost use Rattle.model.specs.Meaning.Pairings.{OnSide};
 ghost use Rattle.sides.specs.Turns.{Linked};
 ghost use Rattle.answers.specs.Answers.{outcome};
@@ -60,7 +64,7 @@ fn mark_side(n: u32, table: &[u32], marks: &mut [u8], i: u32, d: u32) -> u32
     }
 }
 
-// unsew, where its checks have passed, with a mark 0 for each slot: one entry changes for each dart that is marked.
+// unsew, where its checks have passed, with marks for the slots, of which none is set: one entry changes for each dart that is marked.
 fn unsew_in(
     n: u32,
     table: &mut [u32],
@@ -71,7 +75,7 @@ fn unsew_in(
     marks: &mut [u8],
 ) -> Answer
     requires { ⌜ inOrder (unsewChecks n (now table) (now journal) i d) ≡ pass ⌝ }
-    requires { ⌜ (now marks ≡ replicate (length (now marks)) 0) × (Wide (now table) (now marks)) ⌝ }
+    requires { ⌜ ((x : ℕ) → Marked (now marks) x → ⊥) × (Wide (now table) (now marks)) ⌝ }
     ensures { λ r. ⌜ outcome r (now (table .exit)) [] (now (journal .exit))
         ≡ unsewCall n (now (table .entry)) (now (journal .entry)) tag i d ⌝ }
 {
@@ -88,6 +92,25 @@ fn unsew_in(
     }
 }
 
+// unsew on a larger table, where its checks have passed. As it calls itself it has a stack frame of its own, which small tables and
+// refusals do not pay for; the table fits, so it never does.
+fn unsew_large(n: u32, table: &mut [u32], journal: &mut [u32], tag: u32, i: u32, d: u32) -> Answer
+    requires { ⌜ inOrder (unsewChecks n (now table) (now journal) i d) ≡ pass ⌝ }
+    ensures { λ r. ⌜ outcome r (now (table .exit)) [] (now (journal .exit))
+        ≡ unsewCall n (now (table .entry)) (now (journal .entry)) tag i d ⌝ }
+{
+    if !reading::table_fits(table) {
+        unsew_large(n, table, journal, tag, i, d);
+        return numbers::WRONG_TABLE_LENGTH;
+    }
+    if table.len() <= 4 * MIDDLE {
+        let mut marks = [0u8; MIDDLE];
+        return unsew_in(n, table, journal, tag, i, d, &mut marks);
+    }
+    let mut marks = [0u8; LARGE];
+    unsew_in(n, table, journal, tag, i, d, &mut marks)
+}
+
 // "Count: entries changed." A small table does not pay for clearing large buffers.
 pub fn unsew(n: u32, table: &mut [u32], journal: &mut [u32], tag: u32, i: u32, d: u32) -> Answer
     ensures { λ r. ⌜ outcome r (now (table .exit)) [] (now (journal .exit))
@@ -100,14 +123,9 @@ pub fn unsew(n: u32, table: &mut [u32], journal: &mut [u32], tag: u32, i: u32, d
     if reading::is_free(table, i, d) {
         return numbers::FREE;
     }
-    if table.len() <= 8192 {
-        let mut marks = [0u8; 2048];
+    if table.len() <= 4 * SMALL {
+        let mut marks = [0u8; SMALL];
         return unsew_in(n, table, journal, tag, i, d, &mut marks);
     }
-    if table.len() <= 65536 {
-        let mut marks = [0u8; 16384];
-        return unsew_in(n, table, journal, tag, i, d, &mut marks);
-    }
-    let mut marks = [0u8; 65536];
-    unsew_in(n, table, journal, tag, i, d, &mut marks)
+    unsew_large(n, table, journal, tag, i, d)
 }
