@@ -2,44 +2,69 @@
 // model's definition of the call.
 use answers::Answer;
 use answers::numbers;
+use reading::LARGE;
+use reading::MIDDLE;
+use reading::SMALL;
 ghost use mathlib.Core.Path.{_≡_};
-ghost use mathlib.Core.Bool.{true, false};
+ghost use mathlib.Core.Bool.{true};
 ghost use mathlib.Core.List.{[]};
-ghost use Prim.Native.Nat.{_*_, _≤_, _<_};
+ghost use Prim.Native.Nat.{ℕ, _<_};
 ghost use lib.ListN.{length};
-ghost use Rattle.model.specs.Table.{slots, link};
-ghost use Rattle.model.specs.Reach.{inSet};
+ghost use Rattle.model.specs.Table.{live};
 ghost use Rattle.model.specs.Checks.{pass, inOrder, unsewChecks};
 ghost use Rattle.model.specs.Calls.{unsewCall};
+ghost use Rattle.model.specs.Meaning.Sets.{Marked};
+ghost use Rattle.model.specs.Meaning.Pairings.{OnSide};
+ghost use Rattle.sides.specs.Turns.{Linked};
 ghost use Rattle.answers.specs.Answers.{outcome};
-ghost use Rattle.call_unsew.specs.Partners.{Words, Partnered};
+ghost use Rattle.call_unsew.specs.Marking.{Marking, Couple, Unsewn, Wide};
 
-// How many entries change: two for each dart of d's side, or one, where d's partner is in d's own side.
-fn count_changes(table: &[u32], marks: &[u8], i: u32, d: u32, size: u32) -> u32
-    requires { ⌜ (i < 4) × (link (now table) i d < length (now marks)) × (size ≤ 65536) ⌝ }
-    ensures { λ r. ⌜ r ≡ elim (inSet (now (marks .entry)) (link (now (table .entry)) i d)) [ true ↦ size | false ↦ 2 * size ] ⌝ }
+// The dart x gets the mark 1; 0 if it has it already, else 1.
+fn mark(marks: &mut [u8], x: u32) -> u32
+    requires { ⌜ x < length (now marks) ⌝ }
+    ensures { λ r. ⌜ Marking (λ z. z ≡ x) (now (marks .entry)) (now (marks .exit)) r ⌝ }
 {
-    let partner = reading::link(table, i as usize, d);
-    if marks[partner as usize] == 1 {
-        size
-    } else {
-        2 * size
+    if marks[x as usize] == 1 {
+        return 0;
+    }
+    marks[x as usize] = 1;
+    1
+}
+
+// The dart x and its partner get the mark 1; how many of them have it not yet.
+fn mark_couple(table: &[u32], marks: &mut [u8], i: u32, x: u32) -> u32
+    requires { ⌜ (Linked (now table)) × (i < 4) × (live (now table) x ≡ true) × (Wide (now table) (now marks)) ⌝ }
+    ensures { λ r. ⌜ Marking (Couple (now (table .entry)) i x) (now (marks .entry)) (now (marks .exit)) r ⌝ }
+{
+    let y = reading::link_in(table, i as usize, x);
+    let own = mark(marks, x);
+    let other = mark(marks, y);
+    own + other
+}
+
+// The darts of d's side and their partners get the mark 1; how many of them have it not yet. The side is walked by its links in turn:
+// the darts after each turn, and those on the way.
+fn mark_side(n: u32, table: &[u32], marks: &mut [u8], i: u32, d: u32) -> u32
+    requires { ⌜ (OnSide n (now table) i d) × (Wide (now table) (now marks)) ⌝ }
+    ensures { λ r. ⌜ Marking (Unsewn n (now (table .entry)) i d) (now (marks .entry)) (now (marks .exit)) r ⌝ }
+{
+    let links = sides::side_links(n, i);
+    let a = links.a;
+    let b = links.b;
+    let mut x = d;
+    let mut size = 0;
+    loop {
+        let p = reading::link_in(table, a as usize, x);
+        size += mark_couple(table, marks, i, x);
+        size += mark_couple(table, marks, i, p);
+        x = reading::link_in(table, b as usize, p);
+        if x == d {
+            return size;
+        }
     }
 }
 
-// The mark 1 on the partner of each of the first words.
-fn mark_partners(table: &[u32], marks: &mut [u8], words: &[u16], i: u32, size: u32)
-    requires { ⌜ Words (now table) (now marks) (now words) i size ⌝ }
-    ensures { λ _. ⌜ Partnered (now (table .entry)) (now (words .entry)) i size (now (marks .entry)) (now (marks .exit)) ⌝ }
-{
-    for k in 0..size {
-        let x = words[k as usize] as u32;
-        let y = reading::link_in(table, i as usize, x);
-        marks[y as usize] = 1;
-    }
-}
-
-// unsew, where its checks have passed, with a mark and a word of the queue for each slot.
+// unsew, where its checks have passed, with marks for the slots, of which none is set: one entry changes for each dart that is marked.
 fn unsew_in(
     n: u32,
     table: &mut [u32],
@@ -48,19 +73,16 @@ fn unsew_in(
     i: u32,
     d: u32,
     marks: &mut [u8],
-    queue: &mut [u16],
 ) -> Answer
     requires { ⌜ inOrder (unsewChecks n (now table) (now journal) i d) ≡ pass ⌝ }
-    requires { ⌜ (length (now marks) ≡ slots (now table)) × (slots (now table) ≤ length (now queue)) ⌝ }
+    requires { ⌜ ((x : ℕ) → Marked (now marks) x → ⊥) × (Wide (now table) (now marks)) ⌝ }
     ensures { λ r. ⌜ outcome r (now (table .exit)) [] (now (journal .exit))
         ≡ unsewCall n (now (table .entry)) (now (journal .entry)) tag i d ⌝ }
 {
-    let size = reach::side(n, table, marks, queue, i, d);
-    let changes = count_changes(table, marks, i, d, size);
+    let changes = mark_side(n, table, marks, i, d);
     if !journal::record_fits(journal, changes) {
         return numbers::NO_ROOM;
     }
-    mark_partners(table, marks, queue, i, size);
     sides::write_marked(table, journal, marks, i, false);
     journal::carry_out(table, journal, changes, tag);
     Answer {
@@ -68,6 +90,25 @@ fn unsew_in(
         place: 0,
         count: changes,
     }
+}
+
+// unsew on a larger table, where its checks have passed. As it calls itself it has a stack frame of its own, which small tables and
+// refusals do not pay for; the table fits, so it never does.
+fn unsew_large(n: u32, table: &mut [u32], journal: &mut [u32], tag: u32, i: u32, d: u32) -> Answer
+    requires { ⌜ inOrder (unsewChecks n (now table) (now journal) i d) ≡ pass ⌝ }
+    ensures { λ r. ⌜ outcome r (now (table .exit)) [] (now (journal .exit))
+        ≡ unsewCall n (now (table .entry)) (now (journal .entry)) tag i d ⌝ }
+{
+    if !reading::table_fits(table) {
+        unsew_large(n, table, journal, tag, i, d);
+        return numbers::WRONG_TABLE_LENGTH;
+    }
+    if table.len() <= 4 * MIDDLE {
+        let mut marks = [0u8; MIDDLE];
+        return unsew_in(n, table, journal, tag, i, d, &mut marks);
+    }
+    let mut marks = [0u8; LARGE];
+    unsew_in(n, table, journal, tag, i, d, &mut marks)
 }
 
 // "Count: entries changed." A small table does not pay for clearing large buffers.
@@ -82,18 +123,9 @@ pub fn unsew(n: u32, table: &mut [u32], journal: &mut [u32], tag: u32, i: u32, d
     if reading::is_free(table, i, d) {
         return numbers::FREE;
     }
-    let k = table.len() / 4;
-    if k <= 2048 {
-        let mut marks = [0u8; 2048];
-        let mut queue = [0u16; 2048];
-        return unsew_in(n, table, journal, tag, i, d, &mut marks[..k], &mut queue);
+    if table.len() <= 4 * SMALL {
+        let mut marks = [0u8; SMALL];
+        return unsew_in(n, table, journal, tag, i, d, &mut marks);
     }
-    if k <= 16384 {
-        let mut marks = [0u8; 16384];
-        let mut queue = [0u16; 16384];
-        return unsew_in(n, table, journal, tag, i, d, &mut marks[..k], &mut queue);
-    }
-    let mut marks = [0u8; 65536];
-    let mut queue = [0u16; 65536];
-    unsew_in(n, table, journal, tag, i, d, &mut marks[..k], &mut queue)
+    unsew_large(n, table, journal, tag, i, d)
 }

@@ -12,6 +12,7 @@ use Rattle.model.specs.Lists.{count}
 use Rattle.model.specs.Table.{slots, link}
 use Rattle.model.specs.Meaning.Sheets.{half}
 use Rattle.model.proofs.Lists.Scan.{if-eq, if-lt}
+use Rattle.model.proofs.Sets.Pigeon.{count-one}
 use Rattle.model.proofs.Maps.Tables.{live-below, rule-at}
 use Rattle.cells.specs.Listing.{Listing}
 use Rattle.sheets.specs.Spread.{sides, sideStart, Fresh, Firsts, Inner, Touched, Rest, Put, over, Waiting, Spread}
@@ -26,15 +27,6 @@ count-own y l e = rw (eq-eqb y 1 e, count)
 count-other : (y : ℕ) (l : List ℕ) → y ≢ 1 → count 1 (y ∷ l) ≡ count 1 l
 unfolding count
 count-other y l e = rw (ne-eqb y 1 e, count)
-
--- one more
-count-one : (m : List ℕ) (x : ℕ) → x < length m → getD m x 0 ≢ 1 → count 1 (set m x 1) ≡ suc (count 1 m)
-count-one [] x h e = absurd (omega arith)
-count-one (y ∷ m) zero h e = count-own 1 m refl ∙ ap suc (sym (count-other y m e))
-count-one (y ∷ m) (suc x) h e =
-    let rec = count-one m x (omega arith) e in
-    if-eq y 1 (λ q. count-own y (set m x 1) q ∙ ap suc rec ∙ ap suc (sym (count-own y m q)))
-    (λ q. count-other y (set m x 1) q ∙ rec ∙ ap suc (sym (count-other y m q)))
 
 -- as many
 count-same : (m : List ℕ) (x v : ℕ) → getD m x 0 ≢ 1 → v ≢ 1 → count 1 (set m x v) ≡ count 1 m

@@ -7,7 +7,6 @@ use mathlib.Core.Bool.{true}
 use mathlib.Core.List.{List, [], _∷_}
 use native.Mathlib.Omega.{arith}
 use lib.ListN.{length, getD, replicate, length-replicate}
-use borrow.Author.Tests.{eq-eqb, ne-eqb}
 use Rattle.model.specs.Lists.{count}
 use Rattle.model.specs.Table.{slots, link, live}
 use Rattle.model.specs.Cell.{cellSize}
@@ -18,7 +17,7 @@ use Rattle.model.specs.Meaning.Places.{place}
 use Rattle.model.specs.Meaning.Sheets.{BlockDart, InCells, half}
 use Rattle.model.proofs.Lists.Scan.{if-eq, if-lt}
 use Rattle.model.proofs.Lists.Ones.{ones-of, ones-in}
-use Rattle.model.proofs.Sets.Pigeon.{count-none}
+use Rattle.model.proofs.Sets.Pigeon.{count-none, count-most}
 use Rattle.model.proofs.Maps.Dim.{two-cases}
 use Rattle.model.proofs.Maps.Tables.{mapTable, live-below}
 use Rattle.model.proofs.Cells.Rows.{rows-in, path-zero}
@@ -87,13 +86,6 @@ unfolding half
 falls n dim = two-cases n dim (λ n. (size found r slots : ℕ) → 0 < size → r ≤ size - 1 + sides n → found + half n ≤ slots
     → r + (slots - (found + half n)) < size + (slots - found))
     (λ size found r slots a b c. omega arith) (λ size found r slots a b c. omega arith)
-
-count-most : (m : List ℕ) → count 1 m ≤ length m
-unfolding count
-count-most [] = omega arith
-count-most (y ∷ m) =
-    let rec = count-most m in
-    if-eq y 1 (λ e. rw (eq-eqb y 1 e, count) (omega arith)) (λ e. rw (ne-eqb y 1 e, count) (omega arith))
 
 -- darts without the mark 1 are not among those that have it
 fresh-few : {m cell : List ℕ} {k : ℕ} → Fresh m cell k → count 1 m + k ≤ length m

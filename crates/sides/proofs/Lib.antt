@@ -2,6 +2,7 @@ pub mod Entries
 pub mod Turning
 pub mod SideTurns
 pub mod SideTests
+pub mod Standing
 pub mod Seeking
 pub mod Going
 pub mod Mirrors

@@ -9,12 +9,12 @@ ghost use Rattle.model.specs.Meaning.Pairings.{OnSide};
 ghost use Rattle.sides.specs.Turns.{SideLinks, Same, Alike, Tests, EndTest, Parted, Walked, Mirrors, Mirrored, Apart, InStep};
 
 // The links of a side. Where there is one only, it stands twice; where there is none, n is 2, and link 3 leads from each dart to itself.
-struct Links {
-    a: u32,
-    b: u32,
+pub struct Links {
+    pub a: u32,
+    pub b: u32,
 }
 
-fn side_links(n: u32, i: u32) -> Links
+pub fn side_links(n: u32, i: u32) -> Links
     requires { ⌜ (Dim n) × (i ≤ n) ⌝ }
     ensures { λ r. ⌜ SideLinks n i (r .a) (r .b) ⌝ }
 {

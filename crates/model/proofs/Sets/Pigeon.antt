@@ -7,9 +7,9 @@ use mathlib.Core.List.{List, [], _∷_, _++_, List·Memᴰ as In, List·Memᴰ·
 use mathlib.Core.List.{List·Memᴰ·head as here, List·Memᴰ·tail as there, Memᴰ·cast as in-cast}
 use mathlib.Core.List.{Memᴰ·append-left as in-left, Memᴰ·append-right as in-right}
 use native.Mathlib.Omega.{arith}
-use lib.ListN.{length, set, length-set, length-append}
-use lib.Seq.{getD-set-same, getD-set-other}
-use borrow.Author.Tests.{ne-eqb}
+use lib.ListN.{length, getD, set, length-set, length-append}
+use lib.Seq.{getD-set-same, getD-set-other, set-getD, set-set}
+use borrow.Author.Tests.{eq-eqb, ne-eqb}
 use Rattle.model.specs.Lists.{count, tabulateFrom}
 use Rattle.model.specs.Meaning.Sets.{Marked}
 use Rattle.model.proofs.Lists.Scan.{if-eq, if-lt, count-change, count-le, length-tabFrom, tab-in, in-tab}
@@ -19,6 +19,19 @@ pub count-none : (m : List ℕ) → ((x : ℕ) → Marked m x → ⊥) → count
 unfolding count
 count-none [] h = refl
 count-none (y ∷ ys) h = rw (ne-eqb y 1 (h 0), count) (count-none ys (λ x. h (suc x)))
+
+pub count-most : (m : List ℕ) → count 1 m ≤ length m
+unfolding count
+count-most [] = omega arith
+count-most (y ∷ m) =
+    let rec = count-most m in
+    if-eq y 1 (λ e. rw (eq-eqb y 1 e, count) (omega arith)) (λ e. rw (ne-eqb y 1 e, count) (omega arith))
+
+-- ---- one mark more
+
+pub count-one : (m : List ℕ) (x : ℕ) → x < length m → getD m x 0 ≢ 1 → count 1 (set m x 1) ≡ suc (count 1 m)
+count-one m x low e = count-change 1 (getD m x 0) (set m x 1) x 0 (rw length-set low) (getD-set-same m x 1 0 low) e
+    ∙ ap (λ (r : List ℕ). suc (count 1 r)) (set-set m x 1 (getD m x 0) ∙ set-getD m x 0)
 
 -- ---- one mark taken away
 

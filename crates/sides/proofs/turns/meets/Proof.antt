@@ -8,7 +8,8 @@ use lib.Dec.{eqb}
 use Rattle.model.specs.Table.{slots, link}
 use Rattle.sides.proofs.Entries.{live-entry}
 use Rattle.sides.proofs.SideTurns.{side-start}
-use Rattle.sides.proofs.Seeking.{turnsTo, Seeking, seek-begins, seek-live, seek-found, seek-round, seek-on, seek-nearer}
+use Rattle.sides.proofs.Standing.{turnsTo, standing-live, standing-nearer}
+use Rattle.sides.proofs.Seeking.{Seeking, seek-begins, seek-found, seek-round, seek-on}
 use Rattle.sides.proofs.turns.meets.Statement.{statement}
 use Rattle.sides.proofs.turns.meets.Tie as tie
 
@@ -38,7 +39,7 @@ link-in-requires c κs =
     let on = entry c .pre in
     let links = c .before .side-links .ensures in
     let s = side-start on links in
-    live-entry (s .mapped .linked) (c .loop .x) _ (seek-live on links (c .loop .inv)) (s .first-low)
+    live-entry (s .mapped .linked) (c .loop .x) _ (standing-live s (c .loop .inv .at)) (s .first-low)
 
 returns : tie.Need-returns Inv-loop μ-loop
 returns c =
@@ -59,7 +60,7 @@ link-in-requires-2 c κs =
     let links = l .before .side-links .ensures in
     let s = side-start on links in
     rw (c .before .link-in .ensures)
-    (live-entry (s .mapped .linked) _ _ (s .mapped .linked .goes (l .loop .x) _ (seek-live on links (l .loop .inv)) (s .first-low))
+    (live-entry (s .mapped .linked) _ _ (s .mapped .linked .goes (l .loop .x) _ (standing-live s (l .loop .inv .at)) (s .first-low))
     (s .second-low))
 
 -- the turn: it leads from x to what was read, and passes e
@@ -91,8 +92,8 @@ loop-less : tie.Need-loop-less Inv-loop μ-loop
 loop-less c =
     let l = c .before .before .before .before in
     let h = turn (c .before) in
-    rw (h .to) (seek-nearer (entry l .pre) (l .before .side-links .ensures) (l .loop .inv) (h .past)
-    (λ z. c .if2 .left (h .to ∙ z)))
+    let s = side-start (entry l .pre) (l .before .side-links .ensures) in
+    rw (h .to) (standing-nearer s (l .loop .inv .at) (λ z. c .if2 .left (h .to ∙ z)))
 
 loop-again : tie.Need-loop-again Inv-loop μ-loop
 loop-again c =

@@ -1,0 +1,4 @@
+pub mod Marks
+pub mod Walking
+pub mod Freeing
+pub mod Ends
