@@ -4,8 +4,11 @@ use crate::Answer;
 // The rules of a map: "half-used slot or link to no live slot stays 5; a link that isn't returned; a distant pair that doesn't
 // commute; in 2D, a link 3 that leaves its dart".
 pub const LINK_NOT_LIVE: u32 = 5;
+
 pub const LINK_NOT_RETURNED: u32 = 24;
+
 pub const PAIR_NOT_RETURNING: u32 = 25;
+
 pub const LINK_3_NOT_FREE: u32 = 26;
 
 // "not a block map"
