@@ -17,7 +17,7 @@ use Rattle.model.specs.Meaning.Sets.{Bits, LeastSet, ByLink, Marked}
 use Rattle.model.proofs.Lists.Scan.{if-eq, if-lt, test, clash}
 use Rattle.model.proofs.Sets.Least.{least-set-unique, orbit-is}
 use Rattle.model.proofs.Maps.Dim.{two-cases}
-use Rattle.model.proofs.Maps.Rules.{live-in, map-of}
+use Rattle.model.proofs.Maps.Tables.{live-below, rule-at}
 use Rattle.reach.specs.Search.{Search, searchOf, meet, follow, followBelow, Found, Listed}
 use Rattle.reach.specs.Given.{Given, Linked, Room, Stepping}
 use Rattle.reach.proofs.Marks.{marked-found, found-marked, count-bits, alone, alone-own, alone-only, alone-bits, alone-count}
@@ -72,9 +72,9 @@ mask-index n mask i dim = two-cases n dim (λ n. mask < 2 ^ (n + 1) → i < 4 �
 module _ {n : ℕ} {t m q : List ℕ} {mask d : ℕ} (g : Given n t m q d) (bound : mask < 2 ^ (n + 1)) where
   pub linked : Linked t
   linked = record {
-    fits = g .fits;
-    few = g .few;
-    goes = λ x i l b. map-of n t (g .dim .1) (g .map) .rule x (live-in t x (g .fits) l) l .goes i b;
+    fits = g .table .whole;
+    few = g .table .few;
+    goes = λ x i l b. rule-at (g .table) x l .goes i b;
   }
 
   abbrev reached : List ℕ
@@ -86,13 +86,13 @@ module _ {n : ℕ} {t m q : List ℕ} {mask d : ℕ} (g : Given n t m q d) (boun
   reached-live : (x : ℕ) → Marked reached x → live t x ≡ true
   reached-live = least .within (λ x. live t x ≡ true) (λ x e _. rw e (g .start))
       (λ x y _ h s _.
-      let top = g .dim .1 in
+      let top = g .table .dim .1 in
       let low = s .allowed .0 in
       rw (s .leads) (linked .goes x (s .by) h (omega arith)))
 
   reached-on : (x i : ℕ) → Marked reached x → i < 4 → bit mask i ≡ true → Marked reached (link t i x)
   reached-on x i h low b = least .closed x (link t i x) h
-      (record { by = i; allowed = (mask-index n mask i (g .dim) bound low b, b); leads = refl })
+      (record { by = i; allowed = (mask-index n mask i (g .table .dim) bound low b, b); leads = refl })
       (link-in t linked x (reached-live x h) i low)
 
   abbrev State : Search → Type 0
@@ -101,13 +101,13 @@ module _ {n : ℕ} {t m q : List ℕ} {mask d : ℕ} (g : Given n t m q d) (boun
   -- ---- the beginning
 
   d-in : d < slots t
-  d-in = live-in t d (g .fits) (g .start)
+  d-in = live-below (g .table) d (g .start)
 
   -- what `begin` asks
   pub begin-asks : (d < length m) × (d < 65536) × (0 < length q)
   begin-asks =
       let inside = d-in in
-      let few = g .few in
+      let few = g .table .few in
       let room = g .room in
       (rw (g .long) d-in, omega arith, omega arith)
 
@@ -146,7 +146,7 @@ module _ {n : ℕ} {t m q : List ℕ} {mask d : ℕ} (g : Given n t m q d) (boun
     fits =
         let number = space .number in
         let room = space .room in
-        (omega arith, g .few, omega arith)
+        (omega arith, g .table .few, omega arith)
 
     -- what the steps of the dart at head ask
     pub steps-ask : (head : ℕ) → head < s .found → Stepping t (s .marks) (s .queue) (s .found) (getD (s .queue) head 0)
@@ -161,7 +161,7 @@ module _ {n : ℕ} {t m q : List ℕ} {mask d : ℕ} (g : Given n t m q d) (boun
     meets y h = if-eq (getD (s .marks) y 0) 0 (λ e. rw (meet-new y s e) (new e)) (λ e. rw (meet-old y s e) f)
       where
         b : y < slots t
-        b = live-in t y (g .fits) (reached-live y h)
+        b = live-below (g .table) y (reached-live y h)
 
         l : y < length (s .marks)
         l = rw (f .long) b
@@ -228,7 +228,7 @@ module _ {n : ℕ} {t m q : List ℕ} {mask d : ℕ} (g : Given n t m q d) (boun
         bits = f .bits;
         holds = λ x e _. rw e (found-marked (s .marks) d (f .bits) (f .own));
         closed = λ x y p st _.
-            let top = g .dim .1 in
+            let top = g .table .dim .1 in
             let low = st .allowed .0 in
             rw (st .leads) (found-marked (s .marks) _ (f .bits)
             (closed x (st .by) (marked-found (s .marks) x p) (omega arith) (st .allowed .1)));

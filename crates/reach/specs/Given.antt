@@ -6,15 +6,11 @@ use mathlib.Core.List.{List}
 use lib.ListN.{length, getD}
 use Rattle.model.specs.Lists.{count}
 use Rattle.model.specs.Table.{slots, link, live}
-use Rattle.model.specs.Map.{isMap}
-use Rattle.model.specs.Meaning.Maps.{Dim}
+use Rattle.model.specs.Meaning.Maps.{MapTable}
 
 -- what 01's checks say of the table, the marks and the dart; and the queue has a word for each slot
 pub record Given (n : ℕ) (t m q : List ℕ) (d : ℕ) : Type 0 where
-  pub dim : Dim n
-  pub fits : length t ≡ 4 * slots t
-  pub few : slots t ≤ 65536
-  pub map : isMap n t ≡ true
+  pub table : MapTable n t
   pub long : length m ≡ slots t
   pub room : slots t ≤ length q
   pub start : live t d ≡ true
