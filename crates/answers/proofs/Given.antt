@@ -1,5 +1,5 @@
 -- What the passed checks say, as the crates below ask it: `rules-given` and `map-given` for the block test, `marks-given` for the
--- marks, `flood-given` for orbit, `room-given` and `room-small` for a lent buffer, `told-given` for the unused slots.
+-- marks, `room-given` and `room-small` for a lent buffer, `told-given` for the unused slots.
 use Prim.Native.Nat.{ℕ, _*_, _≤_}
 use mathlib.Core.Path.{_≡_}
 use mathlib.Core.Bool.{true}
@@ -14,7 +14,6 @@ use Rattle.model.specs.Meaning.Maps.{MapTable}
 use Rattle.model.proofs.Maps.Tables.{live-below, rule-at}
 use Rattle.model.proofs.Calls.Pass.{must-pass, dim-pass, table-pass, RulesPass, rules-pass, map-pass, dart-pass}
 use Rattle.reading.specs.Lowest.{Told}
-use Rattle.reach.specs.Given.{Given}
 
 -- the checks of a map pass, before others
 pub rules-given : (n : ℕ) (t : List ℕ) {Others : Type 0}
@@ -35,20 +34,6 @@ room-given t table = table-pass t table .1
 
 pub room-small : (k : ℕ) (t : List ℕ) → tableOk t ≡ pass → length t ≤ 4 * k → slots t ≤ k
 room-small k t table small = let sized = table-pass t table in omega arith
-
-pub flood-given : (n : ℕ) (t m q : List ℕ) (d : ℕ) → dimOk n ≡ pass → tableOk t ≡ pass → marksOk t m ≡ pass → RulesPass n t
-    → dartOk t d ≡ pass → slots t ≤ length q → Given n t m q d
-flood-given n t m q d dim table marks rules dart room =
-    let sized = table-pass t table in
-    record {
-      dim = dim-pass n dim;
-      fits = sized .0;
-      few = sized .1;
-      map = map-given n t dim rules;
-      long = marks-given t m marks;
-      room = room;
-      start = dart-pass t d dart;
-    }
 
 -- what `reading::list_unused` asks of a map
 pub told-given : {n : ℕ} {t : List ℕ} → MapTable n t → Told t

@@ -1,6 +1,9 @@
 // orbit: what is reached from a dart by the links of a mask.
 use answers::Answer;
 use answers::numbers;
+use reading::LARGE;
+use reading::MIDDLE;
+use reading::SMALL;
 ghost use mathlib.Core.Path.{_≡_};
 ghost use mathlib.Core.List.{[]};
 ghost use Prim.Native.Nat.{_≤_};
@@ -32,7 +35,7 @@ fn orbit_place(n: u32, mask: u32) -> u32
 }
 
 // orbit, where its checks pass and the queue has a word for each slot.
-fn orbit_in(n: u32, table: &[u32], marks: &mut [u8], queue: &mut [u32], mask: u32, d: u32) -> Answer
+fn orbit_in(n: u32, table: &[u32], marks: &mut [u8], queue: &mut [u16], mask: u32, d: u32) -> Answer
     requires { ⌜ inOrder (orbitChecks n (now table) (now marks) mask d) ≡ pass ⌝ }
     requires { ⌜ slots (now table) ≤ length (now queue) ⌝ }
     ensures { λ r. ⌜ outcome r (now (table .entry)) (now (marks .exit)) []
@@ -46,7 +49,26 @@ fn orbit_in(n: u32, table: &[u32], marks: &mut [u8], queue: &mut [u32], mask: u3
     }
 }
 
-// "Marks: 1 reached, 0 otherwise. Count: darts reached." A small table does not pay for a queue of 65,536 words.
+// orbit on a larger table, where its checks pass. As it calls itself it has a stack frame of its own, which small tables and refusals
+// do not pay for; the table fits, so it never does.
+fn orbit_large(n: u32, table: &[u32], marks: &mut [u8], mask: u32, d: u32) -> Answer
+    requires { ⌜ inOrder (orbitChecks n (now table) (now marks) mask d) ≡ pass ⌝ }
+    ensures { λ r. ⌜ outcome r (now (table .entry)) (now (marks .exit)) []
+        ≡ orbitCall n (now (table .entry)) (now (marks .entry)) mask d ⌝ }
+{
+    if !reading::table_fits(table) {
+        orbit_large(n, table, marks, mask, d);
+        return numbers::WRONG_TABLE_LENGTH;
+    }
+    if table.len() <= 4 * MIDDLE {
+        let mut queue = [0u16; MIDDLE];
+        return orbit_in(n, table, marks, &mut queue, mask, d);
+    }
+    let mut queue = [0u16; LARGE];
+    orbit_in(n, table, marks, &mut queue, mask, d)
+}
+
+// "Marks: 1 reached, 0 otherwise. Count: darts reached." A small table does not pay for a large queue.
 pub fn orbit(n: u32, table: &[u32], marks: &mut [u8], mask: u32, d: u32) -> Answer
     ensures { λ r. ⌜ outcome r (now (table .entry)) (now (marks .exit)) []
         ≡ orbitCall n (now (table .entry)) (now (marks .entry)) mask d ⌝ }
@@ -61,10 +83,9 @@ pub fn orbit(n: u32, table: &[u32], marks: &mut [u8], mask: u32, d: u32) -> Answ
     if !reading::live(table, d) {
         return numbers::NOT_LIVE;
     }
-    if table.len() <= 32768 {
-        let mut queue = [0u32; 8192];
+    if table.len() <= 4 * SMALL {
+        let mut queue = [0u16; SMALL];
         return orbit_in(n, table, marks, &mut queue, mask, d);
     }
-    let mut queue = [0u32; 65536];
-    orbit_in(n, table, marks, &mut queue, mask, d)
+    orbit_large(n, table, marks, mask, d)
 }

@@ -1,352 +1,239 @@
--- The flood: what holds of marks and queue while it runs (`Flooding`), which darts have gone which words (`Gone`), that the turn
--- of a dart keeps both (`turned`, `crossed`), and what holds at the end (`ended`).
-use Prim.Native.Nat.{ℕ, zero, suc, _+_, _≤_, _<_}
+-- The flood: what holds of marks and queue while it runs (`Flooding`), which darts have gone their links (`Gone`), that the turn of a dart
+-- keeps both (`turned`), and that at the end the darts found are the orbit (`ended`).
+use Prim.Native.Nat.{ℕ, zero, suc, _+_, _/_, _%_, _^_, _≤_, _<_}
 use mathlib.Core.Path.{_≡_, refl, sym, ap, _∙_}
-use mathlib.Core.Logic.{_⊎_, inl, inr, ⊎-elim}
-use mathlib.Core.Bool.{Bool, true, false}
-use mathlib.Core.List.{List, [], _∷_, List·Memᴰ as In}
-use mathlib.Core.List.{List·Memᴰ·eq-of-singleton as sole, List·Memᴰ·append-cases as in-cases}
+use mathlib.Core.Logic.{inl, inr, ⊎-elim}
+use mathlib.Core.Bool.{true, false}
+use mathlib.Core.List.{List, [], _∷_}
 use native.Mathlib.Omega.{arith}
-use lib.ListN.{length, getD, set, take, length-set, length-take}
-use lib.Seq.{getD-set-same, getD-set-other, getD-take}
-use Rattle.model.specs.Lists.{indexOf}
-use Rattle.model.specs.Table.{slots, link, walk, live}
-use Rattle.model.specs.Reach.{steps, closure}
-use Rattle.model.specs.Orbit.{bit}
-use Rattle.model.specs.Meaning.Sets.{Least, Marked}
-use Rattle.model.proofs.Lists.Scan.{if-eq, test, clash}
-use Rattle.model.proofs.Lists.Ones.{index-in, getD-index, getD-in}
-use Rattle.model.proofs.Sets.Closure.{closure-least}
-use Rattle.model.proofs.Maps.Rules.{live-in}
-use Rattle.reach.specs.Search.{floodWords, byCells, Search, searchOf, meet, followBelow, expand, Found, Listed, Over, Flooded}
-use Rattle.reach.specs.Given.{Linked, Seeds, Room, Stepping}
-use Rattle.model.proofs.Sets.Links.{walk-in, walk-of}
-use Rattle.reach.proofs.Words.{FloodWord, by-link, by-edge, flood-word, link-word, across-word}
-use Rattle.reach.proofs.Marks.{over-lay}
+use lib.ListN.{length, getD, set, replicate, length-set, length-replicate}
+use lib.Seq.{getD-set-same, getD-set-other}
+use borrow.Author.Tests.{eqb-true}
+use Rattle.model.specs.Lists.{count}
+use Rattle.model.specs.Table.{slots, link, live}
+use Rattle.model.specs.Orbit.{bit, orbit}
+use Rattle.model.specs.Meaning.Maps.{Dim}
+use Rattle.model.specs.Meaning.Sets.{Bits, LeastSet, ByLink, Marked}
+use Rattle.model.proofs.Lists.Scan.{if-eq, if-lt, test, clash}
+use Rattle.model.proofs.Sets.Least.{least-set-unique, orbit-is}
+use Rattle.model.proofs.Maps.Dim.{two-cases}
+use Rattle.model.proofs.Maps.Tables.{live-below, rule-at}
+use Rattle.reach.specs.Search.{Search, searchOf, meet, follow, followBelow, Found, Listed}
+use Rattle.reach.specs.Given.{Given, Linked, Room, Stepping}
+use Rattle.reach.proofs.Marks.{marked-found, found-marked, count-bits, alone, alone-own, alone-only, alone-bits, alone-count}
 use Rattle.reach.proofs.Meeting.{Later, later-same, later-then, meet-new, meet-old, meet-later, meet-own, store-only, listed-more}
-use Rattle.reach.proofs.Meeting.{room-left, opposite-live, follow-takes, follow-skips, expand-across, expand-flat, expand-later}
-
--- ---- the first words of a queue
-
-pub take-at : (n : ℕ) (q : List ℕ) (x : ℕ) → In x (take n q) → (j : ℕ) × (j < n) × (getD q j 0 ≡ x)
-take-at n q x i =
-    let j = indexOf x (take n q) in
-    let l = index-in (take n q) x i in
-    let m = length-take n q in
-    let b : j < n = omega arith in
-    (j, b, sym (getD-take n q j 0 b) ∙ getD-index (take n q) x 0 i)
-
-pub at-take : (n : ℕ) (q : List ℕ) (j : ℕ) → j < n → n ≤ length q → In (getD q j 0) (take n q)
-at-take n q j b l =
-    let m = length-take n q in
-    rw (getD-take n q j 0 b) at (getD-in (take n q) j 0 (omega arith))
+use Rattle.reach.proofs.Meeting.{room-left, link-in, follow-takes, follow-skips, follow-later}
 
 -- ---- a flood and its state
 
--- a is the search as it began, s as it is
-pub record Flooding (t : List ℕ) (ws : List (List ℕ)) (k : ℕ) (a s : Search) : Type 0 where
+pub record Flooding (n : ℕ) (t : List ℕ) (mask d : ℕ) (s : Search) : Type 0 where
   pub long : length (s .marks) ≡ slots t
-  pub later : Later a s
+  pub room : slots t ≤ length (s .queue)
   pub listed : Listed (s .marks) (s .queue) (s .found)
-  pub kept : (x : ℕ) → Found (a .marks) x → getD (s .marks) x 0 ≡ getD (a .marks) x 0
-  pub added : (x : ℕ) → getD (a .marks) x 0 ≡ 0 → (getD (s .marks) x 0 ≡ 0) ⊎ (getD (s .marks) x 0 ≡ k)
-  pub sound : (x : ℕ) → Found (s .marks) x → Marked (closure t ws (take (a .found) (a .queue))) x
+  pub bits : Bits (s .marks)
+  pub own : Found (s .marks) d
+  pub sound : (x : ℕ) → Found (s .marks) x → Marked (orbit n t mask d) x
 
--- the queue's darts before head have gone the words vs
-pub record Gone (t : List ℕ) (vs : List (List ℕ)) (s : Search) (head : ℕ) : Type 0 where
+-- x has gone its links below k
+abbrev Went : List ℕ → ℕ → ℕ → ℕ → Search → Type 0
+Went t mask x k s = (i : ℕ) → i < k → bit mask i ≡ true → Found (s .marks) (link t i x)
+
+-- the queue's darts before head have gone their links
+pub record Gone (t : List ℕ) (mask : ℕ) (s : Search) (head : ℕ) : Type 0 where
   pub order : head ≤ s .found
-  pub done : (j : ℕ) (w : List ℕ) → j < head → In w vs → Found (s .marks) (walk t w (getD (s .queue) j 0))
+  pub done : (j : ℕ) → j < head → Went t mask (getD (s .queue) j 0) 4 s
 
-pub gone-none : (t : List ℕ) (vs : List (List ℕ)) (s : Search) → Gone t vs s 0
-gone-none t vs s = record { order = omega arith; done = λ j w l. absurd (omega arith) }
+pub gone-none : (t : List ℕ) (mask : ℕ) (s : Search) → Gone t mask s 0
+gone-none t mask s = record { order = omega arith; done = λ j l. absurd (omega arith) }
 
-module _ {t : List ℕ} {vs : List (List ℕ)} {s s′ : Search} {head : ℕ} (later : Later s s′) (gone : Gone t vs s head) where
-  pub gone-still : Gone t vs s′ head
-  gone-still = record {
-    order = omega arith;
-    done = λ j w l i. rw (later .stays j (omega arith)) (later .keeps _ (gone .done j w l i));
+-- the dart at head has gone them too
+gone-more : {t : List ℕ} {mask : ℕ} {s s′ : Search} {head : ℕ} → Later s s′ → Gone t mask s head → head < s .found
+    → Went t mask (getD (s .queue) head 0) 4 s′ → Gone t mask s′ (head + 1)
+gone-more {head = head} later gone h went = record {
+  order = let more = later .more in omega arith;
+  done = λ j l. if-eq j head (λ e. rw (e, later .stays head h) went)
+      (λ e i low b.
+      let order = gone .order in
+      rw (later .stays j (omega arith)) (later .keeps _ (gone .done j (omega arith) i low b)));
+}
+
+-- ---- what is reached
+
+-- a mask below 2^(n+1) permits links 0..n only
+mask-index : (n mask i : ℕ) → Dim n → mask < 2 ^ (n + 1) → i < 4 → bit mask i ≡ true → i ≤ n
+unfolding bit
+mask-index n mask i dim = two-cases n dim (λ n. mask < 2 ^ (n + 1) → i < 4 → bit mask i ≡ true → i ≤ n)
+    (λ low four b. if-lt i 3 (λ l. omega arith) (λ l.
+    let e : i ≡ 3 = omega arith in
+    let odd : mask / 8 % 2 ≡ 1 = eqb-true (mask / 8 % 2) 1 (rw e at b) in
+    omega arith))
+    (λ low four b. omega arith)
+
+module _ {n : ℕ} {t m q : List ℕ} {mask d : ℕ} (g : Given n t m q d) (bound : mask < 2 ^ (n + 1)) where
+  pub linked : Linked t
+  linked = record {
+    fits = g .table .whole;
+    few = g .table .few;
+    goes = λ x i l b. rule-at (g .table) x l .goes i b;
   }
 
-  -- the dart at head has gone them too
-  gone-more : head < s .found → ((w : List ℕ) → In w vs → Found (s′ .marks) (walk t w (getD (s .queue) head 0)))
-      → Gone t vs s′ (head + 1)
-  gone-more h f = record {
-    order = omega arith;
-    done = λ j w l i. if-eq j head (λ e. rw (e, later .stays head h) (f w i)) (λ e. gone-still .done j w (omega arith) i);
-  }
+  abbrev reached : List ℕ
+  reached = orbit n t mask d
 
--- all darts have gone them: what is found is closed under them
-pub gone-all : {t : List ℕ} {vs : List (List ℕ)} (s : Search) (head : ℕ) → s .found ≤ head
-    → Listed (s .marks) (s .queue) (s .found) → Gone t vs s head
-    → (x : ℕ) (w : List ℕ) → Found (s .marks) x → In w vs → Found (s .marks) (walk t w x)
-gone-all s head h listed gone x w p i =
-    let u = listed .all x p in
-    let l = u .1 in
-    rw (u .2) at (gone .done (u .0) w (omega arith) i)
+  least : LeastSet (slots t) (λ x. x ≡ d) (ByLink t (λ j. (j ≤ n) × (bit mask j ≡ true))) reached
+  least = orbit-is n t d mask
 
--- the words lead from live darts to live darts
-abbrev pub Goes : List ℕ → List (List ℕ) → Type 0
-Goes t ws = (x : ℕ) (w : List ℕ) → live t x ≡ true → In w ws → live t (walk t w x) ≡ true
+  reached-live : (x : ℕ) → Marked reached x → live t x ≡ true
+  reached-live = least .within (λ x. live t x ≡ true) (λ x e _. rw e (g .start))
+      (λ x y _ h s _.
+      let top = g .table .dim .1 in
+      let low = s .allowed .0 in
+      rw (s .leads) (linked .goes x (s .by) h (omega arith)))
 
--- what a flood is asked for: its words and mark, and the search as it begins
-pub record Flood : Type 0 where
-  pub table : List ℕ
-  pub words : List (List ℕ)
-  pub mark : ℕ
-  pub first : Search
-  pub linked : Linked table
-  pub goes : Goes table words
-  pub seeds : Seeds table (first .marks) (first .queue) (first .found)
-  pub some : 0 < mark
+  reached-on : (x i : ℕ) → Marked reached x → i < 4 → bit mask i ≡ true → Marked reached (link t i x)
+  reached-on x i h low b = least .closed x (link t i x) h
+      (record { by = i; allowed = (mask-index n mask i (g .table .dim) bound low b, b); leads = refl })
+      (link-in t linked x (reached-live x h) i low)
 
-abbrev pub seedsOf : Flood → List ℕ
-seedsOf f = take (f .first .found) (f .first .queue)
-
--- what it is to find
-abbrev pub reached : Flood → List ℕ
-reached f = closure (f .table) (f .words) (seedsOf f)
-
-abbrev pub State : Flood → Search → Type 0
-State f s = Flooding (f .table) (f .words) (f .mark) (f .first) s
-
--- ---- all that is reached is live
-
-module _ (t : List ℕ) (linked : Linked t) where
-  pub flood-goes : (mask : ℕ) (across : Bool) → Goes t (floodWords mask across)
-  unfolding walk
-  flood-goes mask across x w h i = go (flood-word mask across w i)
-    where
-      go : FloodWord mask across w → live t (walk t w x) ≡ true
-      go (by-link j l b e) = rw e (linked .goes x j h l)
-      go (by-edge b e) = rw e (opposite-live t linked x h)
-
-  pub cells-goes : (mask n : ℕ) → n < 4 → Goes t (byCells mask n)
-  unfolding walk
-  cells-goes mask n l x w h i = ⊎-elim (flood-goes mask true x w h) far (in-cases (floodWords mask true) i)
-    where
-      far : In w ((n ∷ []) ∷ []) → live t (walk t w x) ≡ true
-      far k = let e = sole k in rw e (linked .goes x n h l)
-
-pub closure-live : (t : List ℕ) (ws : List (List ℕ)) → Goes t ws
-    → (seeds : List ℕ) → ((x : ℕ) → In x seeds → live t x ≡ true)
-    → (x : ℕ) → Marked (closure t ws seeds) x → live t x ≡ true
-closure-live t ws goes seeds h =
-    closure-least t ws seeds .within (λ x. live t x ≡ true) (λ x i _. h x i)
-    (λ x y _ l i _. let r = walk-of t x ws y i in rw (r .2) (goes x (r .0) l (r .1)))
-
-module _ (flood : Flood) where
-  open Flood flood using (table, words, mark, first, linked, goes, seeds, some)
-
-  seed : (x : ℕ) → In x (seedsOf flood) → Found (first .marks) x
-  seed x i = let r = take-at (first .found) (first .queue) x i in rw (r .2) at (seeds .listed .inside (r .0) (r .1))
-
-  reached-live : (x : ℕ) → Marked (reached flood) x → live table x ≡ true
-  reached-live = closure-live table words goes (seedsOf flood) (λ x i. seeds .lives x (seed x i))
-
-  least : Least (steps table words) (slots table) (seedsOf flood) (reached flood)
-  least = closure-least table words (seedsOf flood)
+  abbrev State : Search → Type 0
+  State s = Flooding n t mask d s
 
   -- ---- the beginning
 
-  pub begins : State flood first
+  d-in : d < slots t
+  d-in = live-below (g .table) d (g .start)
+
+  -- what `begin` asks
+  pub begin-asks : (d < length m) × (d < 65536) × (0 < length q)
+  begin-asks =
+      let inside = d-in in
+      let few = g .table .few in
+      let room = g .room in
+      (rw (g .long) d-in, omega arith, omega arith)
+
+  begins : State (searchOf (alone (slots t) d) (set q 0 d) 1)
   begins = record {
-    long = seeds .long;
-    later = later-same first;
-    listed = seeds .listed;
-    kept = λ x _. refl;
-    added = λ x e. inl e;
-    sound = λ x f. least .holds x (own x f) (live-in table x (linked .fits) (seeds .lives x f));
+    long = length-set (replicate (slots t) 0) d 1 ∙ length-replicate (slots t) 0;
+    room = rw length-set (g .room);
+    listed = record {
+      number = alone-count (slots t) d d-in;
+      inside = λ j b. let e : j ≡ 0 = omega arith in rw (e, queued) own;
+      all = λ x f. (0, omega arith, queued ∙ sym (alone-only (slots t) d d-in x f));
+    };
+    bits = alone-bits (slots t) d d-in;
+    own = own;
+    sound = λ x f. rw (alone-only (slots t) d d-in x f) (least .holds d refl d-in);
   }
     where
-      own : (x : ℕ) → Found (first .marks) x → In x (seedsOf flood)
-      own x f =
-          let w = seeds .listed .all x f in
-          let n = seeds .listed .number in
-          let l = seeds .long in
-          let r = seeds .room in
-          rw (w .2) at (at-take (first .found) (first .queue) (w .0) (w .1) (omega arith))
+      queued : getD (set q 0 d) 0 0 ≡ d
+      queued = getD-set-same q 0 d 0 (begin-asks .2)
+
+      own : Found (alone (slots t) d) d
+      own = marked-found (alone (slots t) d) d (alone-own (slots t) d d-in)
+
+  -- m₁ and q₁ are what `begin` leaves
+  pub begun : {m₁ q₁ : List ℕ} → (m₁ ≡ set (replicate (length m) 0) d 1) × (q₁ ≡ set q 0 d) → State (searchOf m₁ q₁ 1)
+  begun e = rw (e .0, e .1, g .long) begins
 
   -- ---- a turn
 
-  module _ (s : Search) (f : State flood s) where
-    space : Room table (s .marks) (s .queue) (s .found)
-    space = record { long = f .long; room = rw (f .later .wide) (seeds .room); number = f .listed .number ∙ f .long }
+  module _ (s : Search) (f : State s) where
+    space : Room t (s .marks) (s .queue) (s .found)
+    space = record { long = f .long; room = f .room; number = f .listed .number ∙ f .long }
 
     -- the darts found are no more than the slots, and the queue has room for these
-    pub fits : (s .found ≤ length (first .marks)) × (length (first .marks) ≤ 65536) × (s .found ≤ length (s .queue))
+    pub fits : (s .found ≤ slots t) × (slots t ≤ 65536) × (s .found ≤ length (s .queue))
     fits =
-        let n = space .number in
-        let r = space .room in
-        let l = seeds .long in
-        let m = linked .few in
-        (omega arith, omega arith, omega arith)
+        let number = space .number in
+        let room = space .room in
+        (omega arith, g .table .few, omega arith)
 
     -- what the steps of the dart at head ask
-    pub steps-ask : (head : ℕ) → head < s .found → Stepping table (s .marks) (s .queue) (s .found) mark (getD (s .queue) head 0)
+    pub steps-ask : (head : ℕ) → head < s .found → Stepping t (s .marks) (s .queue) (s .found) (getD (s .queue) head 0)
     steps-ask head h = record {
       linked = linked;
       space = space;
-      some = some;
       lives = reached-live _ (f .sound _ (f .listed .inside head h));
     }
 
-    -- a dart that is to be found is met
-    meets : (y : ℕ) → Marked (reached flood) y → State flood (meet mark y s)
-    meets y h = if-eq (getD (s .marks) y 0) 0 (λ e. rw (meet-new mark y s e) (new e)) (λ e. rw (meet-old mark y s e) f)
+    -- a dart that is reached is met
+    meets : (y : ℕ) → Marked reached y → State (meet y s)
+    meets y h = if-eq (getD (s .marks) y 0) 0 (λ e. rw (meet-new y s e) (new e)) (λ e. rw (meet-old y s e) f)
       where
-        b : y < slots table
-        b = live-in table y (linked .fits) (reached-live y h)
+        b : y < slots t
+        b = live-below (g .table) y (reached-live y h)
 
         l : y < length (s .marks)
         l = rw (f .long) b
 
-        new : getD (s .marks) y 0 ≡ 0
-            → State flood (searchOf (set (s .marks) y mark) (set (s .queue) (s .found) y) (s .found + 1))
+        new : getD (s .marks) y 0 ≡ 0 → State (searchOf (set (s .marks) y 1) (set (s .queue) (s .found) y) (s .found + 1))
         new e = record {
-          long = length-set (s .marks) y mark ∙ f .long;
-          later = rw (meet-new mark y s e) at (later-then (f .later) (meet-later mark y s));
-          listed =
-              let r = room-left table s y b space e in
-              listed-more (s .marks) y mark l some (s .queue) (s .found) e r (f .listed);
-          kept = λ x p. getD-set-other (s .marks) y x mark 0 (other x p) ∙ f .kept x p;
-          added = λ x p. if-eq x y (λ q. inr (rw q (getD-set-same (s .marks) y mark 0 l)))
-              (λ q. rw (getD-set-other (s .marks) y x mark 0 q) (f .added x p));
-          sound = λ x p. ⊎-elim (λ q. rw q h) (λ q. f .sound x q) (store-only (s .marks) y mark l some x p);
+          long = length-set (s .marks) y 1 ∙ f .long;
+          room = rw length-set (f .room);
+          listed = listed-more (s .marks) y l (s .queue) (s .found) e (room-left t s y b space e) (f .listed);
+          bits = λ x. if-eq x y (λ q. inr (rw q (getD-set-same (s .marks) y 1 0 l)))
+              (λ q. rw (getD-set-other (s .marks) y x 1 0 q) (f .bits x));
+          own = rw (meet-new y s e) at (meet-later y s .keeps d (f .own));
+          sound = λ x p. ⊎-elim (λ q. rw q h) (λ q. f .sound x q) (store-only (s .marks) y l x p);
         }
-          where
-            other : (x : ℕ) → Found (first .marks) x → x ≡ y → ⊥
-            other x p q = p (sym (f .kept x p) ∙ ap (λ (z : ℕ). getD (s .marks) z 0) q ∙ e)
 
-  -- x has been found, and it is its turn
-  record Turn (s : Search) (x : ℕ) : Type 0 where
-    state : State flood s
-    own : Found (s .marks) x
+    -- x has been found, and follows link i
+    follows : (x i : ℕ) → i < 4 → Found (s .marks) x
+        → State (follow t mask x i s) × (bit mask i ≡ true → Found (follow t mask x i s .marks) (link t i x))
+    follows x i low own = test (bit mask i)
+        (λ e.
+        let h = f .sound x own in
+        let to = link-in t linked x (reached-live x h) i low in
+        rw (follow-takes t mask x s i e)
+        (meets (link t i x) (reached-on x i h low e), λ _. meet-own (link t i x) s (rw (f .long) to)))
+        (λ e. rw (follow-skips t mask x s i e) (f, λ b. absurd (clash b e)))
 
-  turn-at : (s : Search) (head : ℕ) → head < s .found → State flood s → Turn s (getD (s .queue) head 0)
-  turn-at s head h f = record { state = f; own = f .listed .inside head h }
-
-  -- x goes the word w
-  goes-one : (s : Search) (x : ℕ) (w : List ℕ) → In w words → Turn s x
-      → Turn (meet mark (walk table w x) s) x × Found (meet mark (walk table w x) s .marks) (walk table w x)
-  goes-one s x w i f =
-      let x-reached = f .state .sound x (f .own) in
-      let b = live-in table y (linked .fits) (goes x w (reached-live x x-reached) i) in
-      let h = least .closed x y x-reached (walk-in table x words w i) b in
-      let l : y < length (s .marks) = rw (f .state .long) b in (
-        record { state = meets s (f .state) y h; own = meet-later mark y s .keeps x (f .own) },
-        meet-own mark y s l some,
+  -- x follows its links below k
+  links-go : (s : Search) (x k : ℕ) → k ≤ 4 → State s → Found (s .marks) x
+      → State (followBelow t mask x k s) × Later s (followBelow t mask x k s) × Went t mask x k (followBelow t mask x k s)
+  unfolding followBelow
+  links-go s x zero h f own = (f, later-same s, λ i l. absurd (omega arith))
+  links-go s x (suc k) h f own =
+      let (f′, later, went) = links-go s x k (omega arith) f own in
+      let (f″, to) = follows (followBelow t mask x k s) f′ x k (omega arith) (later .keeps x own) in
+      let on = follow-later t mask x (followBelow t mask x k s) k in (
+        f″,
+        later-then later on,
+        λ i l b. if-eq i k (λ e. rw e (to (rw e at b))) (λ e. on .keeps _ (went i (omega arith) b)),
       )
-    where
-      y : ℕ
-      y = walk table w x
 
-  -- the dart at head has gone link i
-  pub crossed : (s : Search) (head : ℕ) (i : ℕ) → In (i ∷ []) words → head < s .found → State flood s
-      → Gone table ((i ∷ []) ∷ []) s head
-      → State flood (meet mark (link table i (getD (s .queue) head 0)) s)
-      × Gone table ((i ∷ []) ∷ []) (meet mark (link table i (getD (s .queue) head 0)) s) (head + 1)
-  unfolding walk
-  crossed s head i k h f g =
-      let x = getD (s .queue) head 0 in
-      let r = goes-one s x (i ∷ []) k (turn-at s head h f) in
-      (r .0 .state, gone-more (meet-later mark (link table i x) s) g h (λ w j. rw (sole j) (r .1)))
-
-  -- the words of a mask, among those of the flood
-  module _ (mask : ℕ) (across : Bool) (among : (w : List ℕ) → In w (floodWords mask across) → In w words) where
-    below : Search → ℕ → ℕ → Search
-    below s x i = followBelow table mask mark x i s
-
-    -- x goes its links below i
-    links-go : (s : Search) (x i : ℕ) → i ≤ 4 → Turn s x
-        → Turn (below s x i) x × ((j : ℕ) → j < i → bit mask j ≡ true → Found (below s x i .marks) (link table j x))
-    unfolding below followBelow walk
-    links-go s x zero h f = (f, λ j l. absurd (omega arith))
-    links-go s x (suc i) h f = let rec = links-go s x i (omega arith) f in test (bit mask i) (takes rec) (skips rec)
-      where
-        To : Search → ℕ → Type 0
-        To s i = Turn s x × ((j : ℕ) → j < i → bit mask j ≡ true → Found (s .marks) (link table j x))
-
-        takes : To (below s x i) i → bit mask i ≡ true → To (below s x (suc i)) (suc i)
-        takes r e =
-            let g = goes-one (below s x i) x (i ∷ []) (among _ (link-word mask across i (omega arith) e)) (r .0) in
-            let old = meet-later mark (link table i x) (below s x i) .keeps in
-            rw (follow-takes table mask mark x (below s x i) i e)
-            (g .0, λ j l b. if-eq j i (λ q. rw q (g .1)) (λ q. old _ (r .1 j (omega arith) b)))
-
-        skips : To (below s x i) i → bit mask i ≡ false → To (below s x (suc i)) (suc i)
-        skips r e =
-            rw (follow-skips table mask mark x (below s x i) i e)
-            (r .0, λ j l b. if-eq j i (λ q. absurd (clash b (ap (bit mask) q ∙ e))) (λ q. r .1 j (omega arith) b))
-
-    abbrev expanded : Search → ℕ → Search
-    expanded s x = expand table mask across mark x s
-
-    -- x goes all of them
-    all-go : (s : Search) (x : ℕ) → Turn s x
-        → Turn (expanded s x) x
-        × ((w : List ℕ) → In w (floodWords mask across) → Found (expanded s x .marks) (walk table w x))
-    unfolding below walk
-    all-go s x f = test across (λ e. rw (expand-across table mask mark x s across e) (over e))
-        (λ e. rw (expand-flat table mask mark x s across e) (flat e))
-      where
-        All : Search → Type 0
-        All s = Turn s x × ((w : List ℕ) → In w (floodWords mask across) → Found (s .marks) (walk table w x))
-
-        s₄ : Search
-        s₄ = below s x 4
-
-        r : Turn s₄ x × ((j : ℕ) → j < 4 → bit mask j ≡ true → Found (s₄ .marks) (link table j x))
-        r = links-go s x 4 (omega arith) f
-
-        edge : ℕ
-        edge = walk table (1 ∷ 0 ∷ 1 ∷ []) x
-
-        over : across ≡ true → All (meet mark edge s₄)
-        over e = (g .0, λ w i. go w (flood-word mask across w i))
-          where
-            g : Turn (meet mark edge s₄) x × Found (meet mark edge s₄ .marks) edge
-            g = goes-one s₄ x (1 ∷ 0 ∷ 1 ∷ []) (among _ (across-word mask across e)) (r .0)
-
-            go : (w : List ℕ) → FloodWord mask across w → Found (meet mark edge s₄ .marks) (walk table w x)
-            go w (by-link j l b q) = rw q (meet-later mark edge s₄ .keeps _ (r .1 j l b))
-            go w (by-edge b q) = rw q (g .1)
-
-        flat : across ≡ false → All s₄
-        flat e = (r .0, λ w i. go w (flood-word mask across w i))
-          where
-            go : (w : List ℕ) → FloodWord mask across w → Found (s₄ .marks) (walk table w x)
-            go w (by-link j l b q) = rw q (r .1 j l b)
-            go w (by-edge b q) = absurd (clash b e)
-
-    -- the dart at head has gone them
-    pub turned : (s : Search) (head : ℕ) → head < s .found → State flood s → Gone table (floodWords mask across) s head
-        → State flood (expanded s (getD (s .queue) head 0))
-        × Gone table (floodWords mask across) (expanded s (getD (s .queue) head 0)) (head + 1)
-    turned s head h f g =
-        let x = getD (s .queue) head 0 in
-        let r = all-go s x (turn-at s head h f) in
-        (r .0 .state, gone-more (expand-later table mask mark x s across) g h (r .1))
+  -- the dart at head has gone its links
+  pub turned : (s : Search) (head : ℕ) → head < s .found → State s → Gone t mask s head
+      → State (followBelow t mask (getD (s .queue) head 0) 4 s)
+      × Gone t mask (followBelow t mask (getD (s .queue) head 0) 4 s) (head + 1)
+      × (length (followBelow t mask (getD (s .queue) head 0) 4 s .queue) ≡ length (s .queue))
+  turned s head h f gone =
+      let (f′, later, went) = links-go s (getD (s .queue) head 0) 4 (omega arith) f (f .listed .inside head h) in
+      (f′, gone-more later gone h went, later .wide)
 
   -- ---- the end
 
-  pub ended : (s : Search) → State flood s
-      → ((x : ℕ) (w : List ℕ) → Found (s .marks) x → In w words → Found (s .marks) (walk table w x))
-      → Flooded table words mark (first .marks) (first .queue) (first .found) (s .marks) (s .queue) (s .found)
-  ended s f closed = record {
-    marks = over-lay mark (first .marks) (reached flood) (s .marks) over;
-    listed = f .listed;
-    more = f .later .more;
-    stays = f .later .stays;
-  }
+  pub ended : (s : Search) (head : ℕ) → s .found ≤ head → State s → Gone t mask s head
+      → (s .marks ≡ orbit n t mask d) × (s .found ≡ count 1 (orbit n t mask d))
+  ended s head h f gone = (is, size)
     where
-      full : (x : ℕ) → Marked (reached flood) x → Found (s .marks) x
-      full = least .within (Found (s .marks)) (λ x i _. f .later .keeps x (seed x i))
-          (λ x y _ p i _. let w = walk-of table x words y i in rw (w .2) (closed x (w .0) p (w .1)))
+      closed : (x i : ℕ) → Found (s .marks) x → i < 4 → bit mask i ≡ true → Found (s .marks) (link t i x)
+      closed x i p low b =
+          let (j, l, e) = f .listed .all x p in
+          rw e at (gone .done j (omega arith) i low b)
 
-      over : Over mark (first .marks) (Marked (reached flood)) (s .marks)
-      over = record {
-        long = f .long ∙ sym (seeds .long);
-        kept = f .kept;
-        new = λ x e m. ⊎-elim (λ z. absurd (full x m z)) (λ z. z) (f .added x e);
-        none = λ x e m. ⊎-elim (λ z. z) (λ z. absurd (m (f .sound x (λ q. omega (arith, some))))) (f .added x e);
-      }
+      is : s .marks ≡ reached
+      is = least-set-unique (record {
+        long = f .long;
+        bits = f .bits;
+        holds = λ x e _. rw e (found-marked (s .marks) d (f .bits) (f .own));
+        closed = λ x y p st _.
+            let top = g .table .dim .1 in
+            let low = st .allowed .0 in
+            rw (st .leads) (found-marked (s .marks) _ (f .bits)
+            (closed x (st .by) (marked-found (s .marks) x p) (omega arith) (st .allowed .1)));
+        within = λ P seed kept x p. least .within P seed kept x (f .sound x (marked-found (s .marks) x p));
+      }) least
+
+      size : s .found ≡ count 1 reached
+      size = rw (← is) (let number = f .listed .number in let all = count-bits (s .marks) (f .bits) in omega arith)

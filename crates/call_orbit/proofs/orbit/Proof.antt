@@ -1,13 +1,14 @@
--- `call_orbit::orbit` meets its contract: its opening, the checks 6 and 7, and behind them `orbit_in`.
+-- `call_orbit::orbit` meets its contract: its opening, the checks 6 and 7, and behind them `orbit_in` or `orbit_large`.
+use mathlib.Core.Path.{_≡_}
 use mathlib.Core.List.{List}
 use borrow.Author.Needs.{needs}
-use Rattle.model.specs.Checks.{Check, orbitChecks, mapChecks}
+use Rattle.model.specs.Checks.{Check, pass, inOrder, orbitChecks, mapChecks}
 use Rattle.answers.proofs.Ladder.{Rung, up, out, all-passed}
 use Rattle.answers.proofs.Verdicts.{passes, refuses, marks-test, dart-test}
 use Rattle.answers.proofs.Settled.{Opening, opened, handed-on}
 use Rattle.answers.proofs.Opened.{opened-marks}
-use Rattle.answers.proofs.Given.{room-small, room-given}
-use Rattle.call_orbit.proofs.Ends.{orbit-refused}
+use Rattle.answers.proofs.Given.{room-small}
+use Rattle.call_orbit.proofs.Ends.{orbit-refused, orbit-table}
 use Rattle.call_orbit.proofs.orbit.Statement.{statement}
 use Rattle.call_orbit.proofs.orbit.Tie as tie
 
@@ -65,6 +66,13 @@ returns-3 c =
 
 -- ---- behind the checks
 
+all-pass : (c : tie.Else3) → inOrder (checks (dart c .entry)) ≡ pass
+unfolding orbitChecks mapChecks
+all-pass c = all-passed _ (dart c .passed)
+
+mul-if4 : tie.Need-mul-if4
+mul-if4 c = search needs
+
 slice-aggregate-orbit-in : tie.Need-slice-aggregate-orbit-in
 slice-aggregate-orbit-in c = search needs
 
@@ -72,8 +80,8 @@ orbit-in-requires : tie.Need-orbit-in-requires
 unfolding orbitChecks mapChecks
 orbit-in-requires c κs =
     let small = c .before .before in
-    let p = dart (small .before) .passed in
-    (all-passed _ p, room-small 8192 _ (search) (small .if4 .taken))
+    let h = all-pass (small .before) in
+    (h, room-small 2048 _ (orbit-table _ _ _ _ _ h) (small .if4 .taken))
 
 same-length : tie.Need-same-length
 same-length c = search needs
@@ -81,14 +89,9 @@ same-length c = search needs
 returns-4 : tie.Need-returns-4
 returns-4 c = search needs
 
-slice-aggregate-orbit-in-2 : tie.Need-slice-aggregate-orbit-in-2
-slice-aggregate-orbit-in-2 c = search needs
-
-orbit-in-requires-2 : tie.Need-orbit-in-requires-2
+orbit-large-requires : tie.Need-orbit-large-requires
 unfolding orbitChecks mapChecks
-orbit-in-requires-2 c κs =
-    let p = dart (c .before .before .before) .passed in
-    (all-passed _ p, room-given _ (search))
+orbit-large-requires c κs = all-pass (c .before .before)
 
 same-length-2 : tie.Need-same-length-2
 same-length-2 c = search needs
@@ -106,11 +109,11 @@ orbit-spec =
     returns-2
     live-requires
     returns-3
+    mul-if4
     slice-aggregate-orbit-in
     orbit-in-requires
     same-length
     returns-4
-    slice-aggregate-orbit-in-2
-    orbit-in-requires-2
+    orbit-large-requires
     same-length-2
     returns-5)

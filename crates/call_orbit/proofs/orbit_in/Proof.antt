@@ -2,18 +2,14 @@
 use borrow.Author.Needs.{needs}
 use Rattle.model.specs.Checks.{orbitChecks, mapChecks}
 use Rattle.answers.proofs.Ladder.{passed-all}
-use Rattle.answers.proofs.Given.{rules-given, flood-given}
-use Rattle.call_orbit.proofs.Masks.{mask-bound}
-use Rattle.call_orbit.proofs.Ends.{orbit-accepted}
+use Rattle.call_orbit.proofs.Ends.{orbit-given, orbit-accepted}
 use Rattle.call_orbit.proofs.orbit_in.Statement.{statement}
 use Rattle.call_orbit.proofs.orbit_in.Tie as tie
 
 orbit-requires : tie.Need-orbit-requires
-unfolding orbitChecks mapChecks
 orbit-requires c κs =
-    let given = c .before .before .before .before .before .pre in
-    let p = passed-all _ (given .0) in
-    (flood-given _ _ _ _ _ (search) (search) (search) (rules-given _ _ (p .1 .1 .1)) (search) (given .1), mask-bound _ _ (search))
+    let (passed, room) = c .before .before .before .before .before .pre in
+    orbit-given _ _ _ _ _ passed room
 
 orbit-place-requires : tie.Need-orbit-place-requires
 unfolding orbitChecks mapChecks

@@ -5,6 +5,7 @@ use Prim.Native.Nat.{ℕ, _-_, _≤_, zero-le}
 use native.Mathlib.Omega.{arith}
 use lib.ListN.{length, set, drop, replicate, length-set}
 use lib.Seq.{drop-length}
+use borrow.Author.Needs.{needs}
 use borrow.Author.Fill.{fill-more}
 use Rattle.reach.proofs.begin.Statement.{statement}
 use Rattle.reach.proofs.begin.Tie as tie
@@ -42,8 +43,11 @@ slice-write-marks-2 c =
     let l = c .before .loop .inv .2 in
     omega arith
 
+cast-queue : tie.Need-cast-queue Inv-loop μ-loop
+cast-queue c = search needs
+
 slice-write-queue : tie.Need-slice-write-queue Inv-loop μ-loop
-slice-write-queue c = c .before .before .pre .1
+slice-write-queue c = c .before .before .pre .2
 
 same-length : tie.Need-same-length Inv-loop μ-loop
 same-length c = length-set (c .before .loop .marks) (c .before .before .args .d) 1 ∙ c .before .loop .inv .2
@@ -72,6 +76,7 @@ begin-spec =
     loop-less
     loop-again
     slice-write-marks-2
+    cast-queue
     slice-write-queue
     same-length
     same-length-2

@@ -9,7 +9,7 @@ use Rattle.reach.proofs.meet.Statement.{statement}
 use Rattle.reach.proofs.meet.Tie as tie
 
 room : (c : tie.Then1) → c .before .before .args .tail < length (c .before .before .args .queue .now)
-room c = c .before .before .pre .1 (c .if1 .taken)
+room c = c .before .before .pre .space (c .if1 .taken)
 
 state : tie.Start → Search
 state c = searchOf (c .args .marks .now) (c .args .queue .now) (c .args .tail)
@@ -19,6 +19,9 @@ slice-read-if1 c = search needs
 
 slice-write-marks : tie.Need-slice-write-marks
 slice-write-marks c = search needs
+
+cast-queue : tie.Need-cast-queue
+cast-queue c = search needs
 
 mul-queue : tie.Need-mul-queue
 mul-queue c = let r = room c in search needs
@@ -37,11 +40,11 @@ same-length-2 c = search needs
 
 returns : tie.Need-returns
 unfolding state
-returns c = let a = c .before .before in sym (meet-new (a .args .mark) (a .args .y) (state a) (c .if1 .taken))
+returns c = let a = c .before .before in sym (meet-new (a .args .y) (state a) (c .if1 .taken))
 
 returns-2 : tie.Need-returns-2
 unfolding state
-returns-2 c = let a = c .before .before in sym (meet-old (a .args .mark) (a .args .y) (state a) (c .if1 .left))
+returns-2 c = let a = c .before .before in sym (meet-old (a .args .y) (state a) (c .if1 .left))
 
 pub meet-spec : {M : Type 1} → statement M
 meet-spec =
@@ -49,6 +52,7 @@ meet-spec =
     (tie.spec
     slice-read-if1
     slice-write-marks
+    cast-queue
     mul-queue
     slice-write-queue
     add-result

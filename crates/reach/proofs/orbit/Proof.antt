@@ -1,38 +1,118 @@
--- `reach::orbit` meets its contract.
-use mathlib.Core.Path.{_≡_}
-use mathlib.Core.Bool.{false}
-use mathlib.Core.List.{[], _∷_}
-use borrow.Author.Needs.{needs}
-use Rattle.model.specs.Reach.{closure}
-use Rattle.model.specs.Orbit.{orbit}
-use Rattle.reach.specs.Search.{floodWords}
-use Rattle.reach.proofs.Words.{closure-words}
-use Rattle.reach.proofs.Masks.{orbit-same}
-use Rattle.reach.proofs.Gathering.{given-ready, gathered-as}
+-- `reach::orbit` meets its contract. The loop's invariant: `Flooding`, and the queue's darts before head have gone their links.
+use mathlib.Core.Path.{_≡_, refl, sym, ap, _∙_}
+use Prim.Native.Nat.{_-_, _≤_}
+use native.Mathlib.Omega.{arith}
+use lib.ListN.{length}
+use Rattle.model.specs.Table.{slots}
+use Rattle.reach.specs.Search.{Search, searchOf}
+use Rattle.reach.proofs.Flooding.{Flooding, Gone, gone-none, begin-asks, begun, fits, steps-ask, turned, ended}
 use Rattle.reach.proofs.orbit.Statement.{statement}
 use Rattle.reach.proofs.orbit.Tie as tie
 
-gather-requires : tie.Need-gather-requires
-gather-requires c κs = given-ready (c .before .before .before .before .before .pre .0)
+abbrev Inv-loop : tie.InvT-loop
+Inv-loop n table marks₀ queue₀ mask d head₀ tail₀ marks queue head tail =
+    Flooding n table mask d (searchOf marks queue tail) × Gone table mask (searchOf marks queue tail) head
+    × (length queue ≡ length queue₀)
 
-same-length : tie.Need-same-length
-same-length c = search needs
+abbrev μ-loop : tie.MeasureT-loop
+μ-loop n table marks₀ queue₀ mask d head₀ tail₀ marks queue head tail = slots table - head
 
-same-length-2 : tie.Need-same-length-2
-same-length-2 c = search needs
+abbrev At : Type 0
+At = tie.At-loop Inv-loop μ-loop
 
--- the set flooded is the orbit
-is : (p : tie.Start) → closure (p .args .table .now) (floodWords (p .args .mask) false) (p .args .d ∷ [])
-    ≡ orbit (p .args .n) (p .args .table .now) (p .args .mask) (p .args .d)
-unfolding orbit
-is p =
-    closure-words (p .args .table .now) (p .args .d ∷ []) (orbit-same (p .args .n) (p .args .mask) (p .pre .0 .dim) (p .pre .1))
+-- where `begin` has returned, from the loop's head; and from there the function's entry
+abbrev first : At → tie.After-begin Inv-loop μ-loop
+first a = a .before .before .before .before .before
 
-returns : tie.Need-returns
+abbrev start : tie.After-begin Inv-loop μ-loop → tie.Start Inv-loop μ-loop
+start b = b .before .before .before .before .before .before
+
+abbrev now : At → Search
+now a = searchOf (a .loop .marks) (a .loop .queue) (a .loop .tail)
+
+-- the queue's words are no more than the slots
+inside : (a : At) →
+    let k = slots (start (first a) .args .table .now) in
+    (a .loop .tail ≤ k) × (k ≤ 65536) × (a .loop .tail ≤ length (a .loop .queue))
+inside a = let (g, bound) = start (first a) .pre in fits g bound (now a) (a .loop .inv .0)
+
+begin-requires : tie.Need-begin-requires Inv-loop μ-loop
+begin-requires c κs = let (g, bound) = c .before .before .before .before .before .pre in begin-asks g bound
+
+loop-holds : tie.Need-loop-holds Inv-loop μ-loop
+loop-holds c =
+    let b = c .before .before .before .before in
+    let (g, bound) = start b .pre in
+    (begun g bound (b .begin .ensures), gone-none _ _ _, refl)
+
+mul-x : tie.Need-mul-x Inv-loop μ-loop
+mul-x c = let i = inside (c .before) in omega arith
+
+slice-read-x : tie.Need-slice-read-x Inv-loop μ-loop
+slice-read-x c = let i = inside (c .before .before) in omega arith
+
+cast-x : tie.Need-cast-x Inv-loop μ-loop
+cast-x c = omega (arith, c .slice-known5 .given (c .before .before .loop .head))
+
+expand-requires : tie.Need-expand-requires Inv-loop μ-loop
+expand-requires c κs =
+    let i = c .before .before .before in
+    let a = i .before in
+    let (g, bound) = start (first a) .pre in
+    steps-ask g bound (now a) (a .loop .inv .0) (a .loop .head) (i .loop-test .taken)
+
+-- a turn's beginning, from its end
+abbrev turn : tie.After-slice-known7 Inv-loop μ-loop → tie.In-loop Inv-loop μ-loop
+turn c = c .before .before .before .before .before .before .before .before
+
+add-head : tie.Need-add-head Inv-loop μ-loop
+add-head c = let i = inside (turn c .before) in omega arith
+
+loop-less : tie.Need-loop-less Inv-loop μ-loop
+loop-less c = let i = inside (turn c .before) in omega arith
+
+loop-again : tie.Need-loop-again Inv-loop μ-loop
+loop-again c =
+    let a = turn c .before in
+    let (g, bound) = start (first a) .pre in
+    let (f, gone, wide) = turned g bound (now a) (a .loop .head) (turn c .loop-test .taken) (a .loop .inv .0) (a .loop .inv .1) in
+    let e = c .before .before .before .before .expand .ensures in
+    (rw e f, rw e gone, ap (λ (s : Search). length (s .queue)) e ∙ wide ∙ a .loop .inv .2)
+
+cast-result : tie.Need-cast-result Inv-loop μ-loop
+cast-result c = let i = inside (c .before) in omega arith
+
+same-length : tie.Need-same-length Inv-loop μ-loop
+same-length c =
+    let a = c .before in
+    let (g, bound) = start (first a) .pre in
+    a .loop .inv .0 .long ∙ sym (g .long)
+
+same-length-2 : tie.Need-same-length-2 Inv-loop μ-loop
+same-length-2 c = let a = c .before in a .loop .inv .2 ∙ first a .begin .kept .1 .0
+
+returns : tie.Need-returns Inv-loop μ-loop
 returns c =
-    let g = c .before .before .before .before in
-    let r = gathered-as (is (g .before .before .before .before .before .before)) (g .gather .ensures) in
-    (r .marks, r .size)
+    let a = c .before in
+    let (g, bound) = start (first a) .pre in
+    ended g bound (now a) (a .loop .head) (c .loop-test .left) (a .loop .inv .0) (a .loop .inv .1)
 
 pub orbit-spec : {M : Type 1} → statement M
-orbit-spec = tie.close (tie.spec gather-requires same-length same-length-2 returns)
+orbit-spec =
+    tie.close
+    (tie.spec
+    Inv-loop
+    μ-loop
+    begin-requires
+    loop-holds
+    mul-x
+    slice-read-x
+    cast-x
+    expand-requires
+    add-head
+    loop-less
+    loop-again
+    cast-result
+    same-length
+    same-length-2
+    returns)
