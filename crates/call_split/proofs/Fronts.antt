@@ -1,5 +1,5 @@
--- A rising list that stands in the first words of a slice: its words are in the list (`word-in`), rise (`words-rise`), and are all of it
--- (`word-place`).
+-- A rising list that stands in the first words of a slice (`Front`): its words are in the list (`word-in`), rise (`words-rise`), and are
+-- all of it (`word-place`).
 use Prim.Native.Nat.{ℕ, _≤_, _<_}
 use mathlib.Core.Path.{_≡_, sym, ap, _∙_}
 use mathlib.Core.List.{List, List·Memᴰ as In, Memᴰ·cast as in-cast}
@@ -11,13 +11,19 @@ use Rattle.model.proofs.Lists.Ones.{getD-in, getD-index, index-in}
 use Rattle.model.proofs.Sets.Closure.{getD-any}
 use Rattle.model.proofs.Operations.Slots.{Rising, rising-at}
 
-module _ {size : ℕ} {words l : List ℕ} (front : take size words ≡ l) (long : size ≤ length words) (up : Rising l) where
+pub record Front (size : ℕ) (words l : List ℕ) : Type 0 where
+  pub front : take size words ≡ l
+  pub long : size ≤ length words
+  pub up : Rising l
+
+module _ {size : ℕ} {words l : List ℕ} (F : Front size words l) where
   pub front-size : length l ≡ size
-  front-size = ap length (sym front) ∙ length-take-le size words long
+  front-size = ap length (sym (F .front)) ∙ length-take-le size words (F .long)
 
   pub word-at : (k e : ℕ) → k < size → getD words k 0 ≡ getD l k e
   word-at k e low =
-      getD-any words k 0 e (omega arith) ∙ sym (getD-take size words k e low) ∙ ap (λ (m : List ℕ). getD m k e) front
+      let long = F .long in
+      getD-any words k 0 e (omega arith) ∙ sym (getD-take size words k e low) ∙ ap (λ (m : List ℕ). getD m k e) (F .front)
 
   pub word-in : (k : ℕ) → k < size → In (getD words k 0) l
   word-in k low = let size = front-size in in-cast (word-at k 0 low) (getD-in l k 0 (omega arith))
@@ -25,7 +31,7 @@ module _ {size : ℕ} {words l : List ℕ} (front : take size words ≡ l) (long
   pub words-rise : (k j : ℕ) → k < j → j < size → getD words k 0 < getD words j 0
   words-rise k j kj low =
       let size = front-size in
-      let rises = rising-at up k j 0 kj (omega arith) in
+      let rises = rising-at (F .up) k j 0 kj (omega arith) in
       let a = word-at k 0 (omega arith) in
       let b = word-at j 0 low in
       omega arith

@@ -1,3 +1,4 @@
+pub mod Ones
 pub mod Roles
 pub mod Placing
 pub mod Fronts

@@ -17,14 +17,16 @@ use Rattle.model.proofs.Lists.Scan.{clash}
 use Rattle.model.proofs.Lists.Ones.{ones-of, ones-in, index-in, getD-index}
 use Rattle.model.proofs.Maps.Rules.{dead-link}
 use Rattle.model.proofs.Maps.Tables.{mapTable, live-below, rule-at}
-use Rattle.model.proofs.Layers.Sheet.{sheet-live}
+use Rattle.model.proofs.Maps.Dim.{two-cases}
+use Rattle.model.proofs.Layers.Sheet.{sheet-least, sheet-live}
 use Rattle.model.proofs.Layers.Cut.{slot-low}
 use Rattle.model.proofs.Layers.Halved.{sheetDarts, newSlots, newOf, darts-rising, split-lowest, split-links, split-stays, split-filled}
 use Rattle.model.proofs.Layers.Halved.{split-keeps, new-in-slot}
 use Rattle.journal.specs.Passes.{OneLink, FourLinks}
-use Rattle.call_split.specs.News.{News, NewLinks}
+use Rattle.call_split.specs.News.{News, Role, NewLinks}
 use Rattle.call_split.specs.Drafting.{Listed}
-use Rattle.call_split.proofs.Fronts.{front-size, word-at, word-in, words-rise, word-place}
+use Rattle.call_split.proofs.Ones.{ones-few}
+use Rattle.call_split.proofs.Fronts.{Front, word-at, word-in, words-rise, word-place}
 
 module _ {n : ℕ} {t : List ℕ} {d : ℕ} {darts fresh places : List ℕ} {size : ℕ} (L : Listed n t d darts fresh places size) where
   abbrev S : List ℕ
@@ -36,10 +38,16 @@ module _ {n : ℕ} {t : List ℕ} {d : ℕ} {darts fresh places : List ℕ} {siz
   abbrev u : List ℕ
   u = splitTable n t d
 
+  old-front : Front size darts (sheetDarts n t d)
+  old-front = record { front = L .old; long = L .long; up = darts-rising n t d }
+
+  new-front : Front (n * size) fresh (newSlots n t d)
+  new-front = record { front = L .new; long = L .room; up = split-lowest (L .splits) .rising }
+
   -- ---- the darts of S
 
   pub dart-marked : (k : ℕ) → k < size → Marked S (getD darts k 0)
-  dart-marked k low = ones-of S _ (word-in (L .old) (L .long) (darts-rising n t d) k low)
+  dart-marked k low = ones-of S _ (word-in old-front k low)
 
   pub dart-live : (k : ℕ) → k < size → live t (getD darts k 0) ≡ true
   dart-live k low = sheet-live (L .splits .dart) _ (dart-marked k low)
@@ -48,15 +56,15 @@ module _ {n : ℕ} {t : List ℕ} {d : ℕ} {darts fresh places : List ℕ} {siz
   dart-inside k low = live-below (mapTable B) _ (dart-live k low)
 
   pub darts-rise : (k j : ℕ) → k < j → j < size → getD darts k 0 < getD darts j 0
-  darts-rise = words-rise (L .old) (L .long) (darts-rising n t d)
+  darts-rise = words-rise old-front
 
   pub dart-place : (x : ℕ) → Marked S x → (k : ℕ) × (k < size) × (getD darts k 0 ≡ x)
-  dart-place x m = word-place (L .old) (L .long) (darts-rising n t d) x (ones-in S x m)
+  dart-place x m = word-place old-front x (ones-in S x m)
 
   -- ---- the new darts
 
   pub new-in : (k : ℕ) → k < n * size → In (getD fresh k 0) (newSlots n t d)
-  new-in = word-in (L .new) (L .room) (split-lowest (L .splits) .rising)
+  new-in = word-in new-front
 
   pub new-dead : (k : ℕ) → k < n * size → live t (getD fresh k 0) ≡ false
   new-dead k low = split-lowest (L .splits) .vacant .dead _ (new-in k low)
@@ -65,10 +73,10 @@ module _ {n : ℕ} {t : List ℕ} {d : ℕ} {darts fresh places : List ℕ} {siz
   new-inside k low = split-lowest (L .splits) .vacant .inside _ (new-in k low)
 
   pub news-rise : (k j : ℕ) → k < j → j < n * size → getD fresh k 0 < getD fresh j 0
-  news-rise = words-rise (L .new) (L .room) (split-lowest (L .splits) .rising)
+  news-rise = words-rise new-front
 
   pub new-place : (x : ℕ) → In x (newSlots n t d) → (k : ℕ) × (k < n * size) × (getD fresh k 0 ≡ x)
-  new-place = word-place (L .new) (L .room) (split-lowest (L .splits) .rising)
+  new-place = word-place new-front
 
   -- a dart of S is none of them
   pub dart-new : (k l : ℕ) → k < size → l < n * size → getD darts k 0 ≢ getD fresh l 0
@@ -81,7 +89,7 @@ module _ {n : ℕ} {t : List ℕ} {d : ℕ} {darts fresh places : List ℕ} {siz
       let k = indexOf g (ones S) in
       let low = index-in (ones S) g i in
       let number = L .number in
-      let at : getD darts k 0 ≡ g = word-at (L .old) (L .long) (darts-rising n t d) k 0 (omega arith) ∙ getD-index (ones S) g 0 i in
+      let at : getD darts k 0 ≡ g = word-at old-front k 0 (omega arith) ∙ getD-index (ones S) g 0 i in
       (omega arith, ap (λ (y : ℕ). getD places y 0) (sym at) ∙ L .place k (omega arith))
 
   pub news : News n t d fresh places
@@ -99,13 +107,24 @@ module _ {n : ℕ} {t : List ℕ} {d : ℕ} {darts fresh places : List ℕ} {siz
         let (low, at) = place-of g m in
         let few = slot-low n (B .dim) (indexOf g (ones S)) size r low b in
         ap (λ (k : ℕ). getD fresh (k + r) 0) at
-        ∙ word-at (L .new) (L .room) (split-lowest (L .splits) .rising) (n * indexOf g (ones S) + r) unused few;
+        ∙ word-at new-front (n * indexOf g (ones S) + r) unused few;
   }
 
   -- the new dart r of the i-th dart
   pub new-dart-at : (i r : ℕ) → i < size → r < n → getD fresh (n * i + r) 0 ≡ newOf n t d r (getD darts i 0)
   new-dart-at i r low b =
       ap (λ (k : ℕ). getD fresh (k + r) 0) (sym (L .place i low)) ∙ news .new r (getD darts i 0) b (dart-marked i low)
+
+  pub new-few : (i r : ℕ) → i < size → r < n → (n * i + r < n * size) × (n * size ≤ 196608)
+  new-few i r low b =
+      let number = L .number in
+      let most = ones-few S 0 in
+      let long = sheet-least (L .splits .dart) .long in
+      let few = B .few in
+      (slot-low n (B .dim) i size r low b, two-cases n (B .dim) (λ n. n * size ≤ 196608) (omega arith) (omega arith))
+
+  pub role-at : (i r : ℕ) → i < size → r < n → Role n t d fresh places r (getD darts i 0)
+  role-at i r low b = record { news = news; low = b; dart = dart-marked i low }
 
   -- ---- the changes
 

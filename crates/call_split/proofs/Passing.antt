@@ -1,6 +1,6 @@
 -- The pass along the two lists that drafts the record of split: it begins (`draft-none`), comes to a dart of S (`draft-dart`,
 -- `draft-dart-more`) or to a new one (`draft-new`, `draft-new-more`), and ends (`draft-all`).
-use Prim.Native.Nat.{ℕ, _+_, _*_, _≤_, _<_}
+use Prim.Native.Nat.{ℕ, _+_, _-_, _*_, _≤_, _<_}
 use mathlib.Core.Path.{_≡_, refl, sym, ap, _∙_}
 use mathlib.Core.List.{List}
 use native.Mathlib.Omega.{arith}
@@ -13,7 +13,7 @@ use Rattle.model.proofs.Layers.Halved.{split-stays, split-length}
 use Rattle.journal.specs.Records.{drafted}
 use Rattle.journal.specs.Passes.{Pass}
 use Rattle.journal.proofs.Passes.{pass-start, pass-over, pass-end, pass-length}
-use Rattle.call_split.specs.Drafting.{Listed, Writing, Parted, Drafting}
+use Rattle.call_split.specs.Drafting.{Listed, Writing, Drafting, DartsMet, NewMet}
 use Rattle.call_split.proofs.Lists.{dart-inside, darts-rise, dart-place, new-inside, news-rise, new-place, dart-new}
 
 module _ {n : ℕ} {t : List ℕ} {d : ℕ} {darts fresh places : List ℕ} {size : ℕ} {j : List ℕ}
@@ -96,7 +96,7 @@ module _ {n : ℕ} {t : List ℕ} {d : ℕ} {darts fresh places : List ℕ} {siz
 
     -- ---- the next is a new dart
 
-    new-next : q < n * size → New (getD fresh q 0)
+    pub new-next : q < n * size → New (getD fresh q 0)
     new-next low k on few =
         if-eq k q (λ e. let same = ap (λ (i : ℕ). getD fresh i 0) e in omega arith)
         (λ e. let up = news-rise L q k (omega arith) few in omega arith)
@@ -135,7 +135,17 @@ module _ {n : ℕ} {t : List ℕ} {d : ℕ} {darts fresh places : List ℕ} {siz
       };
     }
 
+    pub new-met : q < n * size → (p < size → getD fresh q 0 ≤ getD darts p 0) → (o first : ℕ) → o ≤ p → (at′ : ℕ) (w′ : List ℕ)
+        → Pass t (splitTable n t d) j (getD fresh q 0 + 1) at′ w′ → at′ ≡ first + (3 * (p - o) + 12)
+        → NewMet n t d darts fresh places size j o q first p w′
+    new-met low next o first on at′ w′ P word = record { on = on; draft = rw (← word) (draft-new-more low next at′ w′ P) }
+
     -- ---- the end
+
+    -- of the darts of S below x, from the o-th on, whose first triple is at the word `first`
+    pub darts-met : (o first x : ℕ) → o ≤ p → at ≡ first + 3 * (p - o) → (p < size → x ≤ getD darts p 0)
+        → DartsMet n t d darts fresh places size j o q first x p w
+    darts-met o first x on word next = record { on = on; draft = rw (← word) D; next = next }
 
     pub draft-all : size ≤ p → n * size ≤ q → w ≡ drafted j (changesFrom 0 t (splitTable n t d))
     draft-all old new =

@@ -42,7 +42,7 @@ pub record Parted (size : ℕ) (words : List ℕ) (p x : ℕ) : Type 0 where
 
 -- it has met p darts of S and q new ones, and its next triple is at the word `at`
 pub record Drafting (n : ℕ) (t : List ℕ) (d : ℕ) (darts fresh places : List ℕ) (size : ℕ) (j : List ℕ) (p q at : ℕ) (w : List ℕ)
-  : Type 0
+    : Type 0
   where
     pub writing : Writing n t d darts fresh places size j
     pub from : ℕ
@@ -62,7 +62,7 @@ pub record ToDarts (t darts fresh places : List ℕ) (size p at x : ℕ) (w : Li
 
 -- the darts of S below x are met: r are behind the pass
 pub record DartsMet (n : ℕ) (t : List ℕ) (d : ℕ) (darts fresh places : List ℕ) (size : ℕ) (j : List ℕ) (p q at x r : ℕ) (w : List ℕ)
-  : Type 0
+    : Type 0
   where
     pub on : p ≤ r
     pub draft : Drafting n t d darts fresh places size j r q (at + 3 * (r - p)) w
@@ -78,7 +78,7 @@ pub record ToNew (n : ℕ) (t darts fresh places : List ℕ) (size p at i r : �
 
 -- the new dart is met, and before it r darts of S
 pub record NewMet (n : ℕ) (t : List ℕ) (d : ℕ) (darts fresh places : List ℕ) (size : ℕ) (j : List ℕ) (p q at r : ℕ) (w : List ℕ)
-  : Type 0
+    : Type 0
   where
     pub on : p ≤ r
     pub draft : Drafting n t d darts fresh places size j r (q + 1) (at + (3 * (r - p) + 12)) w

@@ -177,7 +177,14 @@ fn write_darts(
         if g >= x {
             return k;
         }
-        journal::write_link(journal, v, g, 0, link_in(table, 0, g), new_dart(fresh, places, 0, g));
+        journal::write_link(
+            journal,
+            v,
+            g,
+            0,
+            link_in(table, 0, g),
+            new_dart(fresh, places, 0, g),
+        );
         k += 1;
         v += 3;
     }
