@@ -123,6 +123,11 @@ module _ {n : ℕ} {t : List ℕ} {d : ℕ} {darts fresh places : List ℕ} {siz
       let few = B .few in
       (slot-low n (B .dim) i size r low b, two-cases n (B .dim) (λ n. n * size ≤ 196608) (omega arith) (omega arith))
 
+  -- behind the last role of a dart the first of the next one
+  pub new-next-dart : (i r : ℕ) → r + 1 ≡ n → n * i + r + 1 ≡ n * (i + 1) + 0
+  new-next-dart = two-cases n (B .dim) (λ n. (i r : ℕ) → r + 1 ≡ n → n * i + r + 1 ≡ n * (i + 1) + 0)
+      (λ i r e. omega arith) (λ i r e. omega arith)
+
   pub role-at : (i r : ℕ) → i < size → r < n → Role n t d fresh places r (getD darts i 0)
   role-at i r low b = record { news = news; low = b; dart = dart-marked i low }
 

@@ -57,6 +57,9 @@ module _ {n : ℕ} {t : List ℕ} {d : ℕ} {darts fresh places : List ℕ} {siz
     pub draft-length : length w ≡ length j
     draft-length = pass-length (D .pass) (D .inside)
 
+    pub draft-same : (q′ : ℕ) → q ≡ q′ → Drafting n t d darts fresh places size j p q′ at w
+    draft-same q′ e = rw e at D
+
     -- ---- the next is a dart of S
 
     dart-next : p < size → Old (getD darts p 0)
