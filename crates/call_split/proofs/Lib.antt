@@ -1,4 +1,5 @@
 pub mod Ones
+pub mod Room
 pub mod Roles
 pub mod Placing
 pub mod Fronts
