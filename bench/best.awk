@@ -1,5 +1,11 @@
 # best.awk - of several runs of bench the least time of each measurement, yardstick and kernel alike; prints what bench prints.
 /^#/ || /^worst/ || /^geometric/ { next }
+$1 == "refusal" {
+    if (!($2 in refused)) { refusal[++refusals] = $2; refused[$2] = $3; refused_test[$2] = $4 }
+    if ($3 < refused[$2]) refused[$2] = $3
+    if ($4 < refused_test[$2]) refused_test[$2] = $4
+    next
+}
 $1 == "growth" { key = $2 " " $3; if (!(key in live)) growth[++grows] = key; live[key] = $6; next }
 NF == 6 {
     key = $1 " " $2 " " $3
@@ -19,6 +25,13 @@ END {
         sum += log(ratio)
         if (ratio > worst) { worst = ratio; worst_key = key }
     }
+    print "# room call dim slots: the kernel's time where the journal just has room, over its time where it is large"
+    for (x = 1; x <= lines; x++) {
+        key = line[x]
+        if (sub(/-just-room /, " ", key)) printf "room %s %.2f\n", key, test[line[x]] / test[key]
+    }
+    print "# refusal call yardstick_ns kernel_ns: n = 9"
+    for (x = 1; x <= refusals; x++) printf "refusal %s %.1f %.1f\n", refusal[x], refused[refusal[x]], refused_test[refusal[x]]
     print "# growth call dim yardstick kernel live: time at 65k over time at 8k, over live darts; 1 is linear"
     for (x = 1; x <= grows; x++) {
         key = growth[x]

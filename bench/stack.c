@@ -1,5 +1,5 @@
 /* stack.c - how much stack each call takes: it runs on a stack that was filled with a pattern, and
- * the deepest byte that changed tells. The maps are the largest there are, n = 2 and n = 3. */
+ * the deepest byte that changed tells. One line per call and map, `stack call dim slots bytes`. */
 #define _POSIX_C_SOURCE 200112L
 #include <pthread.h>
 #include <stdio.h>
@@ -46,39 +46,47 @@ static size_t taken(void *(*run)(void *), request *q)
     return STACK - untouched;
 }
 
-static void measure(enum call call, uint32_t n, uint32_t i, uint32_t d, uint32_t e)
+static void measure(enum call call, uint32_t n, uint32_t slots, uint32_t i, uint32_t d, uint32_t e)
 {
-    request q = {call, n, table, MAX_ENTRIES, marks, MAX_SLOTS, journal, MAX_JOURNAL,
+    request q = {call, n, table, 4 * (size_t)slots, marks, slots, journal, MAX_JOURNAL,
                  i, 2, d, e, 0};
     request none = q;
     size_t base = taken(nothing, &none);
     size_t whole = taken(one_call, &q);
-    printf("stack %s %u %zu number %u\n", call_name[call], n, whole - base, q.i);
+    printf("stack %s %u %u %zu number %u\n", call_name[call], n, slots, whole - base, q.i);
+}
+
+/* Each call on a grid that leaves at least half of the slots unused. */
+static void measure_all(uint32_t n, const uint32_t grid[3], uint32_t slots)
+{
+    map_grid(n, grid, table, slots);
+    journal[0] = journal[1] = 2;
+    measure(CHECK, n, slots, 0, 0, 0);
+    measure(ORBIT, n, slots, 0, 0, 0);
+    measure(SHEET, n, slots, 0, 0, 0);
+    measure(SPLIT, n, slots, 0, 0, 0);
+    measure(UNDO, n, slots, 0, 0, 0);
+    measure(REDO, n, slots, 0, 0, 0);
+    measure(REMOVE, n, slots, 0, 0, 0);
+    measure(ADD, n, slots, 0, 0, 0);
+    uint32_t place, count, d, e;
+    request q = {ADD, n, table, 4 * (size_t)slots, marks, slots, journal, MAX_JOURNAL,
+                 0, 0, 0, 0, 0};
+    run_test(&q, &place, &count);
+    d = place;
+    run_test(&q, &place, &count);
+    e = place;
+    measure(SEW, n, slots, n, d, e);
+    measure(UNSEW, n, slots, n, d, 0);
 }
 
 int main(void)
 {
-    for (uint32_t n = 2; n <= 3; n++) {
-        uint32_t half[3] = {n == 2 ? 64 : 8, n == 2 ? 64 : 8, n == 2 ? 1 : 8};
-        map_grid(n, half, table, MAX_SLOTS);
-        journal[0] = journal[1] = 2;
-        measure(CHECK, n, 0, 0, 0);
-        measure(ORBIT, n, 0, 0, 0);
-        measure(SHEET, n, 0, 0, 0);
-        measure(SPLIT, n, 0, 0, 0);
-        measure(UNDO, n, 0, 0, 0);
-        measure(REDO, n, 0, 0, 0);
-        measure(REMOVE, n, 0, 0, 0);
-        measure(ADD, n, 0, 0, 0);
-        uint32_t place, count, d, e;
-        request q = {ADD, n, table, MAX_ENTRIES, marks, MAX_SLOTS, journal, MAX_JOURNAL,
-                     0, 0, 0, 0, 0};
-        run_test(&q, &place, &count);
-        d = place;
-        run_test(&q, &place, &count);
-        e = place;
-        measure(SEW, n, n, d, e);
-        measure(UNSEW, n, n, d, 0);
-    }
+    static const struct { uint32_t n, grid[3], slots; } maps[] = {
+        {2, {1, 1, 1}, 24}, {2, {8, 16, 1}, 2048}, {2, {64, 64, 1}, 65536},
+        {3, {2, 3, 3}, 2048}, {3, {8, 8, 8}, 65536},
+    };
+    for (size_t x = 0; x < sizeof maps / sizeof maps[0]; x++)
+        measure_all(maps[x].n, maps[x].grid, maps[x].slots);
     return 0;
 }

@@ -17,11 +17,12 @@ use numbering::corners;
 use numbering::next_order;
 use numbering::next_vertex;
 use numbering::place;
+use reading::LARGE;
+use reading::MIDDLE;
+use reading::SMALL;
+use reading::UNUSED;
 use reading::link_in;
 use reading::slots;
-
-// The entry of an unused slot.
-const UNUSED: u32 = 4294967295;
 
 // The dart at the place of a vertex in an axis order.
 fn dart_at(n: u32, cell: &[u32], order: u32, vertex: u32) -> u32
@@ -306,17 +307,34 @@ fn first_wrong(n: u32, table: &[u32], seen: &mut [u8]) -> u32
     end
 }
 
-// The least live slot in a wrong cell, or the number of slots. A small table does not pay for marks of 65,536 slots.
+// The least live slot in a wrong cell of a larger table, or the number of slots. As it calls itself it has a stack frame of its own,
+// which small tables do not pay for; the table fits, so it never does.
+fn least_wrong_large(n: u32, table: &[u32]) -> u32
+    requires { ⌜ (dimOk n ≡ pass) × (tableOk (now table) ≡ pass) × (isMap n (now table) ≡ true) ⌝ }
+    ensures { λ r. ⌜ r ≡ leastWrong n (now (table .entry)) ⌝ }
+{
+    if !reading::table_fits(table) {
+        least_wrong_large(n, table);
+        return 0;
+    }
+    if table.len() <= 4 * MIDDLE {
+        let mut seen = [0u8; MIDDLE];
+        return first_wrong(n, table, &mut seen);
+    }
+    let mut seen = [0u8; LARGE];
+    first_wrong(n, table, &mut seen)
+}
+
+// The least live slot in a wrong cell, or the number of slots.
 pub fn least_wrong(n: u32, table: &[u32]) -> u32
     requires { ⌜ (dimOk n ≡ pass) × (tableOk (now table) ≡ pass) × (isMap n (now table) ≡ true) ⌝ }
     ensures { λ r. ⌜ r ≡ leastWrong n (now (table .entry)) ⌝ }
 {
-    if table.len() <= 32768 {
-        let mut seen = [0u8; 8192];
+    if table.len() <= 4 * SMALL {
+        let mut seen = [0u8; SMALL];
         return first_wrong(n, table, &mut seen);
     }
-    let mut seen = [0u8; 65536];
-    first_wrong(n, table, &mut seen)
+    least_wrong_large(n, table)
 }
 
 // Whether the map is a block map.

@@ -3,3 +3,4 @@ pub mod Rules
 pub mod Neighbours
 pub mod Lowest
 pub mod Four
+pub mod Clear

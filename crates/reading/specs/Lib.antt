@@ -3,3 +3,4 @@ pub mod Near
 pub mod RuleOf
 pub mod Lowest
 pub mod Four
+pub mod Clear

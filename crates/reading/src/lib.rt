@@ -1,8 +1,10 @@
 // Reading the table: links, live and unused slots, the rules of a map, which of them a slot breaks, and the checks 1, 2 and 4.
 pub use broken::Rule;
 pub use broken::breaking_link;
+pub use marks::skip_clear;
 
 mod broken;
+mod marks;
 
 ghost use mathlib.Core.Path.{_≡_};
 ghost use mathlib.Core.List.{[], _∷_};
@@ -19,6 +21,13 @@ ghost use Rattle.reading.specs.Near.{turned, nearRules, keepsNear, Row, 
 
 // The entry of an unused slot.
 pub const UNUSED: u32 = 4294967295;
+
+// Sizes of buffers, in slots. No table has more slots than a large one has room for; a smaller one does not pay for clearing it.
+pub const SMALL: usize = 2048;
+
+pub const MIDDLE: usize = 16384;
+
+pub const LARGE: usize = 65536;
 
 // Whether check 1 passes.
 pub fn dim_fits(n: u32) -> bool

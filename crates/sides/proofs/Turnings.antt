@@ -1,5 +1,5 @@
 -- The record of marked darts that link i sews or frees: what happens at a slot (`marked-one`, `unmarked-stays`), and the pass from
--- `turn-start` by `turn-more` to `turn-end`.
+-- `turn-start` by `turn-more` and over slots that are `Skipped` to `turn-end`.
 use Prim.Native.Nat.{ℕ, _+_, _*_, _≤_, _<_}
 use mathlib.Core.Path.{_≡_, refl, sym, ap, _∙_}
 use mathlib.Core.Logic.{_≢_}
@@ -11,9 +11,10 @@ use Rattle.model.specs.Table.{slots, link}
 use Rattle.model.specs.Journal.{cursor, changesFrom}
 use Rattle.model.specs.Meaning.Sets.{Marked}
 use Rattle.model.proofs.Lists.Scan.{if-eq}
+use Rattle.reading.specs.Clear.{Clear, Skips}
 use Rattle.journal.specs.Records.{drafted}
 use Rattle.journal.specs.Passes.{Pass, OneLink}
-use Rattle.journal.proofs.Passes.{pass-start, pass-stays, pass-word, pass-length, pass-end}
+use Rattle.journal.proofs.Passes.{pass-start, pass-stays, pass-over, pass-word, pass-length, pass-end}
 use Rattle.sides.specs.Marked.{Freed, before, after, Turning, Turn}
 
 slots-same : (t v : List ℕ) → length v ≡ length t → slots v ≡ slots t
@@ -89,6 +90,15 @@ module _ {sews : Bool} {t v m : List ℕ} {i : ℕ} {j : List ℕ} where
       pass = pass-stays (T .pass) (omega arith) (unmarked-stays (T .freed) x inside sews out);
     }
 
+    -- over slots that are not marked
+    pub turn-over : (y : ℕ) → x ≤ y → y ≤ slots t → Clear m x y → Turn sews t v m i j y at w
+    turn-over y low high clear = let same = slots-before (T .freed) sews in record {
+      freed = T .freed;
+      few = T .few;
+      pass = pass-over (T .pass) y low (omega arith)
+          (λ z after before. unmarked-stays (T .freed) z (omega arith) sews (λ h. let zero = clear z after before in omega arith));
+    }
+
     pub turn-more : {at′ : ℕ} {w′ : List ℕ} → Pass (before sews t v) (after sews t v) j (x + 1) at′ w′
         → Turn sews t v m i j (x + 1) at′ w′
     turn-more P = record { freed = T .freed; few = T .few; pass = P }
@@ -98,3 +108,20 @@ module _ {sews : Bool} {t v m : List ℕ} {i : ℕ} {j : List ℕ} where
   turn-end T {at} {w} P =
       let all = rw (← slots-before (T .freed) sews) at (P .pass) in
       pass-end all (T .rule) _ refl .draft
+
+-- ---- slots skipped
+
+-- the pass has met the slots below y, and none from there to before x is marked
+pub record Skipped (sews : Bool) (t v m : List ℕ) (i : ℕ) (j : List ℕ) (x at : ℕ) (w : List ℕ) : Type 0 where
+  pub y : ℕ
+  pub inside : y ≤ slots t
+  pub skips : Skips m y x
+  pub turn : Turn sews t v m i j y at w
+
+module _ {sews : Bool} {t v m : List ℕ} {i : ℕ} {j : List ℕ} {x at : ℕ} {w : List ℕ} (S : Skipped sews t v m i j x at w) where
+  pub skipped-here : x ≤ slots t → Turn sews t v m i j x at w
+  skipped-here high = turn-over (S .turn) x (S .skips .onward) high (S .skips .clear)
+
+  pub skipped-all : slots t ≤ x → Turn sews t v m i j (slots t) at w
+  skipped-all high =
+      turn-over (S .turn) (slots t) (S .inside) (omega arith) (λ z low below. S .skips .clear z low (omega arith))

@@ -16,7 +16,15 @@ fn pick(holds: bool, x: u32, y: u32) -> u32
 
 // A pass of that record comes to the slot x, with the next triple at the word w: where x is marked, the triple is written; the word of
 // the next one.
-fn write_turn(table: &[u32], journal: &mut [u32], marks: &[u8], i: u32, sews: bool, w: usize, x: u32) -> usize
+fn write_turn(
+    table: &[u32],
+    journal: &mut [u32],
+    marks: &[u8],
+    i: u32,
+    sews: bool,
+    w: usize,
+    x: u32,
+) -> usize
     requires { ⌜ ToTurn sews (now table) (now marks) i x w (now journal) ⌝ }
     ensures { λ r. ⌜ ((v j : List ℕ) → Turn sews (now (table .entry)) v (now (marks .entry)) i j x w (now (journal .entry))
         → Turn sews (now (table .entry)) v (now (marks .entry)) i j (x + 1) r (now (journal .exit))) ⌝ }
@@ -37,9 +45,11 @@ pub fn write_marked(table: &[u32], journal: &mut [u32], marks: &[u8], i: u32, se
         → now (journal .exit) ≡ drafted (now (journal .entry))
         (changesFrom 0 (before sews (now (table .entry)) v) (after sews (now (table .entry)) v))) ⌝ }
 {
-    let end = (table.len() / 4) as u32;
+    let end = table.len() / 4;
     let mut w = journal[0] as usize + 2;
-    for x in 0..end {
-        w = write_turn(table, journal, marks, i, sews, w, x);
+    let mut x = reading::skip_clear(marks, 0);
+    while x < end {
+        w = write_turn(table, journal, marks, i, sews, w, x as u32);
+        x = reading::skip_clear(marks, x + 1);
     }
 }

@@ -1,10 +1,13 @@
--- `cells::least_wrong` meets its contract: either list has a 0 for each slot.
+-- `cells::least_wrong` meets its contract: the list has a 0 for each slot, or the table is larger.
 use native.Mathlib.Omega.{arith}
 use borrow.Author.Needs.{needs}
 use lib.ListN.{getD-replicate}
 use Rattle.model.proofs.Calls.Pass.{table-pass}
 use Rattle.cells.proofs.least_wrong.Statement.{statement}
 use Rattle.cells.proofs.least_wrong.Tie as tie
+
+mul-if1 : tie.Need-mul-if1
+mul-if1 c = search needs
 
 slice-aggregate-first-wrong : tie.Need-slice-aggregate-first-wrong
 slice-aggregate-first-wrong c = search needs
@@ -14,19 +17,13 @@ first-wrong-requires c κs =
     let p = c .before .before .before .pre in
     let sized = table-pass _ (p .1) in
     let small = c .before .if1 .taken in
-    (p, (omega arith, λ k l. getD-replicate 8192 k 0 0 (omega arith)))
+    (p, (omega arith, λ k l. getD-replicate 2048 k 0 0 (omega arith)))
 
 returns : tie.Need-returns
 returns c = search needs
 
-slice-aggregate-first-wrong-2 : tie.Need-slice-aggregate-first-wrong-2
-slice-aggregate-first-wrong-2 c = search needs
-
-first-wrong-requires-2 : tie.Need-first-wrong-requires-2
-first-wrong-requires-2 c κs =
-    let p = c .before .before .before .pre in
-    let sized = table-pass _ (p .1) in
-    (p, (omega arith, λ k l. getD-replicate 65536 k 0 0 (omega arith)))
+least-wrong-large-requires : tie.Need-least-wrong-large-requires
+least-wrong-large-requires c κs = search needs
 
 returns-2 : tie.Need-returns-2
 returns-2 c = search needs
@@ -35,9 +32,9 @@ pub least-wrong-spec : {M : Type 1} → statement M
 least-wrong-spec =
     tie.close
     (tie.spec
+    mul-if1
     slice-aggregate-first-wrong
     first-wrong-requires
     returns
-    slice-aggregate-first-wrong-2
-    first-wrong-requires-2
+    least-wrong-large-requires
     returns-2)

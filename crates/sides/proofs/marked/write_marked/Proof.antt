@@ -1,35 +1,25 @@
--- `sides::write_marked` meets its contract. The loop's invariant: the slots below x are met.
-use Prim.Native.Nat.{ℕ, _-_, _≤_}
-use mathlib.Core.Path.{_≡_, refl, sym, ap, _∙_}
+-- `sides::write_marked` meets its contract. The loop's invariant: the slots below x are met, or skipped.
+use Prim.Native.Nat.{ℕ, _+_, _-_}
+use mathlib.Core.Path.{_≡_, refl}
 use mathlib.Core.List.{List}
 use native.Mathlib.Omega.{arith}
-use lib.ListN.{length}
-use borrow.Author.Needs.{needs}
 use Rattle.model.specs.Table.{slots}
 use Rattle.model.specs.Journal.{cursor}
-use Rattle.sides.specs.Marked.{Turning, Turn}
-use Rattle.sides.proofs.Turnings.{turn-start, turn-length, turn-end}
+use Rattle.sides.specs.Marked.{Turning}
+use Rattle.sides.proofs.Turnings.{turn-start, turn-length, turn-end, Skipped, skipped-here, skipped-all}
 use Rattle.sides.proofs.marked.write_marked.Statement.{statement}
 use Rattle.sides.proofs.marked.write_marked.Tie as tie
 
 abbrev Inv-loop : tie.InvT-loop
 Inv-loop table journal₀ marks i sews end w₀ x₀ journal w x =
-    (x ≤ end) × (end ≡ slots table)
-    × ((v : List ℕ) → Turning sews table v marks i journal₀ → Turn sews table v marks i journal₀ x w journal)
+    (end ≡ slots table) × ((v : List ℕ) → Turning sews table v marks i journal₀ → Skipped sews table v marks i journal₀ x w journal)
 
 abbrev μ-loop : tie.MeasureT-loop
 μ-loop table journal₀ marks i sews end w₀ x₀ journal w x = end - x
 
 -- the function's entry, from where the loop stands
 abbrev start : tie.At-loop Inv-loop μ-loop → tie.Start Inv-loop μ-loop
-start l = l .before .before .before .before .before
-
-cast-end : tie.Need-cast-end Inv-loop μ-loop
-cast-end c =
-    let F = c .before .before .before .pre .is .freed in
-    let fits = F .fits in
-    let few = F .few in
-    omega arith
+start l = l .before .before .before .before .before .before
 
 slice-read-w : tie.Need-slice-read-w Inv-loop μ-loop
 slice-read-w c = let long = c .before .before .before .before .pre .is .rule .long in omega arith
@@ -40,43 +30,81 @@ cast-w c = omega (arith, c .slice-known2 .given 0)
 add-w : tie.Need-add-w Inv-loop μ-loop
 add-w c = omega (arith, c .slice-known2 .given 0)
 
+skip-clear-requires : tie.Need-skip-clear-requires Inv-loop μ-loop
+skip-clear-requires c κs = omega arith
+
 loop-holds : tie.Need-loop-holds Inv-loop μ-loop
 unfolding cursor slots
-loop-holds c = (omega arith, refl, λ v T. turn-start T)
+loop-holds c =
+    (refl, λ v T. record { y = 0; inside = omega arith; skips = c .skip-clear .ensures; turn = turn-start T })
+
+cast-write-turn : tie.Need-cast-write-turn Inv-loop μ-loop
+cast-write-turn c =
+    let l = c .before .before in
+    let few = start l .pre .is .freed .few in
+    let same = l .loop .inv .0 in
+    let low = c .before .loop-test .taken in
+    omega arith
 
 write-turn-requires : tie.Need-write-turn-requires Inv-loop μ-loop
 write-turn-requires c κs =
-    let i = c .before in
-    let l = i .before in
-    let T = start l .pre .is in
-    let same = l .loop .inv .1 in
-    let low = i .loop-test .taken in
-    record { v = _; j = _; turn = l .loop .inv .2 _ T; inside = omega arith }
+    let l = c .before .before in
+    let same = l .loop .inv .0 in
+    let low = c .before .loop-test .taken in
+    record { v = _; j = _; turn = skipped-here (l .loop .inv .1 _ (start l .pre .is)) (omega arith); inside = omega arith }
 
-add-x : tie.Need-add-x Inv-loop μ-loop
-add-x c = search needs
+add-skip-clear : tie.Need-add-skip-clear Inv-loop μ-loop
+add-skip-clear c =
+    let i = c .before .before .before .before in
+    let few = start (i .before) .pre .is .freed .few in
+    let same = i .before .loop .inv .0 in
+    let low = i .loop-test .taken in
+    omega arith
+
+skip-clear-requires-2 : tie.Need-skip-clear-requires-2 Inv-loop μ-loop
+skip-clear-requires-2 c κs =
+    let i = c .before .before .before .before in
+    let wide = start (i .before) .pre .is .freed .wide in
+    let same = i .before .loop .inv .0 in
+    let low = i .loop-test .taken in
+    omega arith
 
 loop-less : tie.Need-loop-less Inv-loop μ-loop
-loop-less c = search needs
+loop-less c =
+    let i = c .before .before .before .before .before in
+    let on = c .skip-clear2 .ensures .onward in
+    let low = i .loop-test .taken in
+    omega arith
 
 loop-again : tie.Need-loop-again Inv-loop μ-loop
 loop-again c =
-    let w = c .before .before in
-    let l = w .before .before .before in
-    (omega arith, l .loop .inv .1, λ v T. w .write-turn .ensures _ _ (l .loop .inv .2 v T))
+    let w = c .before .before .before in
+    let i = w .before .before in
+    let l = i .before in
+    let same = l .loop .inv .0 in
+    let low = i .loop-test .taken in (
+      same,
+      λ v T. record {
+        y = l .loop .x + 1;
+        inside = omega arith;
+        skips = c .skip-clear2 .ensures;
+        turn = w .write-turn .ensures _ _ (skipped-here (l .loop .inv .1 v T) (omega arith));
+      },
+    )
 
 same-length : tie.Need-same-length Inv-loop μ-loop
 same-length c =
     let l = c .before in
-    let same = l .loop .inv .1 in
-    turn-length (l .loop .inv .2 _ (start l .pre .is)) (omega arith)
+    let same = l .loop .inv .0 in
+    let S = l .loop .inv .1 _ (start l .pre .is) in
+    turn-length (S .turn) (S .inside)
 
 returns : tie.Need-returns Inv-loop μ-loop
 returns c =
     let l = c .before in
-    let same = l .loop .inv .1 in
-    let end : l .loop .x ≡ slots (start l .args .table .now) = omega arith in
-    λ v T. turn-end T (rw end at (l .loop .inv .2 v T))
+    let same = l .loop .inv .0 in
+    let high = c .loop-test .left in
+    λ v T. turn-end T (skipped-all (l .loop .inv .1 v T) (omega arith))
 
 pub write-marked-spec : {M : Type 1} → statement M
 write-marked-spec =
@@ -84,13 +112,15 @@ write-marked-spec =
     (tie.spec
     Inv-loop
     μ-loop
-    cast-end
     slice-read-w
     cast-w
     add-w
+    skip-clear-requires
     loop-holds
+    cast-write-turn
     write-turn-requires
-    add-x
+    add-skip-clear
+    skip-clear-requires-2
     loop-less
     loop-again
     same-length
