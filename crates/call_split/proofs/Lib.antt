@@ -5,3 +5,4 @@ pub mod Placing
 pub mod Fronts
 pub mod Lists
 pub mod Passing
+pub mod Ends

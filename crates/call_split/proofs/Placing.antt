@@ -1,6 +1,6 @@
 -- The darts of S, listed one by one with the places of their new darts: `placing-none`, `placing-more`, and where all are listed
 -- (`placing-all`).
-use Prim.Native.Nat.{ℕ, _+_, _*_, _≤_, _<_}
+use Prim.Native.Nat.{ℕ, zero, suc, _+_, _-_, _*_, _≤_, _<_}
 use mathlib.Core.Path.{_≡_, refl, sym, ap, _∙_}
 use mathlib.Core.Logic.{inr}
 use mathlib.Core.Bool.{Bool, true, false}
@@ -9,9 +9,10 @@ use native.Mathlib.Omega.{arith}
 use lib.Dec.{eqb}
 use lib.ListN.{length, getD, take, set, length-set}
 use lib.Seq.{take-all, getD-set-same, getD-set-other}
+use borrow.Author.Tests.{ne-eqb}
 use Rattle.model.specs.Lists.{ones}
 use Rattle.model.proofs.Lists.Scan.{if-eq, if-lt}
-use Rattle.reading.specs.Lowest.{Entered}
+use Rattle.reading.specs.Clear.{Clear, Skips}
 use Rattle.reading.proofs.Lowest.{Listing, listing-none, listing-more, listing-first, entered-few}
 use Rattle.call_split.specs.Sheets.{Enters, Placed}
 
@@ -62,6 +63,12 @@ module _ {n : ℕ} {m : List ℕ} {x r : ℕ} {darts₀ darts places₀ places :
         wide = rw (E .place) (P .wide);
       }
 
+  -- the darts before x have the mark 1; a slot that has not is passed
+  placing-on : x < length m → getD m x 0 ≡ 0 → r < length darts → x < length places → Placing n m (x + 1) r darts₀ darts places₀ places
+  placing-on low clear room known =
+      placing-more false r low (sym (ne-eqb (getD m x 0) 1 (λ e. omega arith))) room known
+      (record { entered = record { size = refl; word = refl }; place = refl })
+
   -- where one is missing, there is a slot left
   pub placing-left : r < length (ones m) → x < length m
   placing-left h = if-lt x (length m) (λ low. low) (λ end.
@@ -76,3 +83,22 @@ module _ {n : ℕ} {m : List ℕ} {x r : ℕ} {darts₀ darts places₀ places :
     long = P .lists .lists .long;
     wide = P .wide;
   }
+
+placing-skips : {n : ℕ} {m : List ℕ} {x r : ℕ} {darts₀ darts places₀ places : List ℕ} (k : ℕ)
+    → Placing n m x r darts₀ darts places₀ places → x + k ≤ length m → Clear m x (x + k) → r < length darts
+    → length m ≤ length places → Placing n m (x + k) r darts₀ darts places₀ places
+placing-skips {x = x} zero P inside clear room wide = let here : x + zero ≡ x = omega arith in rw here P
+placing-skips {x = x} (suc k) P inside clear room wide =
+    let next : x + suc k ≡ x + k + 1 = omega arith in
+    rw next (placing-on (placing-skips k P (omega arith) (λ z low high. clear z low (omega arith)) room wide) (omega arith)
+    (clear (x + k) (omega arith) (omega arith)) room (omega arith))
+
+-- marks that are 0 are passed
+pub placing-over : {n : ℕ} {m : List ℕ} {x y r : ℕ} {darts₀ darts places₀ places : List ℕ}
+    → Placing n m x r darts₀ darts places₀ places → Skips m x y → r < length darts → length m ≤ length places
+    → Placing n m y r darts₀ darts places₀ places
+placing-over {x = x} {y = y} P S room wide =
+    let on = S .onward in
+    let within = S .within in
+    let sum : x + (y - x) ≡ y = omega arith in
+    rw sum at (placing-skips (y - x) P (omega arith) (λ z low high. S .clear z low (omega arith)) room wide)

@@ -2,6 +2,9 @@
 // model's definition of the call.
 use answers::Answer;
 use answers::numbers;
+use reading::LARGE;
+use reading::MIDDLE;
+use reading::SMALL;
 use reading::UNUSED;
 use reading::link_in;
 ghost use mathlib.Core.Path.{_≡_};
@@ -12,7 +15,7 @@ ghost use Rattle.model.specs.Lists.{count, ones};
 ghost use Rattle.model.specs.Table.{slots};
 ghost use Rattle.model.specs.Journal.{changesFrom};
 ghost use Rattle.model.specs.Split.{crosses, splitTable};
-ghost use Rattle.model.specs.Checks.{pass, inOrder, layerChecks};
+ghost use Rattle.model.specs.Checks.{pass, tableOk, inOrder, layerChecks};
 ghost use Rattle.model.specs.Calls.{splitCall};
 ghost use Rattle.model.specs.Meaning.Maps.{Dim};
 ghost use Rattle.journal.specs.Records.{drafted};
@@ -20,6 +23,8 @@ ghost use Rattle.answers.specs.Answers.{outcome};
 ghost use Rattle.call_split.specs.Sheets.{LeadsIn, Enters, Placed};
 ghost use Rattle.model.specs.Table.{link};
 ghost use Rattle.model.proofs.Layers.Halved.{newOf};
+ghost use Rattle.reading.specs.Lowest.{Told};
+ghost use Rattle.call_split.specs.Slots.{SlotsFound};
 ghost use Rattle.call_split.specs.News.{Role, SomeRole, NewLinks};
 ghost use Rattle.call_split.specs.Drafting.{Drafting, ToDarts, DartsMet, ToNew, NewMet, Writing, SomeWriting};
 
@@ -30,12 +35,14 @@ fn crosses(table: &[u32], marks: &[u8]) -> bool
     requires { ⌜ LeadsIn (now table) (now marks) ⌝ }
     ensures { λ r. ⌜ r ≡ crosses (now (table .entry)) (now (marks .entry)) (ones (now (marks .entry))) ⌝ }
 {
-    for x in 0..marks.len() {
+    let mut x = reading::skip_clear(marks, 0);
+    while x < marks.len() {
         if marks[x] == 1 {
             if marks[link_in(table, 1, x as u32) as usize] == 1 {
                 return true;
             }
         }
+        x = reading::skip_clear(marks, x + 1);
     }
     false
 }
@@ -62,9 +69,10 @@ fn list_darts(n: u32, marks: &[u8], darts: &mut [u16], places: &mut [u16], size:
         (now (darts .entry)) (now (darts .exit)) (now (places .entry)) (now (places .exit)) ⌝ }
 {
     let mut r: u32 = 0;
-    let mut x: u32 = 0;
+    let mut x = 0;
     while r < size {
-        r = enter(n, darts, places, r, x, marks[x as usize] == 1);
+        x = reading::skip_clear(marks, x);
+        r = enter(n, darts, places, r, x as u32, marks[x] == 1);
         x += 1;
     }
 }
@@ -252,4 +260,121 @@ fn write_split(
         }
     }
     write_darts(table, journal, darts, fresh, places, size, p, w, UNUSED);
+}
+
+// ---- the call
+
+// Lists the lowest unused slots of a map, `new` of them; whether there are so many. There are not where they are more than half of the
+// slots: as many are live.
+fn find_slots(table: &[u32], fresh: &mut [u16], new: u32) -> bool
+    requires { ⌜ (tableOk (now table) ≡ pass) × (Told (now table)) × (new ≤ 196608) × (slots (now table) ≤ 2 * length (now fresh)) ⌝ }
+    ensures { λ r. ⌜ SlotsFound (now (table .entry)) new (now (fresh .entry)) (now (fresh .exit)) r ⌝ }
+{
+    if 2 * new > reading::slots(table) {
+        return false;
+    }
+    reading::list_unused(table, fresh, new) == new
+}
+
+// split where the checks up to 8 have passed: the new slots have a word for every second slot, which the sheet is found with before,
+// the darts one for every fourth, and each slot has a place.
+fn split_in(
+    n: u32,
+    table: &mut [u32],
+    marks: &mut [u8],
+    journal: &mut [u32],
+    tag: u32,
+    d: u32,
+    fresh: &mut [u16],
+    darts: &mut [u16],
+    places: &mut [u16],
+) -> Answer
+    requires { ⌜ inOrder (layerChecks n (now table) (now marks) (now journal) d) ≡ pass ⌝ }
+    requires { ⌜ (slots (now table) ≤ 2 * length (now fresh)) × (slots (now table) ≤ 4 * length (now darts))
+        × (slots (now table) ≤ length (now places)) ⌝ }
+    ensures { λ r. ⌜ outcome r (now (table .exit)) (now (marks .exit)) (now (journal .exit))
+        ≡ splitCall n (now (table .entry)) (now (marks .entry)) (now (journal .entry)) tag d ⌝ }
+{
+    let size = sheets::sheet(n, table, marks, fresh, d);
+    if crosses(table, marks) {
+        return numbers::CROSSES_ITSELF;
+    }
+    let new = n * size;
+    if !find_slots(table, fresh, new) {
+        return numbers::TOO_FEW_SLOTS;
+    }
+    let changes = (4 * n + 1) * size;
+    if !journal::record_fits(journal, changes) {
+        return numbers::NO_ROOM;
+    }
+    list_darts(n, marks, darts, places, size);
+    write_split(n, table, journal, darts, fresh, places, size);
+    journal::carry_out(table, journal, changes, tag);
+    Answer {
+        number: 0,
+        place: fresh[0] as u32,
+        count: new,
+    }
+}
+
+// split on a larger table, where the checks up to 8 have passed. As it calls itself it has a stack frame of its own, which small tables
+// and refusals do not pay for; the table fits, so it never does.
+fn split_large(
+    n: u32,
+    table: &mut [u32],
+    marks: &mut [u8],
+    journal: &mut [u32],
+    tag: u32,
+    d: u32,
+) -> Answer
+    requires { ⌜ inOrder (layerChecks n (now table) (now marks) (now journal) d) ≡ pass ⌝ }
+    ensures { λ r. ⌜ outcome r (now (table .exit)) (now (marks .exit)) (now (journal .exit))
+        ≡ splitCall n (now (table .entry)) (now (marks .entry)) (now (journal .entry)) tag d ⌝ }
+{
+    if !reading::table_fits(table) {
+        split_large(n, table, marks, journal, tag, d);
+        return numbers::WRONG_TABLE_LENGTH;
+    }
+    if table.len() <= 4 * MIDDLE {
+        let mut fresh = [0u16; MIDDLE / 2];
+        let mut darts = [0u16; MIDDLE / 4];
+        let mut places = [0u16; MIDDLE];
+        return split_in(n, table, marks, journal, tag, d, &mut fresh, &mut darts, &mut places);
+    }
+    let mut fresh = [0u16; LARGE / 2];
+    let mut darts = [0u16; LARGE / 4];
+    let mut places = [0u16; LARGE];
+    split_in(n, table, marks, journal, tag, d, &mut fresh, &mut darts, &mut places)
+}
+
+// "each g in S, rising, gets new darts a, b (for n = 3 also c) in the lowest unused slots in that order." "Place: first new
+// slot. Count: darts added."
+pub fn split(
+    n: u32,
+    table: &mut [u32],
+    marks: &mut [u8],
+    journal: &mut [u32],
+    tag: u32,
+    d: u32,
+) -> Answer
+    ensures { λ r. ⌜ outcome r (now (table .exit)) (now (marks .exit)) (now (journal .exit))
+        ≡ splitCall n (now (table .entry)) (now (marks .entry)) (now (journal .entry)) tag d ⌝ }
+{
+    let opened = answers::opening_layer(
+        n,
+        table,
+        marks.len() == table.len() / 4,
+        reading::journal_fits(journal),
+        d,
+    );
+    if opened.number != 0 {
+        return opened;
+    }
+    if table.len() <= 4 * SMALL {
+        let mut fresh = [0u16; SMALL / 2];
+        let mut darts = [0u16; SMALL / 4];
+        let mut places = [0u16; SMALL];
+        return split_in(n, table, marks, journal, tag, d, &mut fresh, &mut darts, &mut places);
+    }
+    split_large(n, table, marks, journal, tag, d)
 }

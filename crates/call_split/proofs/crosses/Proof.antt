@@ -1,36 +1,36 @@
 -- `call_split::crosses` meets its contract. The loop's invariant: no dart before x with the mark 1 leads to one.
-use Prim.Native.Nat.{ℕ, _-_, _≤_, _<_}
-use mathlib.Core.Path.{_≡_, refl, sym, ap, _∙_}
+use Prim.Native.Nat.{ℕ, _-_, _<_}
+use mathlib.Core.Path.{sym, ap, _∙_}
 use mathlib.Core.Logic.{⊎-elim}
 use native.Mathlib.Omega.{arith}
 use lib.ListN.{length, getD}
-use borrow.Author.Count.{below-more}
 use borrow.Author.Needs.{needs}
 use Rattle.model.specs.Lists.{ones}
 use Rattle.model.specs.Table.{link}
 use Rattle.model.specs.Split.{crosses}
 use Rattle.model.specs.Meaning.Sets.{Marked}
-use Rattle.model.proofs.Lists.Scan.{test}
+use Rattle.model.proofs.Lists.Scan.{test, if-eq, if-lt}
 use Rattle.model.proofs.Sets.Closure.{marked-in}
 use Rattle.model.proofs.Layers.Sheet.{crosses-some}
+use Rattle.call_split.proofs.Ones.{clear-unmarked}
 use Rattle.call_split.proofs.crosses.Statement.{statement}
 use Rattle.call_split.proofs.crosses.Tie as tie
-use Rattle.call_split.proofs.crosses.Reads as reads
-use Rattle.call_split.proofs.crosses.Lts as lts
 
 abbrev Inv-loop : tie.InvT-loop
-Inv-loop table marks x₀ x-end x =
-    (x ≤ length marks) × (x-end ≡ length marks) × ((k : ℕ) → k < x → Marked marks k → Marked marks (link table 1 k) → ⊥)
+Inv-loop table marks x₀ x = (k : ℕ) → k < x → Marked marks k → Marked marks (link table 1 k) → ⊥
 
 abbrev μ-loop : tie.MeasureT-loop
-μ-loop table marks x₀ x-end x = length marks - x
+μ-loop table marks x₀ x = length marks - x
 
 -- the function's entry, from where the loop stands
 abbrev start : tie.At-loop Inv-loop μ-loop → tie.Start Inv-loop μ-loop
-start l = l .before .before .before
+start l = l .before .before .before .before
+
+skip-clear-requires : tie.Need-skip-clear-requires Inv-loop μ-loop
+skip-clear-requires c κs = search needs
 
 loop-holds : tie.Need-loop-holds Inv-loop μ-loop
-loop-holds c = (omega arith, refl, λ k h. absurd (omega arith))
+loop-holds c k low m q = clear-unmarked (c .skip-clear .ensures) k (omega arith) low m
 
 shared-slice-read-if1 : tie.Need-shared-slice-read-if1 Inv-loop μ-loop
 shared-slice-read-if1 c = search needs
@@ -66,31 +66,39 @@ returns c =
     sym (crosses-some (a .table .now) (a .marks .now) .1
     (l .loop .x, t .if1 .taken, ap (λ (y : ℕ). getD (a .marks .now) y 0) (sym (e .link-in .ensures)) ∙ c .if2 .taken))
 
-add-x : tie.Need-add-x Inv-loop μ-loop
-add-x c = search needs
+add-skip-clear : tie.Need-add-skip-clear Inv-loop μ-loop
+add-skip-clear c = search needs
+
+skip-clear-requires-2 : tie.Need-skip-clear-requires-2 Inv-loop μ-loop
+skip-clear-requires-2 c κs = let low = c .before .before .loop-test .taken in omega arith
 
 loop-less : tie.Need-loop-less Inv-loop μ-loop
-loop-less c = search needs
+loop-less c =
+    let low = c .before .before .before .loop-test .taken in
+    let on = c .skip-clear2 .ensures .onward in
+    omega arith
 
 loop-again : tie.Need-loop-again Inv-loop μ-loop
-loop-again c =
-    let l = c .before .before .before in
-    let a = start l .args in (
-      omega arith,
-      l .loop .inv .1,
-      below-more _ _ (l .loop .inv .2) (λ m q. ⊎-elim
-          (λ w. w .3 .left (ap (λ (y : ℕ). getD (a .marks .now) y 0) (w .1 .ensures) ∙ q)) (λ w. w .left m) (c .if1 .came)),
-    )
+loop-again c k low m q =
+    let l = c .before .before .before .before in
+    let a = start l .args in
+    if-lt k (l .loop .x) (λ b. l .loop .inv k b m q) (λ b.
+    if-eq k (l .loop .x)
+    (λ e. ⊎-elim
+    (λ w. w .3 .left (ap (λ (y : ℕ). getD (a .marks .now) y 0) (w .1 .ensures ∙ ap (link (a .table .now) 1) (sym e)) ∙ q))
+    (λ w. w .left (ap (λ (y : ℕ). getD (a .marks .now) y 0) (sym e) ∙ m)) (c .before .if1 .came))
+    (λ e. clear-unmarked (c .skip-clear2 .ensures) k (omega arith) low m))
 
 returns-2 : tie.Need-returns-2 Inv-loop μ-loop
 returns-2 c =
     let l = c .before in
     let a = start l .args in
-    let end = l .loop .inv .1 in
+    let end = c .loop-test .left in
     sym (test (crosses (a .table .now) (a .marks .now) (ones (a .marks .now)))
-    (λ h. let (g, m, q) = crosses-some (a .table .now) (a .marks .now) .0 h in
+    (λ h.
+    let (g, m, q) = crosses-some (a .table .now) (a .marks .now) .0 h in
     let low = marked-in (a .marks .now) g m in
-    absurd (l .loop .inv .2 g (omega arith) m q))
+    absurd (l .loop .inv g (omega arith) m q))
     (λ h. h))
 
 pub crosses-spec : {M : Type 1} → statement M
@@ -99,6 +107,7 @@ crosses-spec =
     (tie.spec
     Inv-loop
     μ-loop
+    skip-clear-requires
     loop-holds
     shared-slice-read-if1
     cast-link-in
@@ -106,7 +115,8 @@ crosses-spec =
     cast-if2
     shared-slice-read-if2
     returns
-    add-x
+    add-skip-clear
+    skip-clear-requires-2
     loop-less
     loop-again
     returns-2)
