@@ -21,14 +21,12 @@ use Rattle.model.specs.Checks.{refuse, must, andThen, marksOk, inOrder, layerCh
 use Rattle.model.specs.Calls.{refused, commit, splitCall}
 use Rattle.model.specs.Meaning.Maps.{Dim, MapTable}
 use Rattle.model.specs.Meaning.Sets.{Marked}
-use Rattle.model.specs.Meaning.Sheets.{marksOf}
-use Rattle.model.proofs.Lists.Scan.{if-eq}
 use Rattle.model.proofs.Lists.Ones.{index-in, ones-in}
 use Rattle.model.proofs.Sets.Sizes.{length-ones}
 use Rattle.model.proofs.Maps.Dim.{two-cases}
 use Rattle.model.proofs.Maps.Tables.{mapTable, live-below, rule-at}
 use Rattle.model.proofs.Calls.Pass.{must-pass}
-use Rattle.model.proofs.Layers.Sheet.{sheet-own, sheet-least, sheet-live}
+use Rattle.model.proofs.Layers.Sheet.{sheet-own, sheet-live}
 use Rattle.model.proofs.Layers.Marks.{marks-one}
 use Rattle.model.proofs.Layers.Cut.{Splits}
 use Rattle.model.proofs.Layers.Halved.{split-changes, split-length}

@@ -1,12 +1,12 @@
 -- The lists that split writes its record from: the k-th dart of S (`dart-marked`), its new darts (`news`, `new-dart-at`), and how the slots
 -- of both change (`dart-link`, `new-links-change`).
 use Prim.Native.Nat.{ℕ, _+_, _-_, _*_, _≤_, _<_}
-use mathlib.Core.Path.{_≡_, refl, sym, ap, _∙_}
+use mathlib.Core.Path.{_≡_, sym, ap, _∙_}
 use mathlib.Core.Logic.{_≢_}
 use mathlib.Core.Bool.{true, false}
 use mathlib.Core.List.{List, List·Memᴰ as In}
 use native.Mathlib.Omega.{arith}
-use lib.ListN.{length, getD, replicate, getD-replicate}
+use lib.ListN.{getD, replicate, getD-replicate}
 use Rattle.model.specs.Lists.{ones, indexOf}
 use Rattle.model.specs.Table.{unused, slots, link, live}
 use Rattle.model.specs.Sheet.{sheet}

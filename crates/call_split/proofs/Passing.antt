@@ -1,7 +1,7 @@
 -- The pass along the two lists that drafts the record of split: it begins (`draft-none`), comes to a dart of S (`draft-dart`,
 -- `draft-dart-more`) or to a new one (`draft-new`, `draft-new-more`), and ends (`draft-all`).
 use Prim.Native.Nat.{ℕ, _+_, _-_, _*_, _≤_, _<_}
-use mathlib.Core.Path.{_≡_, refl, sym, ap, _∙_}
+use mathlib.Core.Path.{_≡_, refl, sym, ap}
 use mathlib.Core.List.{List}
 use native.Mathlib.Omega.{arith}
 use lib.ListN.{length, getD}

@@ -1,7 +1,7 @@
 -- The new darts by their list, seen from a dart g of S: what `new_dart` asks (`dart-asked`) and finds (`dart-found`) for the dart that a
 -- word of the links leads to, and the links 3 of a(g) and b(g) in both dimensions (`over-link`).
 use Prim.Native.Nat.{ℕ, _+_, _*_, _<_}
-use mathlib.Core.Path.{_≡_, sym, ap, _∙_}
+use mathlib.Core.Path.{_≡_, ap, _∙_}
 use mathlib.Core.Bool.{true}
 use mathlib.Core.List.{List, [], _∷_}
 use native.Mathlib.Omega.{arith}

@@ -11,7 +11,7 @@ ghost use mathlib.Core.Path.{_≡_};
 ghost use mathlib.Core.List.{List};
 ghost use Prim.Native.Nat.{ℕ, _+_, _*_, _≤_, _<_};
 ghost use lib.ListN.{length, getD};
-ghost use Rattle.model.specs.Lists.{count, ones};
+ghost use Rattle.model.specs.Lists.{ones};
 ghost use Rattle.model.specs.Table.{slots};
 ghost use Rattle.model.specs.Journal.{changesFrom};
 ghost use Rattle.model.specs.Split.{crosses, splitTable};
@@ -339,12 +339,32 @@ fn split_large(
         let mut fresh = [0u16; MIDDLE / 2];
         let mut darts = [0u16; MIDDLE / 4];
         let mut places = [0u16; MIDDLE];
-        return split_in(n, table, marks, journal, tag, d, &mut fresh, &mut darts, &mut places);
+        return split_in(
+            n,
+            table,
+            marks,
+            journal,
+            tag,
+            d,
+            &mut fresh,
+            &mut darts,
+            &mut places,
+        );
     }
     let mut fresh = [0u16; LARGE / 2];
     let mut darts = [0u16; LARGE / 4];
     let mut places = [0u16; LARGE];
-    split_in(n, table, marks, journal, tag, d, &mut fresh, &mut darts, &mut places)
+    split_in(
+        n,
+        table,
+        marks,
+        journal,
+        tag,
+        d,
+        &mut fresh,
+        &mut darts,
+        &mut places,
+    )
 }
 
 // "each g in S, rising, gets new darts a, b (for n = 3 also c) in the lowest unused slots in that order." "Place: first new
@@ -374,7 +394,17 @@ pub fn split(
         let mut fresh = [0u16; SMALL / 2];
         let mut darts = [0u16; SMALL / 4];
         let mut places = [0u16; SMALL];
-        return split_in(n, table, marks, journal, tag, d, &mut fresh, &mut darts, &mut places);
+        return split_in(
+            n,
+            table,
+            marks,
+            journal,
+            tag,
+            d,
+            &mut fresh,
+            &mut darts,
+            &mut places,
+        );
     }
     split_large(n, table, marks, journal, tag, d)
 }

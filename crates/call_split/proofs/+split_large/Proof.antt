@@ -1,309 +1,152 @@
+-- `call_split::split_large` meets its contract, by `split_in`. It does not call itself: the table fits.
 use Prim.Native.Nat.{ℕ, _<_}
+use mathlib.Core.Path.{_≡_, sym, ap, _∙_}
+use mathlib.Core.Bool.{Bool, true, false}
+use native.Mathlib.Omega.{arith}
+use borrow.Author.Needs.{needs}
+use borrow.Author.Tests.{not-true}
 use borrow.Fn.Kinds.{In}
 use borrow.Fn.PlainCycle.{Measures, is, falls, and}
+use Rattle.model.proofs.Calls.Pass.{must-pass}
+use Rattle.answers.proofs.Given.{room-small, room-given}
+use Rattle.answers.proofs.Layered.{layered}
+use Rattle.reading.proofs.table_fits.Reads as table-fits
+use Rattle.call_split.proofs.split_in.Reads as split-in
 use Rattle.call_split.proofs.split_large.Reads as split-large
-use Rattle.call_split.proofs.split_large.Kinds as split-large-kinds
-use Rattle.call_split.proofs.+split_large.Lts-split_large as split-large-lts
-use Rattle.call_split.proofs.split_in.Reads as split-in-reads
-use Rattle.reading.proofs.table_fits.Reads as table-fits-reads
+use Rattle.call_split.proofs.split_large.Kinds as kinds
+use Rattle.call_split.proofs.+split_large.Lts-split_large as lts
 use Rattle.call_split.proofs.+split_large.{statement}
 use Rattle.call_split.proofs.+split_large.Tie.{close}
 
-abbrev μ-split-large : Measures 3 split-large-kinds.ps ℕ
-μ-split-large κs a = ?
+abbrev μ : Measures 3 kinds.ps ℕ
+μ κs a = 0
 
-abbrev split-large-at : ℕ → In 3 split-large-kinds.ps
-split-large-at t =
-    and 3 split-large-kinds.ps (is 3 split-large-kinds.ps μ-split-large t) split-large.Pre
+module _ (t : ℕ) where
+  -- what it is given, and what it knows of its callees
+  abbrev given : In 3 kinds.ps
+  given = and 3 kinds.ps (is 3 kinds.ps μ t) split-large.Pre
 
-abbrev split-large-below : ℕ → In 3 split-large-kinds.ps
-split-large-below t =
-    and 3 split-large-kinds.ps (falls 3 split-large-kinds.ps _<_ μ-split-large t) split-large.Pre
+  abbrev claims : lts.Claims
+  claims = (
+    table-fits.Asked,
+    table-fits.Learnt,
+    and 3 kinds.ps (falls 3 kinds.ps _<_ μ t) split-large.Pre,
+    split-large.Post,
+    split-in.Asked,
+    split-in.Learnt,
+  )
 
--- src/lib.rt:334:9
-split-large-table-fits-requires : (t : ℕ) → split-large-lts.Need-table-fits-requires (
-  table-fits-reads.Asked,
-  table-fits-reads.Learnt,
-  split-large-below t,
-  split-large.Post,
-  split-in-reads.Asked,
-  split-in-reads.Learnt,
-) (split-large-at t) split-large.Post
-split-large-table-fits-requires t c κs = ?
+  -- the function's entry, from where the table fits
+  abbrev start : lts.Else1 claims given split-large.Post → lts.Start claims given split-large.Post
+  start c = c .before .before .before .before .before .before
 
--- src/lib.rt:335:9
-split-large-split-large-requires : (t : ℕ) → split-large-lts.Need-split-large-requires (
-  table-fits-reads.Asked,
-  table-fits-reads.Learnt,
-  split-large-below t,
-  split-large.Post,
-  split-in-reads.Asked,
-  split-in-reads.Learnt,
-) (split-large-at t) split-large.Post
-split-large-split-large-requires t c κs = ?
+  never : (c : lts.Then1 claims given split-large.Post) {A : Type 0} → A
+  never c =
+      let f = c .before in
+      let taken = not-true _ (c .if1 .taken) in
+      let p = f .before .before .before .before .before .pre .1 in
+      let fits = must-pass _ 2 (f .table-fits .ensures ∙ layered p .table) in
+      absurd (let z : _≡_ {A = ℕ} 0 1 = ap (λ (b : Bool). elim b [ true ↦ 1 | false ↦ 0 ]) (sym taken ∙ fits) in omega arith)
 
--- src/lib.rt:336:9
-split-large-same-length : (t : ℕ) → split-large-lts.Need-same-length (
-  table-fits-reads.Asked,
-  table-fits-reads.Learnt,
-  split-large-below t,
-  split-large.Post,
-  split-in-reads.Asked,
-  split-in-reads.Learnt,
-) (split-large-at t) split-large.Post
-split-large-same-length t c = ?
+  table-fits-requires : lts.Need-table-fits-requires claims given split-large.Post
+  table-fits-requires c κs = search needs
 
--- src/lib.rt:336:9
-split-large-same-length-2 : (t : ℕ) → split-large-lts.Need-same-length-2 (
-  table-fits-reads.Asked,
-  table-fits-reads.Learnt,
-  split-large-below t,
-  split-large.Post,
-  split-in-reads.Asked,
-  split-in-reads.Learnt,
-) (split-large-at t) split-large.Post
-split-large-same-length-2 t c = ?
+  split-large-requires : lts.Need-split-large-requires claims given split-large.Post
+  split-large-requires c κs = never (c .before .before .before)
 
--- src/lib.rt:336:9
-split-large-same-length-3 : (t : ℕ) → split-large-lts.Need-same-length-3 (
-  table-fits-reads.Asked,
-  table-fits-reads.Learnt,
-  split-large-below t,
-  split-large.Post,
-  split-in-reads.Asked,
-  split-in-reads.Learnt,
-) (split-large-at t) split-large.Post
-split-large-same-length-3 t c = ?
+  same-length : lts.Need-same-length claims given split-large.Post
+  same-length c = never (c .before .before .before .before .before .before .before .before .before .before)
 
--- src/lib.rt:336:9
-split-large-returns : (t : ℕ) → split-large-lts.Need-returns (
-  table-fits-reads.Asked,
-  table-fits-reads.Learnt,
-  split-large-below t,
-  split-large.Post,
-  split-in-reads.Asked,
-  split-in-reads.Learnt,
-) (split-large-at t) split-large.Post
-split-large-returns t c = ?
+  same-length-2 : lts.Need-same-length-2 claims given split-large.Post
+  same-length-2 c = never (c .before .before .before .before .before .before .before .before .before .before)
 
--- src/lib.rt:338:23
-split-large-mul-if2 : (t : ℕ) → split-large-lts.Need-mul-if2 (
-  table-fits-reads.Asked,
-  table-fits-reads.Learnt,
-  split-large-below t,
-  split-large.Post,
-  split-in-reads.Asked,
-  split-in-reads.Learnt,
-) (split-large-at t) split-large.Post
-split-large-mul-if2 t c = ?
+  same-length-3 : lts.Need-same-length-3 claims given split-large.Post
+  same-length-3 c = never (c .before .before .before .before .before .before .before .before .before .before)
 
--- src/lib.rt:342:59
-split-large-slice-aggregate-split-in : (t : ℕ) → split-large-lts.Need-slice-aggregate-split-in (
-  table-fits-reads.Asked,
-  table-fits-reads.Learnt,
-  split-large-below t,
-  split-large.Post,
-  split-in-reads.Asked,
-  split-in-reads.Learnt,
-) (split-large-at t) split-large.Post
-split-large-slice-aggregate-split-in t c = ?
+  returns : lts.Need-returns claims given split-large.Post
+  returns c = never (c .before .before .before .before .before .before .before .before .before .before)
 
--- src/lib.rt:342:71
-split-large-slice-aggregate-split-in-2 : (t : ℕ) → split-large-lts.Need-slice-aggregate-split-in-2 (
-  table-fits-reads.Asked,
-  table-fits-reads.Learnt,
-  split-large-below t,
-  split-large.Post,
-  split-in-reads.Asked,
-  split-in-reads.Learnt,
-) (split-large-at t) split-large.Post
-split-large-slice-aggregate-split-in-2 t c = ?
+  mul-if2 : lts.Need-mul-if2 claims given split-large.Post
+  mul-if2 c = search needs
 
--- src/lib.rt:342:83
-split-large-slice-aggregate-split-in-3 : (t : ℕ) → split-large-lts.Need-slice-aggregate-split-in-3 (
-  table-fits-reads.Asked,
-  table-fits-reads.Learnt,
-  split-large-below t,
-  split-large.Post,
-  split-in-reads.Asked,
-  split-in-reads.Learnt,
-) (split-large-at t) split-large.Post
-split-large-slice-aggregate-split-in-3 t c = ?
+  slice-aggregate-split-in : lts.Need-slice-aggregate-split-in claims given split-large.Post
+  slice-aggregate-split-in c = search needs
 
--- src/lib.rt:342:9
-split-large-split-in-requires : (t : ℕ) → split-large-lts.Need-split-in-requires (
-  table-fits-reads.Asked,
-  table-fits-reads.Learnt,
-  split-large-below t,
-  split-large.Post,
-  split-in-reads.Asked,
-  split-in-reads.Learnt,
-) (split-large-at t) split-large.Post
-split-large-split-in-requires t c κs = ?
+  slice-aggregate-split-in-2 : lts.Need-slice-aggregate-split-in-2 claims given split-large.Post
+  slice-aggregate-split-in-2 c = search needs
 
--- src/lib.rt:342:9
-split-large-same-length-4 : (t : ℕ) → split-large-lts.Need-same-length-4 (
-  table-fits-reads.Asked,
-  table-fits-reads.Learnt,
-  split-large-below t,
-  split-large.Post,
-  split-in-reads.Asked,
-  split-in-reads.Learnt,
-) (split-large-at t) split-large.Post
-split-large-same-length-4 t c = ?
+  slice-aggregate-split-in-3 : lts.Need-slice-aggregate-split-in-3 claims given split-large.Post
+  slice-aggregate-split-in-3 c = search needs
 
--- src/lib.rt:342:9
-split-large-same-length-5 : (t : ℕ) → split-large-lts.Need-same-length-5 (
-  table-fits-reads.Asked,
-  table-fits-reads.Learnt,
-  split-large-below t,
-  split-large.Post,
-  split-in-reads.Asked,
-  split-in-reads.Learnt,
-) (split-large-at t) split-large.Post
-split-large-same-length-5 t c = ?
+  split-in-requires : lts.Need-split-in-requires claims given split-large.Post
+  split-in-requires c κs =
+      let branch = c .before .before .before .before .before .before in
+      let p = start (branch .before) .pre .1 in
+      let room = room-small 16384 _ (layered p .table) (branch .if2 .taken) in
+      (p, (omega arith, omega arith, room))
 
--- src/lib.rt:342:9
-split-large-same-length-6 : (t : ℕ) → split-large-lts.Need-same-length-6 (
-  table-fits-reads.Asked,
-  table-fits-reads.Learnt,
-  split-large-below t,
-  split-large.Post,
-  split-in-reads.Asked,
-  split-in-reads.Learnt,
-) (split-large-at t) split-large.Post
-split-large-same-length-6 t c = ?
+  same-length-4 : lts.Need-same-length-4 claims given split-large.Post
+  same-length-4 c = search needs
 
--- src/lib.rt:342:9
-split-large-returns-2 : (t : ℕ) → split-large-lts.Need-returns-2 (
-  table-fits-reads.Asked,
-  table-fits-reads.Learnt,
-  split-large-below t,
-  split-large.Post,
-  split-in-reads.Asked,
-  split-in-reads.Learnt,
-) (split-large-at t) split-large.Post
-split-large-returns-2 t c = ?
+  same-length-5 : lts.Need-same-length-5 claims given split-large.Post
+  same-length-5 c = search needs
 
--- src/lib.rt:347:48
-split-large-slice-aggregate-split-in-4 : (t : ℕ) → split-large-lts.Need-slice-aggregate-split-in-4 (
-  table-fits-reads.Asked,
-  table-fits-reads.Learnt,
-  split-large-below t,
-  split-large.Post,
-  split-in-reads.Asked,
-  split-in-reads.Learnt,
-) (split-large-at t) split-large.Post
-split-large-slice-aggregate-split-in-4 t c = ?
+  same-length-6 : lts.Need-same-length-6 claims given split-large.Post
+  same-length-6 c = search needs
 
--- src/lib.rt:347:60
-split-large-slice-aggregate-split-in-5 : (t : ℕ) → split-large-lts.Need-slice-aggregate-split-in-5 (
-  table-fits-reads.Asked,
-  table-fits-reads.Learnt,
-  split-large-below t,
-  split-large.Post,
-  split-in-reads.Asked,
-  split-in-reads.Learnt,
-) (split-large-at t) split-large.Post
-split-large-slice-aggregate-split-in-5 t c = ?
+  returns-2 : lts.Need-returns-2 claims given split-large.Post
+  returns-2 c = search needs
 
--- src/lib.rt:347:72
-split-large-slice-aggregate-split-in-6 : (t : ℕ) → split-large-lts.Need-slice-aggregate-split-in-6 (
-  table-fits-reads.Asked,
-  table-fits-reads.Learnt,
-  split-large-below t,
-  split-large.Post,
-  split-in-reads.Asked,
-  split-in-reads.Learnt,
-) (split-large-at t) split-large.Post
-split-large-slice-aggregate-split-in-6 t c = ?
+  slice-aggregate-split-in-4 : lts.Need-slice-aggregate-split-in-4 claims given split-large.Post
+  slice-aggregate-split-in-4 c = search needs
 
--- src/lib.rt:347:5
-split-large-split-in-requires-2 : (t : ℕ) → split-large-lts.Need-split-in-requires-2 (
-  table-fits-reads.Asked,
-  table-fits-reads.Learnt,
-  split-large-below t,
-  split-large.Post,
-  split-in-reads.Asked,
-  split-in-reads.Learnt,
-) (split-large-at t) split-large.Post
-split-large-split-in-requires-2 t c κs = ?
+  slice-aggregate-split-in-5 : lts.Need-slice-aggregate-split-in-5 claims given split-large.Post
+  slice-aggregate-split-in-5 c = search needs
 
--- src/lib.rt:322:1
-split-large-same-length-7 : (t : ℕ) → split-large-lts.Need-same-length-7 (
-  table-fits-reads.Asked,
-  table-fits-reads.Learnt,
-  split-large-below t,
-  split-large.Post,
-  split-in-reads.Asked,
-  split-in-reads.Learnt,
-) (split-large-at t) split-large.Post
-split-large-same-length-7 t c = ?
+  slice-aggregate-split-in-6 : lts.Need-slice-aggregate-split-in-6 claims given split-large.Post
+  slice-aggregate-split-in-6 c = search needs
 
--- src/lib.rt:322:1
-split-large-same-length-8 : (t : ℕ) → split-large-lts.Need-same-length-8 (
-  table-fits-reads.Asked,
-  table-fits-reads.Learnt,
-  split-large-below t,
-  split-large.Post,
-  split-in-reads.Asked,
-  split-in-reads.Learnt,
-) (split-large-at t) split-large.Post
-split-large-same-length-8 t c = ?
+  split-in-requires-2 : lts.Need-split-in-requires-2 claims given split-large.Post
+  split-in-requires-2 c κs =
+      let branch = c .before .before .before .before .before .before in
+      let p = start (branch .before) .pre .1 in
+      let room = room-given _ (layered p .table) in
+      (p, (omega arith, omega arith, room))
 
--- src/lib.rt:322:1
-split-large-same-length-9 : (t : ℕ) → split-large-lts.Need-same-length-9 (
-  table-fits-reads.Asked,
-  table-fits-reads.Learnt,
-  split-large-below t,
-  split-large.Post,
-  split-in-reads.Asked,
-  split-in-reads.Learnt,
-) (split-large-at t) split-large.Post
-split-large-same-length-9 t c = ?
+  same-length-7 : lts.Need-same-length-7 claims given split-large.Post
+  same-length-7 c = search needs
 
--- src/lib.rt:322:1
-split-large-returns-3 : (t : ℕ) → split-large-lts.Need-returns-3 (
-  table-fits-reads.Asked,
-  table-fits-reads.Learnt,
-  split-large-below t,
-  split-large.Post,
-  split-in-reads.Asked,
-  split-in-reads.Learnt,
-) (split-large-at t) split-large.Post
-split-large-returns-3 t c = ?
+  same-length-8 : lts.Need-same-length-8 claims given split-large.Post
+  same-length-8 c = search needs
+
+  same-length-9 : lts.Need-same-length-9 claims given split-large.Post
+  same-length-9 c = search needs
+
+  returns-3 : lts.Need-returns-3 claims given split-large.Post
+  returns-3 c = search needs
 
 pub +split-large-spec : {M : Type 1} → statement M
-+split-large-spec = close μ-split-large λ t. split-large-lts.spec (
-  table-fits-reads.Asked,
-  table-fits-reads.Learnt,
-  split-large-below t,
-  split-large.Post,
-  split-in-reads.Asked,
-  split-in-reads.Learnt,
-)
-    (split-large-at t)
-    split-large.Post
-    (split-large-table-fits-requires t)
-    (split-large-split-large-requires t)
-    (split-large-same-length t)
-    (split-large-same-length-2 t)
-    (split-large-same-length-3 t)
-    (split-large-returns t)
-    (split-large-mul-if2 t)
-    (split-large-slice-aggregate-split-in t)
-    (split-large-slice-aggregate-split-in-2 t)
-    (split-large-slice-aggregate-split-in-3 t)
-    (split-large-split-in-requires t)
-    (split-large-same-length-4 t)
-    (split-large-same-length-5 t)
-    (split-large-same-length-6 t)
-    (split-large-returns-2 t)
-    (split-large-slice-aggregate-split-in-4 t)
-    (split-large-slice-aggregate-split-in-5 t)
-    (split-large-slice-aggregate-split-in-6 t)
-    (split-large-split-in-requires-2 t)
-    (split-large-same-length-7 t)
-    (split-large-same-length-8 t)
-    (split-large-same-length-9 t)
-    (split-large-returns-3 t)
++split-large-spec = close μ (λ t. lts.spec (claims t) (given t) split-large.Post
+    (table-fits-requires t)
+    (split-large-requires t)
+    (same-length t)
+    (same-length-2 t)
+    (same-length-3 t)
+    (returns t)
+    (mul-if2 t)
+    (slice-aggregate-split-in t)
+    (slice-aggregate-split-in-2 t)
+    (slice-aggregate-split-in-3 t)
+    (split-in-requires t)
+    (same-length-4 t)
+    (same-length-5 t)
+    (same-length-6 t)
+    (returns-2 t)
+    (slice-aggregate-split-in-4 t)
+    (slice-aggregate-split-in-5 t)
+    (slice-aggregate-split-in-6 t)
+    (split-in-requires-2 t)
+    (same-length-7 t)
+    (same-length-8 t)
+    (same-length-9 t)
+    (returns-3 t))

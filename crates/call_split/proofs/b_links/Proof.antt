@@ -1,5 +1,5 @@
 -- `call_split::b_links` meets its contract.
-use mathlib.Core.Path.{_≡_, refl, sym, _∙_}
+use mathlib.Core.Path.{refl, sym, _∙_}
 use mathlib.Core.List.{[], _∷_}
 use native.Mathlib.Omega.{arith}
 use borrow.Author.Needs.{needs}
@@ -20,14 +20,14 @@ new-dart-requires : tie.Need-new-dart-requires
 unfolding walk keepsSheet
 new-dart-requires c κs =
     let R = start (c .before) .pre .is in
-    dart-asked R (1 ∷ 0 ∷ 1 ∷ []) refl (c .opposite-edge .ensures) 1 (R .low)
+    dart-asked R (1 ∷ 0 ∷ 1 ∷ []) refl (c .opposite-edge .ensures) _ (R .low)
 
 new-dart-requires-2 : tie.Need-new-dart-requires-2
 unfolding walk keepsSheet
 new-dart-requires-2 c κs =
     let R = start (c .before .before) .pre .is in
     let low = R .low in
-    dart-asked R [] refl refl 0 (omega arith)
+    dart-asked R [] refl refl _ (omega arith)
 
 b-across-requires : tie.Need-b-across-requires
 b-across-requires c κs = search needs
@@ -39,7 +39,7 @@ new-dart-requires-3 : tie.Need-new-dart-requires-3
 unfolding walk keepsSheet
 new-dart-requires-3 c κs =
     let R = start (c .before .before .before .before .before) .pre .is in
-    dart-asked R (3 ∷ []) refl (c .link-in .ensures) 1 (R .low)
+    dart-asked R (3 ∷ []) refl (c .link-in .ensures) _ (R .low)
 
 returns : tie.Need-returns
 unfolding walk keepsSheet
@@ -50,10 +50,10 @@ returns c = λ d R.
     let along = own .before in
     let low = R .low in
     four-links R
-    (dart-found R (1 ∷ 0 ∷ 1 ∷ []) refl (along .before .opposite-edge .ensures) 1 low (along .new-dart .ensures) ∙ sym (links R .b-0))
-    (dart-found R [] refl refl 0 (omega arith) (own .new-dart2 .ensures) ∙ sym (links R .b-1))
+    (dart-found R (1 ∷ 0 ∷ 1 ∷ []) refl (along .before .opposite-edge .ensures) _ low (along .new-dart .ensures) ∙ sym (links R .b-0))
+    (dart-found R [] refl refl _ (omega arith) (own .new-dart2 .ensures) ∙ sym (links R .b-1))
     (across .b-across .ensures d R)
-    (dart-found R (3 ∷ []) refl (over .link-in .ensures) 1 low (c .new-dart3 .ensures) ∙ sym (b-over R))
+    (dart-found R (3 ∷ []) refl (over .link-in .ensures) _ low (c .new-dart3 .ensures) ∙ sym (b-over R))
 
 pub b-links-spec : {M : Type 1} → statement M
 b-links-spec =

@@ -1,5 +1,5 @@
 -- `call_split::c_links` meets its contract.
-use mathlib.Core.Path.{_≡_, refl, sym, _∙_}
+use mathlib.Core.Path.{refl, sym, _∙_}
 use mathlib.Core.List.{[], _∷_}
 use native.Mathlib.Omega.{arith}
 use borrow.Author.Needs.{needs}
@@ -20,7 +20,7 @@ new-dart-requires : tie.Need-new-dart-requires
 unfolding walk keepsSheet
 new-dart-requires c κs =
     let R = start (c .before) .pre .is in
-    dart-asked R (1 ∷ 0 ∷ 1 ∷ []) refl (c .opposite-edge .ensures) 2 (R .low)
+    dart-asked R (1 ∷ 0 ∷ 1 ∷ []) refl (c .opposite-edge .ensures) _ (R .low)
 
 link-in-requires : tie.Need-link-in-requires
 link-in-requires c κs = link-asked (start (c .before .before) .pre .is) 2 (omega arith)
@@ -29,14 +29,14 @@ new-dart-requires-2 : tie.Need-new-dart-requires-2
 unfolding walk keepsSheet
 new-dart-requires-2 c κs =
     let R = start (c .before .before .before) .pre .is in
-    dart-asked R (2 ∷ []) refl (c .link-in .ensures) 2 (R .low)
+    dart-asked R (2 ∷ []) refl (c .link-in .ensures) _ (R .low)
 
 new-dart-requires-3 : tie.Need-new-dart-requires-3
 unfolding walk keepsSheet
 new-dart-requires-3 c κs =
     let R = start (c .before .before .before .before) .pre .is in
     let low = R .low in
-    dart-asked R [] refl refl 1 (omega arith)
+    dart-asked R [] refl refl _ (omega arith)
 
 link-in-requires-2 : tie.Need-link-in-requires-2
 link-in-requires-2 c κs = link-asked (start (c .before .before .before .before .before) .pre .is) 0 (omega arith)
@@ -45,7 +45,7 @@ new-dart-requires-4 : tie.Need-new-dart-requires-4
 unfolding walk keepsSheet
 new-dart-requires-4 c κs =
     let R = start (c .before .before .before .before .before .before) .pre .is in
-    dart-asked R (0 ∷ []) refl (c .link-in2 .ensures) 2 (R .low)
+    dart-asked R (0 ∷ []) refl (c .link-in2 .ensures) _ (R .low)
 
 returns : tie.Need-returns
 unfolding walk keepsSheet
@@ -58,11 +58,11 @@ returns c = λ d R.
     let low = R .low in
     let dim = R .news .splits .dart .table .dim in
     four-links R
-    (dart-found R (1 ∷ 0 ∷ 1 ∷ []) refl (along .before .opposite-edge .ensures) 2 low (along .new-dart .ensures)
+    (dart-found R (1 ∷ 0 ∷ 1 ∷ []) refl (along .before .opposite-edge .ensures) _ low (along .new-dart .ensures)
     ∙ sym (links R .c-0 (omega arith)))
-    (dart-found R (2 ∷ []) refl (beside .link-in .ensures) 2 low (next .new-dart2 .ensures) ∙ sym (links R .c-1 (omega arith)))
-    (dart-found R [] refl refl 1 (omega arith) (own .new-dart3 .ensures) ∙ sym (links R .c-2 (omega arith)))
-    (dart-found R (0 ∷ []) refl (last .link-in2 .ensures) 2 low (c .new-dart4 .ensures) ∙ sym (links R .c-3 (omega arith)))
+    (dart-found R (2 ∷ []) refl (beside .link-in .ensures) _ low (next .new-dart2 .ensures) ∙ sym (links R .c-1 (omega arith)))
+    (dart-found R [] refl refl _ (omega arith) (own .new-dart3 .ensures) ∙ sym (links R .c-2 (omega arith)))
+    (dart-found R (0 ∷ []) refl (last .link-in2 .ensures) _ low (c .new-dart4 .ensures) ∙ sym (links R .c-3 (omega arith)))
 
 pub c-links-spec : {M : Type 1} → statement M
 c-links-spec =

@@ -3,8 +3,6 @@ use mathlib.Core.Path.{refl}
 use borrow.Author.Needs.{needs}
 use Rattle.call_split.proofs.enter.Statement.{statement}
 use Rattle.call_split.proofs.enter.Tie as tie
-use Rattle.call_split.proofs.enter.Reads as reads
-use Rattle.call_split.proofs.enter.Lts as lts
 
 -- src/lib.rt:48:29
 cast-darts : tie.Need-cast-darts

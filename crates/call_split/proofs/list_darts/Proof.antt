@@ -1,15 +1,12 @@
 -- `call_split::list_darts` meets its contract. The loop's invariant: the darts before x are listed.
-use Prim.Native.Nat.{_*_, _-_, _≤_, _<_}
-use mathlib.Core.Path.{_≡_, refl}
+use Prim.Native.Nat.{_-_, _≤_, _<_}
+use mathlib.Core.Path.{refl}
 use native.Mathlib.Omega.{arith}
 use lib.ListN.{length}
 use Rattle.model.proofs.Layers.Cut.{slot-low}
 use Rattle.call_split.proofs.Placing.{Placing, placing-none, placing-more, placing-over, placing-left, placing-all, enters-few}
 use Rattle.call_split.proofs.list_darts.Statement.{statement}
 use Rattle.call_split.proofs.list_darts.Tie as tie
-use Rattle.call_split.proofs.list_darts.Reads as reads
-use Rattle.call_split.proofs.list_darts.Lts as lts
-use Rattle.call_split.proofs.enter.Reads as enter-reads
 
 abbrev Inv-loop : tie.InvT-loop
 Inv-loop n marks darts₀ places₀ size r₀ x₀ darts places r x = Placing n marks x r darts₀ darts places₀ places × (r ≤ size)

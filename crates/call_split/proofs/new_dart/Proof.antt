@@ -5,8 +5,6 @@ use lib.ListN.{getD}
 use borrow.Author.Needs.{needs}
 use Rattle.call_split.proofs.new_dart.Statement.{statement}
 use Rattle.call_split.proofs.new_dart.Tie as tie
-use Rattle.call_split.proofs.new_dart.Reads as reads
-use Rattle.call_split.proofs.new_dart.Lts as lts
 
 mul-result : tie.Need-mul-result
 mul-result c = search needs

@@ -18,8 +18,6 @@ use Rattle.call_split.proofs.Ends.{marks-long, leads-in, new-few, chang
 use Rattle.call_split.proofs.Ends.{split-goes, changes-number, some-new, first-new, new-count, darts-asked, writing, split-drafted}
 use Rattle.call_split.proofs.split_in.Statement.{statement}
 use Rattle.call_split.proofs.split_in.Tie as tie
-use Rattle.call_split.proofs.split_in.Reads as reads
-use Rattle.call_split.proofs.split_in.Lts as lts
 
 -- ---- the places before: entry, the sheet marked, 13 passed, the new slots found, 14 passed, 15 passed, the darts listed
 

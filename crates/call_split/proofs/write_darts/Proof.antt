@@ -3,7 +3,7 @@ use Prim.Native.Nat.{ℕ, _+_, _*_, _-_, _≤_, _<_}
 use mathlib.Core.Path.{_≡_, refl, sym, _∙_}
 use mathlib.Core.List.{List, []}
 use native.Mathlib.Omega.{arith}
-use lib.ListN.{length, getD}
+use lib.ListN.{getD}
 use borrow.Author.Needs.{needs}
 use Rattle.model.specs.Table.{walk}
 use Rattle.model.specs.Split.{splitTable}
@@ -16,8 +16,6 @@ use Rattle.call_split.proofs.Lists.{dart-inside, role-at, dart-link}
 use Rattle.call_split.proofs.Passing.{draft-length, draft-dart, draft-dart-more, darts-met}
 use Rattle.call_split.proofs.write_darts.Statement.{statement}
 use Rattle.call_split.proofs.write_darts.Tie as tie
-use Rattle.call_split.proofs.write_darts.Reads as reads
-use Rattle.call_split.proofs.write_darts.Lts as lts
 
 abbrev Inv-loop : tie.InvT-loop
 Inv-loop table journal₀ darts fresh places size p w x k₀ v₀ journal k v =
@@ -91,7 +89,7 @@ new-dart-requires c κs =
     let l = i .before in
     let L = draft l .writing .listed in
     let two = L .splits .dart .table .dim .0 in
-    dart-asked (role-at L (l .loop .k) 0 (i .loop-test .taken) (omega arith)) [] refl refl 0 (omega arith)
+    dart-asked (role-at L (l .loop .k) 0 (i .loop-test .taken) (omega arith)) [] refl refl _ (omega arith)
 
 -- the change of the k-th dart, in any pass that comes to it
 one : (c : tie.After-new-dart Inv-loop μ-loop) →
@@ -108,7 +106,7 @@ one c n d q j D =
     let two = L .splits .dart .table .dim .0 in
     let low = i .loop-test .taken in
     dart-link L (i .before .loop .k) low (c .before .link-in .ensures)
-    (dart-found (role-at L (i .before .loop .k) 0 low (omega arith)) [] refl refl 0 (omega arith) (c .new-dart .ensures))
+    (dart-found (role-at L (i .before .loop .k) 0 low (omega arith)) [] refl refl _ (omega arith) (c .new-dart .ensures))
 
 -- which comes to no new dart before
 before : (e : tie.Else1 Inv-loop μ-loop) →

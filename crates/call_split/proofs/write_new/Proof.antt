@@ -1,9 +1,9 @@
 -- `call_split::write_new` meets its contract.
 use Prim.Native.Nat.{ℕ, _+_, _*_, _-_, _≤_, _<_}
-use mathlib.Core.Path.{_≡_, refl, sym, _∙_}
+use mathlib.Core.Path.{sym, _∙_}
 use mathlib.Core.List.{List}
 use native.Mathlib.Omega.{arith}
-use lib.ListN.{length, getD, replicate}
+use lib.ListN.{getD, replicate}
 use borrow.Author.Needs.{needs}
 use Rattle.model.specs.Table.{unused}
 use Rattle.model.specs.Split.{splitTable}
@@ -14,8 +14,6 @@ use Rattle.call_split.proofs.Lists.{dart-inside, new-inside, new-few, r
 use Rattle.call_split.proofs.Passing.{draft-length, new-next, draft-new, new-met}
 use Rattle.call_split.proofs.write_new.Statement.{statement}
 use Rattle.call_split.proofs.write_new.Tie as tie
-use Rattle.call_split.proofs.write_new.Reads as reads
-use Rattle.call_split.proofs.write_new.Lts as lts
 
 -- the function's entry, from where the new dart is read, and from where the darts before it are written
 abbrev start : tie.After-shared-slice-known5 → tie.Start

@@ -1,8 +1,7 @@
 -- `call_split::write_split` meets its contract. The loop's invariant: the new darts before that of the i-th dart with the role are behind
 -- the pass, and p darts of S.
 use Prim.Native.Nat.{ℕ, _+_, _*_, _-_, _≤_, _<_}
-use mathlib.Core.Path.{_≡_, refl, sym, ap, _∙_}
-use mathlib.Core.List.{List}
+use mathlib.Core.Path.{_≡_, refl, ap}
 use native.Mathlib.Omega.{arith}
 use borrow.Author.Needs.{needs}
 use Rattle.model.specs.Journal.{cursor}
@@ -13,8 +12,6 @@ use Rattle.call_split.proofs.Lists.{dart-inside, new-next-dart}
 use Rattle.call_split.proofs.Passing.{draft-none, draft-length, draft-same, draft-all}
 use Rattle.call_split.proofs.write_split.Statement.{statement}
 use Rattle.call_split.proofs.write_split.Tie as tie
-use Rattle.call_split.proofs.write_split.Reads as reads
-use Rattle.call_split.proofs.write_split.Lts as lts
 
 abbrev Inv-loop : tie.InvT-loop
 Inv-loop n table journal₀ darts fresh places size w₀ p₀ i₀ role₀ journal w p i role =
