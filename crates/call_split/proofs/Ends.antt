@@ -28,8 +28,8 @@ use Rattle.model.proofs.Maps.Tables.{mapTable, live-below, rule-at}
 use Rattle.model.proofs.Calls.Pass.{must-pass}
 use Rattle.model.proofs.Layers.Sheet.{sheet-own, sheet-live}
 use Rattle.model.proofs.Layers.Marks.{marks-one}
-use Rattle.model.proofs.Layers.Cut.{Splits}
-use Rattle.model.proofs.Layers.Halved.{split-changes, split-length}
+use Rattle.model.proofs.Layers.Splitting.{Splits}
+use Rattle.model.proofs.Layers.Split.{split-changes, split-length}
 use Rattle.journal.specs.Records.{drafted}
 use Rattle.journal.specs.Passes.{Room, Drafted}
 use Rattle.journal.proofs.Commits.{fits-room}

@@ -19,9 +19,9 @@ use Rattle.model.proofs.Maps.Rules.{dead-link}
 use Rattle.model.proofs.Maps.Tables.{mapTable, live-below, rule-at}
 use Rattle.model.proofs.Maps.Dim.{two-cases}
 use Rattle.model.proofs.Layers.Sheet.{sheet-least, sheet-live}
-use Rattle.model.proofs.Layers.Cut.{slot-low}
-use Rattle.model.proofs.Layers.Halved.{sheetDarts, newSlots, newOf, darts-rising, split-lowest, split-links, split-stays, split-filled}
-use Rattle.model.proofs.Layers.Halved.{split-keeps, new-in-slot}
+use Rattle.model.proofs.Layers.Splitting.{slot-low}
+use Rattle.model.proofs.Layers.Split.{sheetDarts, newSlots, newOf, darts-rising, split-lowest, split-links, split-stays, split-filled}
+use Rattle.model.proofs.Layers.Split.{split-keeps, new-in-slot}
 use Rattle.journal.specs.Passes.{OneLink, FourLinks}
 use Rattle.call_split.specs.News.{News, Role, NewLinks}
 use Rattle.call_split.specs.Drafting.{Listed}

@@ -14,9 +14,9 @@ use Rattle.model.proofs.Lists.Scan.{below-four}
 use Rattle.model.proofs.Lists.Ones.{ones-of, ones-in}
 use Rattle.model.proofs.Maps.Tables.{mapTable, live-below}
 use Rattle.model.proofs.Layers.Sheet.{sheet-live, sheet-of}
-use Rattle.model.proofs.Layers.Cut.{split-cuts}
+use Rattle.model.proofs.Layers.Splitting.{splits-splitting}
 use Rattle.model.proofs.Layers.Role.{roleTo, roleWord, roleDart, keepsSheet, sheet-walk, role-link}
-use Rattle.model.proofs.Layers.Halved.{newOf, SplitLinks, split-links}
+use Rattle.model.proofs.Layers.Split.{newOf, SplitLinks, split-links}
 use Rattle.call_split.specs.News.{Role, SomeRole, NewLinks}
 
 pub some-role : {n : ℕ} {t fresh places : List ℕ} {role r g : ℕ} → role ≡ r → SomeRole n t fresh places role g
@@ -63,13 +63,13 @@ module _ {n : ℕ} {t : List ℕ} {d : ℕ} {fresh places : List ℕ} {role g : 
   unfolding splitTable roleTo roleWord roleDart walk
   a-over =
       let two = R .news .splits .dart .table .dim .0 in
-      role-link (split-cuts (R .news .splits)) 1 g 3 (omega arith) (ones-in S g (R .dart)) (omega arith)
+      role-link (splits-splitting (R .news .splits)) 1 g 3 (omega arith) (ones-in S g (R .dart)) (omega arith)
 
   pub b-over : link (splitTable n t d) 3 (newOf n t d 1 g) ≡ newOf n t d 1 (walk t (3 ∷ []) g)
   unfolding splitTable roleTo roleWord roleDart walk
   b-over =
       let two = R .news .splits .dart .table .dim .0 in
-      role-link (split-cuts (R .news .splits)) 2 g 3 two (ones-in S g (R .dart)) (omega arith)
+      role-link (splits-splitting (R .news .splits)) 2 g 3 two (ones-in S g (R .dart)) (omega arith)
 
   pub four-links : {x y z w : ℕ} → x ≡ link (splitTable n t d) 0 (newOf n t d role g) → y ≡ link (splitTable n t d) 1 (newOf n t d role g)
       → z ≡ link (splitTable n t d) 2 (newOf n t d role g) → w ≡ link (splitTable n t d) 3 (newOf n t d role g)

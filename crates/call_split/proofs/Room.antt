@@ -22,8 +22,8 @@ use Rattle.model.proofs.Maps.Dim.{dim-cases}
 use Rattle.model.proofs.Maps.Tables.{mapTable, live-below, rule-at}
 use Rattle.model.proofs.Operations.Slots.{rising-at}
 use Rattle.model.proofs.Cells.Cell.{good-cell, cell-own}
-use Rattle.model.proofs.Layers.Cut.{Splits, Cut, split-cuts}
-use Rattle.model.proofs.Layers.Halved.{darts-rising}
+use Rattle.model.proofs.Layers.Splitting.{Splits, Splitting, splits-splitting}
+use Rattle.model.proofs.Layers.Split.{darts-rising}
 use Rattle.call_split.proofs.Ones.{ones-few}
 
 distinct-append : (k l : List ℕ) → Distinct k → Distinct l → ((x : ℕ) → In x k → In x l → ⊥) → Distinct (k ++ l)
@@ -50,8 +50,8 @@ module _ {n : ℕ} {t : List ℕ} {d : ℕ} (s : Splits n t d) where
   abbrev B : BlockTable n t
   B = s .dart .table
 
-  cut : Cut n t gs fs
-  cut = split-cuts s
+  cut : Splitting n t gs fs
+  cut = splits-splitting s
 
   rule : (x : ℕ) → live t x ≡ true → Rule n t x
   rule x l = rule-at (mapTable B) x l

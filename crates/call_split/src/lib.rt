@@ -22,7 +22,7 @@ ghost use Rattle.journal.specs.Records.{drafted};
 ghost use Rattle.answers.specs.Answers.{outcome};
 ghost use Rattle.call_split.specs.Sheets.{LeadsIn, Enters, Placed};
 ghost use Rattle.model.specs.Table.{link};
-ghost use Rattle.model.proofs.Layers.Halved.{newOf};
+ghost use Rattle.model.proofs.Layers.Split.{newOf};
 ghost use Rattle.reading.specs.Lowest.{Told};
 ghost use Rattle.call_split.specs.Slots.{SlotsFound};
 ghost use Rattle.call_split.specs.News.{Role, SomeRole, NewLinks};
