@@ -20,7 +20,8 @@ new-dart-requires : tie.Need-new-dart-requires
 unfolding walk keepsSheet
 new-dart-requires c κs =
     let R = start (c .before) .pre .is in
-    dart-asked R (1 ∷ 0 ∷ 1 ∷ []) refl (c .opposite-edge .ensures) _ (R .low)
+    let low = R .low in
+    dart-asked R (1 ∷ 0 ∷ 1 ∷ []) refl (c .opposite-edge .ensures) _ (omega arith)
 
 new-dart-requires-2 : tie.Need-new-dart-requires-2
 unfolding walk keepsSheet
@@ -50,7 +51,8 @@ returns c = λ d R.
     let along = own .before in
     let low = R .low in
     four-links R
-    (dart-found R (1 ∷ 0 ∷ 1 ∷ []) refl (along .before .opposite-edge .ensures) _ low (along .new-dart .ensures) ∙ sym (links R .b-0))
+    (dart-found R (1 ∷ 0 ∷ 1 ∷ []) refl (along .before .opposite-edge .ensures) _ (omega arith) (along .new-dart .ensures)
+    ∙ sym (links R .b-0))
     (dart-found R [] refl refl _ (omega arith) (own .new-dart2 .ensures) ∙ sym (links R .b-1))
     (across .b-across .ensures d R)
     (dart-found R (3 ∷ []) refl (over .link-in .ensures) _ low (c .new-dart3 .ensures) ∙ sym (b-over R))
