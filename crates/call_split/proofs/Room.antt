@@ -103,7 +103,7 @@ module _ {n : ℕ} {t : List ℕ} {d : ℕ} (s : Splits n t d) where
       (λ x i j.
       let (g, in-g, at-g) = copy-of (λ g. g) x i in
       let (h, in-h, at-h) = copy-of next x j in
-      cut .parted h in-h (in-cast (sym at-h ∙ at-g) in-g))
+      cut .uncrossed h in-h (in-cast (sym at-h ∙ at-g) in-g))
 
   two-lives : (x : ℕ) → In x two → live t x ≡ true
   unfolding two next
@@ -131,7 +131,7 @@ module _ {n : ℕ} {t : List ℕ} {d : ℕ} (s : Splits n t d) where
     -- "going 1, 2 three times returns": h.1.2 is no g.1
     over-next : (g h : ℕ) → In g gs → In h gs → over h ≡ next g → ⊥
     unfolding over next walk
-    over-next g h i j e = cut .parted (link t 2 g) (beside g i) (in-cast turned (beside h j))
+    over-next g h i j e = cut .uncrossed (link t 2 g) (beside g i) (in-cast turned (beside h j))
       where
         corner : link t 2 (link t 1 (link t 2 (link t 1 (link t 2 (link t 1 h))))) ≡ h
         corner = good-cell n t (cellOf n t h) .0 (B .good h (lives h j)) .corner space h (cell-own (mapTable B) h (lives h j))
@@ -151,7 +151,7 @@ module _ {n : ℕ} {t : List ℕ} {d : ℕ} (s : Splits n t d) where
         ⊎-elim
         (λ m.
         let (g, in-g, at-g) = copy-of (λ g. g) x m in
-        cut .parted h in-h (in-cast (sym (over-back h in-h) ∙ ap (link t 2) (sym at-h ∙ at-g)) (beside g in-g)))
+        cut .uncrossed h in-h (in-cast (sym (over-back h in-h) ∙ ap (link t 2) (sym at-h ∙ at-g)) (beside g in-g)))
         (λ m. let (g, in-g, at-g) = copy-of next x m in over-next g h in-g in-h (sym at-h ∙ at-g)) (in-append (copy (λ g. g)) j))
 
     three-lives : (x : ℕ) → In x (copy over ++ two) → live t x ≡ true
