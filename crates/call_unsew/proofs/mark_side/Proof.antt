@@ -1,6 +1,6 @@
 -- `call_unsew::mark_side` meets its contract. The loop's invariant is `Going`; the measure: the slots, less the turns that lead to x.
 use Prim.Native.Nat.{_-_}
-use mathlib.Core.Path.{_≡_, sym, ap, _∙_}
+use mathlib.Core.Path.{_≡_, ap, _∙_}
 use native.Mathlib.Omega.{arith}
 use borrow.Author.Needs.{needs}
 use Rattle.model.specs.Table.{slots, link}
