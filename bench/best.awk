@@ -1,5 +1,5 @@
 # best.awk - of several runs of bench the least time of each measurement, yardstick and kernel alike; prints what bench prints.
-/^#/ || /^worst/ || /^geometric/ { next }
+/^#/ { next }
 $1 == "refusal" {
     if (!($2 in refused)) { refusal[++refusals] = $2; refused[$2] = $3; refused_test[$2] = $4 }
     if ($3 < refused[$2]) refused[$2] = $3

@@ -28,8 +28,9 @@
  * changes no buffer, but that phl_remove and phl_split refused by 13, 14 or 15 leave the sheet's
  * marks.
  *
- * A call takes less than 1 MiB of stack (bench/README.md has the measured figures). There is no
- * global state: calls on different buffers may run on different threads.
+ * A call takes at most 300,000 bytes of stack, and at most 16,384 on a table of up to 2,048 slots
+ * (bench/README.md has the measured figures). There is no global state: calls on different buffers
+ * may run on different threads.
  */
 #ifndef PHLERNSAP_H
 #define PHLERNSAP_H

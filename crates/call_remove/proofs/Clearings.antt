@@ -1,6 +1,6 @@
 -- The record of remove, slot by slot: what happens at a slot (`bare-stays`, `edge-one`, `gone-four`), and the pass from
 -- `clearing-start` by `clearing-over`, `clearing-stays` and `clearing-more` to `clearing-end`.
-use Prim.Native.Nat.{ℕ, _+_, _*_, _≤_, _<_}
+use Prim.Native.Nat.{ℕ, _+_, _≤_, _<_}
 use mathlib.Core.Path.{_≡_, refl, sym, ap, _∙_}
 use mathlib.Core.Logic.{inl, inr, ⊎-elim, _≢_}
 use mathlib.Core.Bool.{true, false}

@@ -2,16 +2,14 @@
 -- knows on the way: how many entries it changes (`changes-number`), what the record is drafted from (`removing`), and its draft
 -- (`layer-drafted`).
 use Prim.Native.Nat.{ℕ, _+_, _*_}
-use mathlib.Core.Path.{_≡_, refl, sym, ap, _∙_}
+use mathlib.Core.Path.{_≡_, sym}
 use mathlib.Core.List.{List}
-use native.Mathlib.Omega.{arith}
 use lib.ListN.{length}
 use Rattle.model.specs.Lists.{count}
 use Rattle.model.specs.Journal.{changesFrom}
 use Rattle.model.specs.Remove.{countMarked, removed, removeTable}
 use Rattle.model.specs.Checks.{refuse, inOrder, layerChecks}
 use Rattle.model.specs.Calls.{refused, commit, removeCall}
-use Rattle.model.specs.Meaning.Sheets.{marksOf}
 use Rattle.model.proofs.Layers.RemoveCounts.{remove-changes}
 use Rattle.journal.specs.Records.{drafted}
 use Rattle.journal.specs.Passes.{Room, Drafted}

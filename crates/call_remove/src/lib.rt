@@ -6,6 +6,7 @@ use reading::LARGE;
 use reading::MIDDLE;
 use reading::SMALL;
 use reading::UNUSED;
+use reading::skip_blocks;
 use reading::skip_clear;
 use walk::first_outside;
 ghost use mathlib.Core.Path.{_≡_};
@@ -38,7 +39,7 @@ fn count_layer(marks: &[u8]) -> Counts
 {
     let mut darts: u32 = 0;
     let mut edge: u32 = 0;
-    let mut x = skip_clear(marks, 0);
+    let mut x = skip_blocks(marks, 0);
     while x < marks.len() {
         let mark = marks[x];
         if mark == 3 {
@@ -74,7 +75,7 @@ fn write_layer(n: u32, table: &[u32], journal: &mut [u32], marks: &[u8])
         (changesFrom 0 (now (table .entry)) (removed n (now (table .entry)) (now (marks .entry)))) ⌝ }
 {
     let mut w = journal[0] as usize + 2;
-    let mut x = skip_clear(marks, 0);
+    let mut x = skip_blocks(marks, 0);
     while x < marks.len() {
         if marks[x] != 0 {
             w = write_marked(n, table, journal, marks, w, x as u32);

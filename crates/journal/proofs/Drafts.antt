@@ -1,4 +1,4 @@
--- A record is written triple by triple: `draft-none` begins a draft, `draft-more` adds a triple, `draft-closed` gives the
+-- A record is written triple by triple: `draft-none` begins a draft, `draft-at` adds a triple, `draft-closed` gives the
 -- journal with the record written; `written-read` reads its changes back.
 use Prim.Native.Nat.{ℕ, zero, suc, _+_, _*_, _-_, min, _≤_, _<_}
 use mathlib.Core.Path.{_≡_, refl, sym, ap, _∙_}
@@ -158,19 +158,6 @@ draft-at v j cs c w draft at h =
 -- in a draft w of k changes
 
 module _ (w j : List ℕ) (cs : List Change) (k : ℕ) (draft : w ≡ drafted j cs) (count : k ≡ length cs) where
-  -- a triple behind the last one: a draft of one change more
-  pub draft-more : (c : Change) → cursor w + recordLength (k + 1) ≤ length w
-      → let i = cursor w + 3 * k + 2 in
-      set (set (set w i (c .entry)) (i + 1) (c .old)) (i + 2) (c .new) ≡ drafted j (cs ++ c ∷ [])
-  draft-more c h =
-      let more = rw (draft, count) at h in
-      let r = draft-room j cs 6 (omega arith) (omega arith) in
-      let room = r .1 in
-      let x : cursor j + 3 * length cs + 2 ≡ stop j cs = omega arith in
-      let y : stop j cs + 1 ≡ suc (stop j cs) = omega arith in
-      let z : stop j cs + 2 ≡ suc (suc (stop j cs)) = omega arith in
-      rw (draft, count, r .0, x, y, z) (added j cs c (omega arith))
-
   -- the two counts, the tag, the cursor and the end: the record is written
   pub draft-closed : (tag : ℕ) → cursor w + recordLength k ≤ length w
       → let i = cursor w + 3 * k + 2 in

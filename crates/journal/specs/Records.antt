@@ -1,8 +1,7 @@
 -- What the contracts say beyond the model: a record of which the triples stand already (`drafted`), the triple at a word
--- (`changeAt`), the value that a change puts (`valuePut`), changes whose entries lie in a table (`within`), and a rising pass
--- over two tables, which writes the changes below an entry (`changesBelow`, `Scanned`).
+-- (`changeAt`), the value that a change puts (`valuePut`), changes whose entries lie in a table (`within`), and the changes below an
+-- entry (`changesBelow`).
 use Prim.Native.Nat.{ℕ, suc, _+_, _*_}
-use mathlib.Core.Path.{_≡_}
 use mathlib.Core.Bool.{Bool, true, false, _&&_}
 use mathlib.Core.List.{List, [], _∷_, _++_}
 use lib.ListN.{length, getD, take, drop}
@@ -32,8 +31,3 @@ within n (c ∷ cs) = ltb (c .entry) n && within n cs
 -- of the changes from t to u those at the entries below e
 unfoldable pub changesBelow : ℕ → List ℕ → List ℕ → List Change
 changesBelow e t u = changesFrom 0 (take e t) (take e u)
-
--- a rising pass has met the entries below e: w is the journal j with the draft of the changes there, done of them
-pub record Scanned (t u j : List ℕ) (e done : ℕ) (w : List ℕ) : Type 0 where
-  pub draft : w ≡ drafted j (changesBelow e t u)
-  pub count : done ≡ length (changesBelow e t u)

@@ -26,19 +26,6 @@ pub fn record_fits(journal: &[u32], k: u32) -> bool
     record_length(k) <= journal.len() - journal[0] as usize
 }
 
-// Writes the triple number `done` of the record at the cursor: a draft of `done` changes has one more.
-pub fn write_change(journal: &mut [u32], done: usize, entry: u32, old: u32, new: u32)
-    requires { ⌜ cursor (now journal) + recordLength (done + 1) ≤ length (now journal) ⌝ }
-    ensures { λ _.
-        ⌜ ((j : List ℕ) (cs : List Change) → now (journal .entry) ≡ drafted j cs → done ≡ length cs
-        → now (journal .exit) ≡ drafted j (cs ++ record { entry = entry; old = old; new = new } ∷ [])) ⌝ }
-{
-    let w = journal[0] as usize + 3 * done + 2;
-    journal[w] = entry;
-    journal[w + 1] = old;
-    journal[w + 2] = new;
-}
-
 // Writes a triple at the word w, behind those of a draft.
 fn write_triple(journal: &mut [u32], w: usize, entry: u32, old: u32, new: u32)
     requires { ⌜ w + 4 ≤ length (now journal) ⌝ }

@@ -49,7 +49,7 @@ fn fresh(slots: usize, table: &mut [u32], marks: &mut [u8], journal: &mut [u32])
     ensures { λ _. ⌜ lent slots (now (table .exit)) (now (marks .exit)) (now (journal .exit)) ≡ begin slots 16384 ⌝ }
 {
     let end = 4 * slots;
-    fill_words(&mut table[..end], 4294967295);
+    fill_words(&mut table[..end], reading::UNUSED);
     fill_bytes(&mut marks[..slots], 0);
     fresh_journal(journal);
 }

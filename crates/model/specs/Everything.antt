@@ -14,7 +14,7 @@ use Rattle.model.specs.Numbering.{corners, flip, firstBit, swapFirst, sw
 use Rattle.model.specs.Sew.{sideWords, side, coupleSteps, pairUp, partners, isPaired, sewnLink, sewn, sewTable, unsews}
 use Rattle.model.specs.Sew.{unsewnLink, unsewn, unsewTable}
 use Rattle.model.specs.Remove.{opposite, cellMark, marked, countMarked, outside, removedLink, removed, removeTable}
-use Rattle.model.specs.Split.{crosses, newDart, newDartLink, halvedLink, halved, splitSlots, splitTable}
+use Rattle.model.specs.Split.{crosses, newDart, newDartLink, splitLink, splitBy, splitSlots, splitTable}
 use Rattle.model.specs.Checks.{must, mustAt, andThen, inOrder, dimOk, tableOk, marksOk, journalOk, ruleNumber, ruleOk, mapChecks}
 use Rattle.model.specs.Checks.{indexOk, maskOk, dartOk, blockOk, apartOk, freeOk, sewnOk, pairingOk, crossingOk, addRoomOk}
 use Rattle.model.specs.Checks.{splitRoomOk, undoOk, redoOk, checkChecks, orbitChecks, sheetChecks, addChecks}
@@ -71,7 +71,7 @@ unfolding opposite cellMark marked countMarked outside removedLink removed remov
 openRemove = tt
 
 unfoldable pub openSplit : Unit {0}
-unfolding crosses newDart newDartLink halvedLink halved splitSlots splitTable
+unfolding crosses newDart newDartLink splitLink splitBy splitSlots splitTable
 openSplit = tt
 
 unfoldable pub openChecks : Unit {0}

@@ -47,20 +47,20 @@ newDartLink n t gs fs x g (suc (suc r)) j =
     ∷ []) j 0
 
 -- link j of x: a new dart's, "g.0 = a(g)" for the darts of S; "All else stays."
-unfoldable pub halvedLink : ℕ → List ℕ → List ℕ → List ℕ → ℕ → ℕ → ℕ
-halvedLink n t gs fs x j =
+unfoldable pub splitLink : ℕ → List ℕ → List ℕ → List ℕ → ℕ → ℕ → ℕ
+splitLink n t gs fs x j =
     let k = indexOf x fs in
     elim (ltb k (length fs)) [
       | true ↦ newDartLink n t gs fs x (getD gs (k / n) 0) (k % n) j
       | false ↦ (elim (eqb j 0 && ltb (indexOf x gs) (length gs)) [ true ↦ newDart n gs fs 0 x | false ↦ link t j x ])
     ]
 
-unfoldable pub halved : ℕ → List ℕ → List ℕ → List ℕ → List ℕ
-halved n t gs fs = retable t (halvedLink n t gs fs)
+unfoldable pub splitBy : ℕ → List ℕ → List ℕ → List ℕ → List ℕ
+splitBy n t gs fs = retable t (splitLink n t gs fs)
 
 -- the lowest unused slots, as many as the darts gs need, or all where they are fewer
 unfoldable pub splitSlots : ℕ → List ℕ → List ℕ → List ℕ
 splitSlots n t gs = take (n * length gs) (unusedSlots t)
 
 unfoldable pub splitTable : ℕ → List ℕ → ℕ → List ℕ
-splitTable n t d = let gs = ones (sheet n t d) in halved n t gs (splitSlots n t gs)
+splitTable n t d = let gs = ones (sheet n t d) in splitBy n t gs (splitSlots n t gs)

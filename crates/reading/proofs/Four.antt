@@ -1,4 +1,4 @@
--- The four links of a slot as a list: `four-of` puts it together, `four-at` takes a link out, `four-same` goes by links.
+-- The four links of a slot as a list: `four-of` puts it together, `four-at` takes a link out.
 use Prim.Native.Nat.{ℕ, zero, suc, _<_}
 use mathlib.Core.Path.{_≡_, refl}
 use mathlib.Core.List.{[], _∷_}
@@ -18,7 +18,3 @@ module _ (f : ℕ → ℕ) where
   four-at (suc (suc zero)) h = refl
   four-at (suc (suc (suc zero))) h = refl
   four-at (suc (suc (suc (suc j)))) h = absurd (omega arith)
-
-pub four-same : (f g : ℕ → ℕ) → ((j : ℕ) → f j ≡ g j) → four f ≡ four g
-unfolding four
-four-same f g h = rw (h 0, h 1, h 2, h 3)

@@ -1,6 +1,7 @@
 // Reading the table: links, live and unused slots, the rules of a map, which of them a slot breaks, and the checks 1, 2 and 4.
 pub use broken::Rule;
 pub use broken::breaking_link;
+pub use marks::skip_blocks;
 pub use marks::skip_clear;
 
 mod broken;

@@ -17,8 +17,8 @@ fn block_clear(marks: &[u8], x: usize) -> bool
     any == 0
 }
 
-// Past the blocks of 32 marks from x on that are 0.
-fn skip_blocks(marks: &[u8], x: usize) -> usize
+// Past the blocks of 32 marks from x on that are 0. A pass over the marks begins with it.
+pub fn skip_blocks(marks: &[u8], x: usize) -> usize
     requires { ⌜ x ≤ length (now marks) ⌝ }
     ensures { λ r. ⌜ Skips (now (marks .entry)) x r ⌝ }
 {
@@ -32,8 +32,7 @@ fn skip_blocks(marks: &[u8], x: usize) -> usize
     y
 }
 
-// A slot from x on such that the marks from x to before it are 0: x itself, or where a block of 32 begins there, the first block with
-// another mark.
+// The same where a block of 32 begins at x, else x: a pass goes on with it, by a test that is cheap.
 pub fn skip_clear(marks: &[u8], x: usize) -> usize
     requires { ⌜ x ≤ length (now marks) ⌝ }
     ensures { λ r. ⌜ Skips (now (marks .entry)) x r ⌝ }

@@ -116,10 +116,6 @@ module _ (n : ℕ) where
   unfolding half
   half-flat e = rw (ne-eqb n 3 e, half)
 
-  pub half-few : half n ≤ 16
-  unfolding half
-  half-few = test (eqb n 3) (λ e. rw (e, half) (omega arith)) (λ e. rw (e, half) (omega arith))
-
   pub half-in : Dim n → half n ≤ cellSize n
   unfolding half cellSize
   half-in dim = two-cases n dim (λ n. half n ≤ cellSize n) (omega arith) (omega arith)

@@ -47,7 +47,7 @@ pub fn write_marked(table: &[u32], journal: &mut [u32], marks: &[u8], i: u32, se
 {
     let end = table.len() / 4;
     let mut w = journal[0] as usize + 2;
-    let mut x = reading::skip_clear(marks, 0);
+    let mut x = reading::skip_blocks(marks, 0);
     while x < end {
         w = write_turn(table, journal, marks, i, sews, w, x as u32);
         x = reading::skip_clear(marks, x + 1);

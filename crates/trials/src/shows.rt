@@ -81,9 +81,9 @@ fn words(words: &[u32], a: usize, e: usize) {
     }
 }
 
-// A word that is 4294967295 is shown as a dash.
+// An entry of an unused slot is shown as a dash.
 fn word(word: u32) {
-    if word == 4294967295 {
+    if word == reading::UNUSED {
         text(b" -");
     } else {
         number(b" ", word);

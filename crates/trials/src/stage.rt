@@ -1,6 +1,7 @@
 // The stage: the dimension that calls are given, how much of the buffers is lent to them, and the tag of operations.
 use crate::lines;
 use crate::lines::Row;
+use reading::UNUSED;
 
 pub struct Stage {
     pub n: u32,
@@ -17,8 +18,6 @@ pub const EMPTY: Stage = Stage {
     words: 0,
     tag: 0,
 };
-
-const UNUSED: u32 = 4294967295;
 
 // The stage for a line and those behind it.
 pub fn next(s: Stage, row: Row) -> Stage {

@@ -1,6 +1,5 @@
 -- `call_remove::count_layer` meets its contract. The loop's invariant: the marks before x are counted.
-use Prim.Native.Nat.{ℕ, _+_, _≤_, _-_}
-use mathlib.Core.Path.{_≡_}
+use Prim.Native.Nat.{_+_, _≤_, _-_}
 use mathlib.Core.Logic.{⊎-elim}
 use native.Mathlib.Omega.{arith}
 use lib.ListN.{length}
@@ -16,11 +15,11 @@ Inv-loop marks darts₀ edge₀ x₀ darts edge x = Counted marks x darts edge �
 abbrev μ-loop : tie.MeasureT-loop
 μ-loop marks darts₀ edge₀ x₀ darts edge x = length marks - x
 
-skip-clear-requires : tie.Need-skip-clear-requires Inv-loop μ-loop
-skip-clear-requires c κs = search needs
+skip-blocks-requires : tie.Need-skip-blocks-requires Inv-loop μ-loop
+skip-blocks-requires c κs = search needs
 
 loop-holds : tie.Need-loop-holds Inv-loop μ-loop
-loop-holds c = let skips = c .skip-clear .ensures in (counted-over (counted-none _) skips, skips .within)
+loop-holds c = let skips = c .skip-blocks .ensures in (counted-over (counted-none _) skips, skips .within)
 
 shared-slice-read-mark : tie.Need-shared-slice-read-mark Inv-loop μ-loop
 shared-slice-read-mark c = search needs
@@ -42,12 +41,12 @@ add-darts c =
 add-skip-clear : tie.Need-add-skip-clear Inv-loop μ-loop
 add-skip-clear c = search needs
 
-skip-clear-requires-2 : tie.Need-skip-clear-requires-2 Inv-loop μ-loop
-skip-clear-requires-2 c κs = search needs
+skip-clear-requires : tie.Need-skip-clear-requires Inv-loop μ-loop
+skip-clear-requires c κs = search needs
 
 loop-less : tie.Need-loop-less Inv-loop μ-loop
 loop-less c =
-    let onward = c .skip-clear2 .ensures .onward in
+    let onward = c .skip-clear .ensures .onward in
     let low = c .before .before .before .loop-test .taken in
     omega arith
 
@@ -66,7 +65,7 @@ more c =
     (λ w. rw (w .2, w .3) (counted-zero C low (w .1 .left)))) (c .if1 .came)
 
 loop-again : tie.Need-loop-again Inv-loop μ-loop
-loop-again c = let skips = c .skip-clear2 .ensures in (counted-over (more (c .before)) skips, skips .within)
+loop-again c = let skips = c .skip-clear .ensures in (counted-over (more (c .before)) skips, skips .within)
 
 returns : tie.Need-returns Inv-loop μ-loop
 returns c =
@@ -82,13 +81,13 @@ count-layer-spec =
     (tie.spec
     Inv-loop
     μ-loop
-    skip-clear-requires
+    skip-blocks-requires
     loop-holds
     shared-slice-read-mark
     add-edge
     add-darts
     add-skip-clear
-    skip-clear-requires-2
+    skip-clear-requires
     loop-less
     loop-again
     returns)

@@ -1,5 +1,5 @@
 -- `call_remove::remove_in` meets its contract: the sheet, 15 by the number of changes; the record drafted and carried out.
-use Prim.Native.Nat.{ℕ, _+_, _*_, _≤_}
+use Prim.Native.Nat.{ℕ, _+_, _*_}
 use mathlib.Core.Path.{_≡_, refl}
 use mathlib.Core.List.{List}
 use native.Mathlib.Omega.{arith}

@@ -1,5 +1,5 @@
 -- `call_remove::write_layer` meets its contract. The loop's invariant: the slots below x are met.
-use Prim.Native.Nat.{ℕ, _+_, _≤_, _<_, _-_}
+use Prim.Native.Nat.{_+_, _≤_, _<_, _-_}
 use mathlib.Core.Path.{_≡_}
 use mathlib.Core.Logic.{⊎-elim}
 use native.Mathlib.Omega.{arith}
@@ -36,13 +36,13 @@ cast-w c = omega (arith, c .slice-known2 .given 0)
 add-w : tie.Need-add-w Inv-loop μ-loop
 add-w c = omega (arith, c .slice-known2 .given 0)
 
-skip-clear-requires : tie.Need-skip-clear-requires Inv-loop μ-loop
-skip-clear-requires c κs = search needs
+skip-blocks-requires : tie.Need-skip-blocks-requires Inv-loop μ-loop
+skip-blocks-requires c κs = search needs
 
 loop-holds : tie.Need-loop-holds Inv-loop μ-loop
 unfolding cursor
 loop-holds c =
-    let skips = c .skip-clear .ensures in
+    let skips = c .skip-blocks .ensures in
     (clearing-over (clearing-start (c .before .before .before .before .before .pre)) skips, skips .within)
 
 shared-slice-read-if1 : tie.Need-shared-slice-read-if1 Inv-loop μ-loop
@@ -65,12 +65,12 @@ write-marked-requires c κs =
 add-skip-clear : tie.Need-add-skip-clear Inv-loop μ-loop
 add-skip-clear c = search needs
 
-skip-clear-requires-2 : tie.Need-skip-clear-requires-2 Inv-loop μ-loop
-skip-clear-requires-2 c κs = search needs
+skip-clear-requires : tie.Need-skip-clear-requires Inv-loop μ-loop
+skip-clear-requires c κs = search needs
 
 loop-less : tie.Need-loop-less Inv-loop μ-loop
 loop-less c =
-    let onward = c .skip-clear2 .ensures .onward in
+    let onward = c .skip-clear .ensures .onward in
     let low = c .before .before .before .loop-test .taken in
     omega arith
 
@@ -88,7 +88,7 @@ more c =
     ⊎-elim (λ w. rw (w .5, w .6) (w .2 .ensures _ C)) (λ w. rw (w .1, w .2) (clearing-stays C low (w .0 .left))) (c .if1 .came)
 
 loop-again : tie.Need-loop-again Inv-loop μ-loop
-loop-again c = let skips = c .skip-clear2 .ensures in (clearing-over (more (c .before)) skips, skips .within)
+loop-again c = let skips = c .skip-clear .ensures in (clearing-over (more (c .before)) skips, skips .within)
 
 same-length : tie.Need-same-length Inv-loop μ-loop
 same-length c =
@@ -112,13 +112,13 @@ write-layer-spec =
     slice-read-w
     cast-w
     add-w
-    skip-clear-requires
+    skip-blocks-requires
     loop-holds
     shared-slice-read-if1
     cast-write-marked
     write-marked-requires
     add-skip-clear
-    skip-clear-requires-2
+    skip-clear-requires
     loop-less
     loop-again
     same-length

@@ -1,5 +1,4 @@
 -- `call_remove::write_marked` meets its contract.
-use Prim.Native.Nat.{_≤_}
 use native.Mathlib.Omega.{arith}
 use borrow.Author.Needs.{needs}
 use Rattle.call_remove.proofs.Clearings.{of-layer, edge-out, edge-one, gone-four, clearing-word, clearing-more}

@@ -27,8 +27,8 @@ use Rattle.model.proofs.Sewing.Sew.{sew-relinked}
 use Rattle.model.proofs.Sewing.Unsew.{unsew-relinked}
 use Rattle.model.proofs.Sewing.Straight.{sew-straight, unsew-straight}
 use Rattle.model.proofs.Layers.Remove.{remove-block}
-use Rattle.model.proofs.Layers.Cut.{split-cuts}
-use Rattle.model.proofs.Layers.Halves.{split-block}
+use Rattle.model.proofs.Layers.Splitting.{splits-splitting}
+use Rattle.model.proofs.Layers.SplitBlock.{split-block}
 use Rattle.model.proofs.Calls.Checks.{passed-at, passed-append}
 use Rattle.model.proofs.Calls.Pass.{step-pass, SidesPassed, unsew-side, sides-sewable}
 use Rattle.model.proofs.Calls.Pass.{add-passed, unsew-passed, sew-passed, layer-passed, split-passed}
@@ -112,8 +112,8 @@ module _ (n : ℕ) (t m j : List ℕ) (tag d : ℕ) where
       let gs = ones (sheet n t d) in
       let passed = layer-passed n t j m d (r .0 .0) in
       let split = split-passed n t j (sheet n t d) gs (r .0 .1) in
-      let cuts = split-cuts (record { dart = passed; uncrossed = split .uncrossed; room = split .room }) in
-      rw (r .1) (block-map _ (split-block cuts))
+      let given = splits-splitting (record { dart = passed; uncrossed = split .uncrossed; room = split .room }) in
+      rw (r .1) (block-map _ (split-block given))
 
 -- ---- undo, redo: what is put back is a map, or it is refused
 

@@ -17,7 +17,7 @@ use Rattle.model.specs.Sheet.{sheet}
 use Rattle.model.specs.Add.{addSlots, added, addTable}
 use Rattle.model.specs.Sew.{side, partners, sewn, sewTable, unsewn, unsewTable}
 use Rattle.model.specs.Remove.{removed, removeTable}
-use Rattle.model.specs.Split.{halved, splitTable}
+use Rattle.model.specs.Split.{splitBy, splitTable}
 use Rattle.model.specs.Calls.{Outcome}
 use Rattle.model.specs.Runs.{Op, Call, doCall, keeping, effect}
 use Rattle.model.specs.Meaning.Ends.{Passed}
@@ -36,14 +36,14 @@ use Rattle.model.proofs.Cells.Add.{add-new}
 use Rattle.model.proofs.Layers.Sheet.{sheet-own}
 use Rattle.model.proofs.Layers.Marks.{marks-own}
 use Rattle.model.proofs.Layers.Remove.{remove-removes}
-use Rattle.model.proofs.Layers.Cut.{split-cuts, new-in, split-cut}
+use Rattle.model.proofs.Layers.Splitting.{splits-splitting, new-in, split-dart-link}
 use Rattle.model.proofs.Calls.Pass.{add-passed, unsew-passed, sew-passed, layer-passed, split-passed, unsew-side, sides-sewable}
 use Rattle.model.proofs.Calls.Kept.{add-call, sew-call, unsew-call, remove-call, split-call}
 
 -- ---- the table keeps its length
 
 pub effect-length : (n : ℕ) (t : List ℕ) (p : Op) → length (effect n t p) ≡ length t
-unfolding effect addTable unsewTable removeTable splitTable sewTable added unsewn relink removed halved retable
+unfolding effect addTable unsewTable removeTable splitTable sewTable added unsewn relink removed splitBy retable
 effect-length n t Op.add = length-tab _ (length t)
 effect-length n t (Op.sew i d e) = go (partners n t i d e) (partners n t i e d)
   where
@@ -113,10 +113,10 @@ op-changes n t m j (Op.split d) a =
     let l = passed .lives in
     let s = sheet n t d in
     let split = split-passed n t j s (ones s) (a .1) in
-    let cuts = split-cuts (record { dart = passed; uncrossed = split .uncrossed; room = split .room }) in
+    let given = splits-splitting (record { dart = passed; uncrossed = split .uncrossed; room = split .room }) in
     let i = ones-in s d (sheet-own passed) in
     differs t _ 0 d (λ q. clash (rule-at (mapTable B) d l .goes 0 (omega arith))
-    (ap (live t) (q ∙ split-cut cuts d i) ∙ cuts .vacant .dead _ (new-in cuts 0 d (positive n (B .dim)) i)))
+    (ap (live t) (q ∙ split-dart-link given d i) ∙ given .vacant .dead _ (new-in given 0 d (positive n (B .dim)) i)))
 
 -- ---- an accepted operation leaves a map
 

@@ -10,13 +10,13 @@ use lib.ListN.{getD}
 use lib.Dec.{eqb, ltb}
 use borrow.Author.Tests.{eqb-false, eq-eqb, ne-eqb, ltb-true, not-true}
 use Rattle.model.specs.Table.{link, walk}
-use Rattle.model.specs.Split.{newDart, newDartLink, halved}
+use Rattle.model.specs.Split.{newDart, newDartLink, splitBy}
 use Rattle.model.specs.Meaning.Maps.{BlockTable, Rule}
 use Rattle.model.proofs.Lists.Scan.{and-l, and-r, or-cases, if-eq, below-three, below-four}
 use Rattle.model.proofs.Maps.Tables.{mapTable, rule-at}
 use Rattle.model.proofs.Cells.Places.{same, same-eq}
 use Rattle.model.proofs.Layers.Sheet.{Sheet}
-use Rattle.model.proofs.Layers.Cut.{Cut, split-cut, new-link, split-kept}
+use Rattle.model.proofs.Layers.Splitting.{Splitting, split-dart-link, new-link, split-kept}
 
 -- the opposite edge
 abbrev pub opposed : List ℕ
@@ -112,9 +112,9 @@ module _ (n : ℕ) (t gs fs : List ℕ) (g : ℕ) where
       across : Leads 1 2
       across = if-eq n 3 (λ e. rw (eq-eqb n 3 e)) (λ e. rw (ne-eqb n 3 e))
 
-module _ {n : ℕ} {t gs fs : List ℕ} (C : Cut n t gs fs) where
+module _ {n : ℕ} {t gs fs : List ℕ} (C : Splitting n t gs fs) where
   abbrev after : List ℕ
-  after = halved n t gs fs
+  after = splitBy n t gs fs
 
   abbrev role : ℕ → ℕ → ℕ
   role = roleDart n gs fs
@@ -123,7 +123,7 @@ module _ {n : ℕ} {t gs fs : List ℕ} (C : Cut n t gs fs) where
       → link after j (role r g) ≡ role (roleTo n r j) (walk t (roleWord n r j) g)
   unfolding roleDart roleTo roleWord walk
   role-link zero g j b i h = below-four (λ j. link after j g ≡ role (roleTo n 0 j) (walk t (roleWord n 0 j) g))
-      (split-cut C g i) (kept 1 (omega arith) (omega arith)) (kept 2 (omega arith) (omega arith))
+      (split-dart-link C g i) (kept 1 (omega arith) (omega arith)) (kept 2 (omega arith) (omega arith))
       (kept 3 (omega arith) (omega arith)) j h
     where
       kept : (j : ℕ) → j < 4 → j ≢ 0 → link after j g ≡ link t j g

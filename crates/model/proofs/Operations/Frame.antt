@@ -11,7 +11,7 @@ use Rattle.model.specs.Table.{slots, link}
 use Rattle.model.specs.Cell.{cellOf}
 use Rattle.model.specs.Add.{addedLink, added}
 use Rattle.model.specs.Remove.{marked, outside}
-use Rattle.model.specs.Split.{halvedLink, halved}
+use Rattle.model.specs.Split.{splitLink, splitBy}
 use Rattle.model.specs.Meaning.Sets.{Marked, LeastSet, ByLink}
 use Rattle.model.proofs.Lists.Scan.{if-eq}
 use Rattle.model.proofs.Maps.Rules.{link-retable}
@@ -33,11 +33,11 @@ module _ (t : List ℕ) (fits : length t ≡ 4 * slots t) (x : ℕ) (low : x < s
 
   -- split changes link 0 of the darts gs, and the slots fs
   pub split-frame : (n : ℕ) (gs fs : List ℕ) → (In x fs → ⊥) → (j : ℕ) → j < 4 → (j ≡ 0 → In x gs → ⊥)
-      → link (halved n t gs fs) j x ≡ link t j x
-  unfolding halved halvedLink
+      → link (splitBy n t gs fs) j x ≡ link t j x
+  unfolding splitBy splitLink
   split-frame n gs fs k j b i =
-      link-retable t (halvedLink n t gs fs) fits x j low b
-      ∙ rw (le-ltb (indexOf x fs) (length fs) (index-out fs x k), halvedLink) (if-eq j 0
+      link-retable t (splitLink n t gs fs) fits x j low b
+      ∙ rw (le-ltb (indexOf x fs) (length fs) (index-out fs x k), splitLink) (if-eq j 0
       (λ e. rw (eq-eqb j 0 e, le-ltb (indexOf x gs) (length gs) (index-out gs x (i e))))
       (λ e. rw (ne-eqb j 0 e)))
 

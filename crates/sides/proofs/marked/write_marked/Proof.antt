@@ -30,13 +30,13 @@ cast-w c = omega (arith, c .slice-known2 .given 0)
 add-w : tie.Need-add-w Inv-loop μ-loop
 add-w c = omega (arith, c .slice-known2 .given 0)
 
-skip-clear-requires : tie.Need-skip-clear-requires Inv-loop μ-loop
-skip-clear-requires c κs = omega arith
+skip-blocks-requires : tie.Need-skip-blocks-requires Inv-loop μ-loop
+skip-blocks-requires c κs = omega arith
 
 loop-holds : tie.Need-loop-holds Inv-loop μ-loop
 unfolding cursor slots
 loop-holds c =
-    (refl, λ v T. record { y = 0; inside = omega arith; skips = c .skip-clear .ensures; turn = turn-start T })
+    (refl, λ v T. record { y = 0; inside = omega arith; skips = c .skip-blocks .ensures; turn = turn-start T })
 
 cast-write-turn : tie.Need-cast-write-turn Inv-loop μ-loop
 cast-write-turn c =
@@ -61,8 +61,8 @@ add-skip-clear c =
     let low = i .loop-test .taken in
     omega arith
 
-skip-clear-requires-2 : tie.Need-skip-clear-requires-2 Inv-loop μ-loop
-skip-clear-requires-2 c κs =
+skip-clear-requires : tie.Need-skip-clear-requires Inv-loop μ-loop
+skip-clear-requires c κs =
     let i = c .before .before .before .before in
     let wide = start (i .before) .pre .is .freed .wide in
     let same = i .before .loop .inv .0 in
@@ -72,7 +72,7 @@ skip-clear-requires-2 c κs =
 loop-less : tie.Need-loop-less Inv-loop μ-loop
 loop-less c =
     let i = c .before .before .before .before .before in
-    let on = c .skip-clear2 .ensures .onward in
+    let on = c .skip-clear .ensures .onward in
     let low = i .loop-test .taken in
     omega arith
 
@@ -87,7 +87,7 @@ loop-again c =
       λ v T. record {
         y = l .loop .x + 1;
         inside = omega arith;
-        skips = c .skip-clear2 .ensures;
+        skips = c .skip-clear .ensures;
         turn = w .write-turn .ensures _ _ (skipped-here (l .loop .inv .1 v T) (omega arith));
       },
     )
@@ -115,12 +115,12 @@ write-marked-spec =
     slice-read-w
     cast-w
     add-w
-    skip-clear-requires
+    skip-blocks-requires
     loop-holds
     cast-write-turn
     write-turn-requires
     add-skip-clear
-    skip-clear-requires-2
+    skip-clear-requires
     loop-less
     loop-again
     same-length

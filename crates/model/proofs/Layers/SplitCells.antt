@@ -8,7 +8,7 @@ use mathlib.Core.List.{List, List·Memᴰ as In}
 use native.Mathlib.Omega.{arith}
 use Rattle.model.specs.Table.{link, live}
 use Rattle.model.specs.Cell.{cellSize, cellOf, goodCell}
-use Rattle.model.specs.Split.{newDart, halved}
+use Rattle.model.specs.Split.{newDart, splitBy}
 use Rattle.model.specs.Meaning.Maps.{BlockTable}
 use Rattle.model.specs.Meaning.Places.{place, AtPlace, Chart}
 use Rattle.model.specs.Meaning.Sets.{Marked}
@@ -16,10 +16,10 @@ use Rattle.model.proofs.Maps.Tables.{mapTable}
 use Rattle.model.proofs.Cells.Cell.{cell-own, cell-live, cell-same, all-places, place-in}
 use Rattle.model.proofs.Cells.Chart.{chart-place, place-chart}
 use Rattle.model.proofs.Operations.Frame.{cell-kept}
-use Rattle.model.proofs.Layers.Cut.{Cut, split-slots, split-kept}
-use Rattle.model.proofs.Layers.Split.{Live, old, new, split-live, live-split}
-use Rattle.model.proofs.Layers.Halves.{halfDart, InHalf, half-chart, half-own, half-live, half-old, across-out}
-use Rattle.model.proofs.Layers.Halves.{place-in-half, new-in-half, half-or, split-block}
+use Rattle.model.proofs.Layers.Splitting.{Splitting, split-slots, split-kept}
+use Rattle.model.proofs.Layers.SplitMap.{Live, old, new, split-live, live-split}
+use Rattle.model.proofs.Layers.SplitBlock.{halfDart, InHalf, half-chart, half-own, half-live, half-old, across-out}
+use Rattle.model.proofs.Layers.SplitBlock.{place-in-half, new-in-half, half-or, split-block}
 
 -- ---- a cell is its places, and its chart
 
@@ -43,7 +43,7 @@ module _ {n : ℕ} {u : List ℕ} (U : BlockTable n u) (c : ℕ → ℕ) (chart 
       let (k, h, e) = marked-place U (c 0) base x (rw q at m) in
       (k, h, e ∙ seen k h)
 
--- ---- each cut cell becomes two
+-- ---- each split cell becomes two
 
 -- of a dart g of the sheet: its cell after split is here, that of the dart which its link 0 led to is across
 pub record TwoCells (n : ℕ) (t u : List ℕ) (g : ℕ) : Type 0 where
@@ -55,9 +55,9 @@ pub record TwoCells (n : ℕ) (t u : List ℕ) (g : ℕ) : Type 0 where
   pub shared : (x : ℕ) → Marked (cellOf n t g) x → Marked (cellOf n u g) x ⊎ Marked (cellOf n u (link t 0 g)) x
   pub from : (x : ℕ) → live t x ≡ true → Marked (cellOf n u g) x → Marked (cellOf n t g) x
 
-module _ {n : ℕ} {t gs fs : List ℕ} (C : Cut n t gs fs) where
+module _ {n : ℕ} {t gs fs : List ℕ} (C : Splitting n t gs fs) where
   abbrev after : List ℕ
-  after = halved n t gs fs
+  after = splitBy n t gs fs
 
   abbrev before : BlockTable n t
   before = C .table
@@ -111,20 +111,20 @@ module _ {n : ℕ} {t gs fs : List ℕ} (C : Cut n t gs fs) where
   -- ---- every other cell stays
 
   -- the cell of x holds no dart of the sheet
-  abbrev pub Uncut : ℕ → Type 0
-  Uncut x = (y : ℕ) → Marked (cellOf n t x) y → In y gs → ⊥
+  abbrev pub Unsplit : ℕ → Type 0
+  Unsplit x = (y : ℕ) → Marked (cellOf n t x) y → In y gs → ⊥
 
-  pub cell-stays : (x : ℕ) → live t x ≡ true → Uncut x → cellOf n after x ≡ cellOf n t x
+  pub cell-stays : (x : ℕ) → live t x ≡ true → Unsplit x → cellOf n after x ≡ cellOf n t x
   cell-stays x l none = cell-kept n t after x (split-slots C) (λ y j m b.
       let top = before .dim .1 in
       split-kept C y j (cell-live (mapTable before) x l y m) (omega arith) (λ _. none y m))
 
   -- and there are no others
   pub all-cells : (x : ℕ) → live after x ≡ true
-      → ((live t x ≡ true) × Uncut x) ⊎ ((g : ℕ) × In g gs × Marked (cellOf n after g) x)
+      → ((live t x ≡ true) × Unsplit x) ⊎ ((g : ℕ) × In g gs × Marked (cellOf n after g) x)
   all-cells x l = cases (live-split C x l)
     where
-      cases : Live C x → ((live t x ≡ true) × Uncut x) ⊎ ((g : ℕ) × In g gs × Marked (cellOf n after g) x)
+      cases : Live C x → ((live t x ≡ true) × Unsplit x) ⊎ ((g : ℕ) × In g gs × Marked (cellOf n after g) x)
       cases (old l) = half-or C x l (λ g i w. inr (g, i, half-marked g i x w))
           (λ off. inl (l, λ y m i. let (k, h, e) = marked-place before x l y m in off k h (rw e at i)))
       cases (new w) = inr (w .of, w .member, rw (w .is) (new-marked (w .role) (w .of) (w .low) (w .member)))

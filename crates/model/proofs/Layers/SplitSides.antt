@@ -1,4 +1,4 @@
--- split folds no side (`halved-straight`). An old dart, an a, and in 3D a b, has in its side only such darts, each of a dart of the
+-- split folds no side (`split-straight`). An old dart, an a, and in 3D a b, has in its side only such darts, each of a dart of the
 -- old side (`Low`), and its link n follows that of its dart. The last new dart, b in 2D and c in 3D, has in its side only
 -- the last new darts of even places (`Even`), and its link n leads to that of g.0, which is at an odd one.
 use Prim.Native.Nat.{ℕ, zero, suc, _+_, _-_, _%_, _≤_, _<_}
@@ -15,7 +15,7 @@ use Rattle.model.specs.Table.{link, walk, live}
 use Rattle.model.specs.Cell.{cellSize}
 use Rattle.model.specs.Numbering.{cellLink}
 use Rattle.model.specs.Sew.{side}
-use Rattle.model.specs.Split.{newDart, halved}
+use Rattle.model.specs.Split.{newDart, splitBy}
 use Rattle.model.specs.Everything.{everything}
 use Rattle.model.specs.Meaning.Maps.{BlockTable, Dim, Rule, Straight}
 use Rattle.model.specs.Meaning.Sets.{Marked}
@@ -30,9 +30,9 @@ use Rattle.model.proofs.Sewing.Side.{on-side, side-own, side-far, side-
 use Rattle.model.proofs.Cells.Places.{same, same-eq}
 use Rattle.model.proofs.Cells.Rows.{rowWalk, small, walk-keeps, walk-rows, rows-in}
 use Rattle.model.proofs.Cells.Chart.{block-straight, place-chart, place-zero, place-one}
-use Rattle.model.proofs.Layers.Cut.{Cut, new-in, new-one, not-new, split-kept}
+use Rattle.model.proofs.Layers.Splitting.{Splitting, new-in, new-one, not-new, split-kept}
 use Rattle.model.proofs.Layers.Role.{roleTo, roleWord, roleDart, opposed, keepsSheet, sheet-walk, role-link}
-use Rattle.model.proofs.Layers.Split.{Live, old, new, live-split}
+use Rattle.model.proofs.Layers.SplitMap.{Live, old, new, live-split}
 use Rattle.model.proofs.Layers.Half.{half-size, in-half}
 
 -- ---- the rows of the roles, computed
@@ -72,9 +72,9 @@ rows n dim = two-cases n dim Rows
     (record { low = refl; over = refl; last = refl; last-over = (refl, refl); evens = refl; first = refl; odd = refl; word = refl })
     (record { low = refl; over = refl; last = refl; last-over = (refl, refl); evens = refl; first = refl; odd = refl; word = refl })
 
-module _ {n : ℕ} {t gs fs : List ℕ} (C : Cut n t gs fs) where
+module _ {n : ℕ} {t gs fs : List ℕ} (C : Splitting n t gs fs) where
   abbrev after : List ℕ
-  after = halved n t gs fs
+  after = splitBy n t gs fs
 
   abbrev role : ℕ → ℕ → ℕ
   role = roleDart n gs fs
@@ -279,9 +279,9 @@ module _ {n : ℕ} {t gs fs : List ℕ} (C : Cut n t gs fs) where
 
   -- ---- all sides
 
-  pub halved-straight : (x : ℕ) → live (halved n t gs fs) x ≡ true → Straight n (halved n t gs fs) x
+  pub split-straight : (x : ℕ) → live (splitBy n t gs fs) x ≡ true → Straight n (splitBy n t gs fs) x
   unfolding roleDart
-  halved-straight x l = go x (live-split C x l)
+  split-straight x l = go x (live-split C x l)
     where
       by-role : (r h : ℕ) → r < n → In h gs → Straight n after (newDart n gs fs r h)
       by-role r h b i = if-eq (suc r) n

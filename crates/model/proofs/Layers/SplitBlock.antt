@@ -12,7 +12,7 @@ use Rattle.model.specs.Lists.{allBelow}
 use Rattle.model.specs.Table.{link, walk, live}
 use Rattle.model.specs.Cell.{cellSize}
 use Rattle.model.specs.Numbering.{cellLink}
-use Rattle.model.specs.Split.{newDart, halved}
+use Rattle.model.specs.Split.{newDart, splitBy}
 use Rattle.model.specs.Meaning.Sizes.{member}
 use Rattle.model.specs.Meaning.Maps.{BlockTable, Dim}
 use Rattle.model.specs.Meaning.Places.{path, place, Chart}
@@ -23,10 +23,10 @@ use Rattle.model.proofs.Maps.Dim.{two-cases, size-some}
 use Rattle.model.proofs.Cells.Rows.{walk-rows, rows-in, path-small}
 use Rattle.model.proofs.Cells.Chart.{Charted, block-by, chart-kept}
 use Rattle.model.proofs.Cells.Chart.{place-chart, place-zero, place-live, place-back, place-one}
-use Rattle.model.proofs.Layers.Cut.{Cut, new-in, new-one, not-new, split-cut, split-kept}
+use Rattle.model.proofs.Layers.Splitting.{Splitting, new-in, new-one, not-new, split-dart-link, split-kept}
 use Rattle.model.proofs.Layers.Role.{roleTo, roleWord, roleDart, sheet-rule, role-link}
-use Rattle.model.proofs.Layers.Split.{Live, old, new, live-role, split-table, split-live, live-split}
-use Rattle.model.proofs.Layers.HalvedSides.{halved-straight}
+use Rattle.model.proofs.Layers.SplitMap.{Live, old, new, live-role, split-table, split-live, live-split}
+use Rattle.model.proofs.Layers.SplitSides.{split-straight}
 use Rattle.model.proofs.Layers.Half.{half-size, in-half, out-crosses}
 use Rattle.model.proofs.Layers.Spot.{Spot, spot, spotLink, spotAt, valid, across, Held}
 use Rattle.model.proofs.Layers.Spot.{spot-valid, spot-link, spot-apart, word-small}
@@ -51,9 +51,9 @@ module _ (n : ℕ) (t gs fs : List ℕ) (g : ℕ) where
   abbrev pub InHalf : ℕ → Type 0
   InHalf x = (k : ℕ) × (k < cellSize n) × (x ≡ halfDart k)
 
-module _ {n : ℕ} {t gs fs : List ℕ} (C : Cut n t gs fs) where
+module _ {n : ℕ} {t gs fs : List ℕ} (C : Splitting n t gs fs) where
   abbrev after : List ℕ
-  after = halved n t gs fs
+  after = splitBy n t gs fs
 
   abbrev B : BlockTable n t
   B = C .table
@@ -65,7 +65,7 @@ module _ {n : ℕ} {t gs fs : List ℕ} (C : Cut n t gs fs) where
   some-link = let two = dim .0 in omega arith
 
   out-half : (g p : ℕ) → In g gs → half n ≤ p → p < cellSize n → In (place n t g p) gs → ⊥
-  out-half g p i l h k = let r = out-crosses B (C .sheet) g p i l h k in C .parted (r .0) (r .1) (r .2)
+  out-half g p i l h k = let r = out-crosses B (C .sheet) g p i l h k in C .uncrossed (r .0) (r .1) (r .2)
 
   -- ---- the half of a dart of the sheet
 
@@ -97,7 +97,7 @@ module _ {n : ℕ} {t gs fs : List ℕ} (C : Cut n t gs fs) where
         = λ k. split-kept C (seen p) j (seen-lives p h) (omega arith) k ∙ place-chart B g lives .follow j p b h in
         if-eq j 0
         (λ e. if-lt p (half n)
-        (λ l. rw (eq-eqb j 0 e, lt-ltb p (half n) l, spotLink, e) (split-cut C (seen p) (in-sheet p l)))
+        (λ l. rw (eq-eqb j 0 e, lt-ltb p (half n) l, spotLink, e) (split-dart-link C (seen p) (in-sheet p l)))
         (λ l. rw (eq-eqb j 0 e, le-ltb p (half n) l, spotLink) (stays (λ _. out-half g p i l h))))
         (λ e. rw (ne-eqb j 0 e, spotLink) (stays (λ z. absurd (e z))))
     spot-follows (spot (suc r) p) j v b =
@@ -249,8 +249,8 @@ module _ {n : ℕ} {t gs fs : List ℕ} (C : Cut n t gs fs) where
     is = place-zero B x l;
   }
 
-  pub split-block : BlockTable n (halved n t gs fs)
-  split-block = block-by (split-table C) (λ x l. charted x (live-split C x l)) (halved-straight C)
+  pub split-block : BlockTable n (splitBy n t gs fs)
+  split-block = block-by (split-table C) (λ x l. charted x (live-split C x l)) (split-straight C)
     where
       charted : (x : ℕ) → Live C x → Charted n after x
       charted x (old l) = half-or x l (λ g i w. half-charted g x i w) (untouched-charted x l)

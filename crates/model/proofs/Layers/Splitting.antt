@@ -1,5 +1,5 @@
--- What split is given (`Cut`), its new slots with the new darts in them, and its links as the model has them:
--- link 0 of the darts of the sheet (`split-cut`), the links of the new darts (`new-link`), and what stays (`split-kept`).
+-- What split is given (`Splitting`), its new slots with the new darts in them, and its links as the model has them:
+-- link 0 of the darts of the sheet (`split-dart-link`), the links of the new darts (`new-link`), and what stays (`split-kept`).
 use Prim.Native.Nat.{ℕ, _+_, _*_, _/_, _%_, _<_}
 use mathlib.Core.Path.{_≡_, sym, ap, ap₂, _∙_}
 use mathlib.Core.Bool.{true, false}
@@ -10,7 +10,7 @@ use borrow.Author.Tests.{lt-ltb, le-ltb}
 use Rattle.model.specs.Lists.{ones, indexOf}
 use Rattle.model.specs.Table.{unused, slots, link, live}
 use Rattle.model.specs.Sheet.{sheet}
-use Rattle.model.specs.Split.{crosses, newDart, newDartLink, halvedLink, halved, splitSlots}
+use Rattle.model.specs.Split.{crosses, newDart, newDartLink, splitLink, splitBy, splitSlots}
 use Rattle.model.specs.Meaning.Maps.{BlockTable, Dim}
 use Rattle.model.specs.Meaning.Sheets.{BlockDart}
 use Rattle.model.proofs.Lists.Scan.{clash}
@@ -28,19 +28,19 @@ pub record Splits (n : ℕ) (t : List ℕ) (d : ℕ) : Type 0 where
   pub room : length (splitSlots n t (ones (sheet n t d))) ≡ n * length (ones (sheet n t d))
 
 -- a block map, the darts gs of a sheet of which none has its link 1 among them, and n vacant slots fs for each
-pub record Cut (n : ℕ) (t gs fs : List ℕ) : Type 0 where
+pub record Splitting (n : ℕ) (t gs fs : List ℕ) : Type 0 where
   pub table : BlockTable n t
   pub sheet : Sheet n t gs
-  pub parted : (x : ℕ) → In x gs → In (link t 1 x) gs → ⊥
+  pub uncrossed : (x : ℕ) → In x gs → In (link t 1 x) gs → ⊥
   pub vacant : Vacant t fs
   pub enough : length fs ≡ n * length gs
 
-pub split-cuts : {n : ℕ} {t : List ℕ} {d : ℕ} → Splits n t d → Cut n t (ones (sheet n t d)) (splitSlots n t (ones (sheet n t d)))
+pub splits-splitting : {n : ℕ} {t : List ℕ} {d : ℕ} → Splits n t d → Splitting n t (ones (sheet n t d)) (splitSlots n t (ones (sheet n t d)))
 unfolding splitSlots
-split-cuts {n} {t} {d} s = record {
+splits-splitting {n} {t} {d} s = record {
   table = s .dart .table;
   sheet = sheet-of (s .dart);
-  parted = crosses-none t (sheet n t d) (s .uncrossed);
+  uncrossed = crosses-none t (sheet n t d) (s .uncrossed);
   vacant = vacant-frees t (n * length (ones (sheet n t d)));
   enough = s .room;
 }
@@ -72,7 +72,7 @@ pub record IsNew (n : ℕ) (gs fs : List ℕ) (x : ℕ) : Type 0 where
   pub member : In of gs
   pub is : x ≡ newDart n gs fs role of
 
-module _ {n : ℕ} {t gs fs : List ℕ} (C : Cut n t gs fs) where
+module _ {n : ℕ} {t gs fs : List ℕ} (C : Splitting n t gs fs) where
   abbrev dim : Dim n
   dim = C .table .dim
 
@@ -121,20 +121,20 @@ module _ {n : ℕ} {t gs fs : List ℕ} (C : Cut n t gs fs) where
   -- ---- the links
 
   abbrev after : List ℕ
-  after = halved n t gs fs
+  after = splitBy n t gs fs
 
   pub split-slots : slots after ≡ slots t
-  unfolding halved
-  split-slots = slots-retable t (halvedLink n t gs fs) (C .table .whole)
+  unfolding splitBy
+  split-slots = slots-retable t (splitLink n t gs fs) (C .table .whole)
 
   pub split-whole : length after ≡ 4 * slots after
-  unfolding halved
+  unfolding splitBy
   split-whole =
-      length-retable t (halvedLink n t gs fs) (C .table .whole) ∙ C .table .whole ∙ ap (λ (k : ℕ). 4 * k) (sym split-slots)
+      length-retable t (splitLink n t gs fs) (C .table .whole) ∙ C .table .whole ∙ ap (λ (k : ℕ). 4 * k) (sym split-slots)
 
-  after-link : (x j : ℕ) → x < slots t → j < 4 → link after j x ≡ halvedLink n t gs fs x j
-  unfolding halved
-  after-link = link-retable t (halvedLink n t gs fs) (C .table .whole)
+  after-link : (x j : ℕ) → x < slots t → j < 4 → link after j x ≡ splitLink n t gs fs x j
+  unfolding splitBy
+  after-link = link-retable t (splitLink n t gs fs) (C .table .whole)
 
   sheet-below : (x : ℕ) → In x gs → x < slots t
   sheet-below x i = live-below (mapTable (C .table)) x (C .sheet .lives x i)
@@ -143,20 +143,20 @@ module _ {n : ℕ} {t gs fs : List ℕ} (C : Cut n t gs fs) where
   not-new x l i = clash l (C .vacant .dead x i)
 
   -- "g.0 = a(g)"
-  pub split-cut : (g : ℕ) → In g gs → link after 0 g ≡ newDart n gs fs 0 g
-  unfolding halvedLink
-  split-cut g i =
+  pub split-dart-link : (g : ℕ) → In g gs → link after 0 g ≡ newDart n gs fs 0 g
+  unfolding splitLink
+  split-dart-link g i =
       let not-slot = le-ltb (indexOf g fs) (length fs) (index-out fs g (not-new g (C .sheet .lives g i))) in
       let dart = lt-ltb (indexOf g gs) (length gs) (index-in gs g i) in
-      after-link g 0 (sheet-below g i) (omega arith) ∙ rw (not-slot, dart, halvedLink)
+      after-link g 0 (sheet-below g i) (omega arith) ∙ rw (not-slot, dart, splitLink)
 
   pub new-link : (r g j : ℕ) → r < n → In g gs → j < 4
       → link after j (newDart n gs fs r g) ≡ newDartLink n t gs fs (newDart n gs fs r g) g r j
-  unfolding halvedLink
+  unfolding splitLink
   new-link r g j b i h =
       let x = newDart n gs fs r g in
       after-link x j (C .vacant .inside x (new-in r g b i)) h
-      ∙ rw (lt-ltb (indexOf x fs) (length fs) (index-in fs x (new-in r g b i)), halvedLink)
+      ∙ rw (lt-ltb (indexOf x fs) (length fs) (index-in fs x (new-in r g b i)), splitLink)
       (ap₂ (λ (y s : ℕ). newDartLink n t gs fs x y s j) (new-dart r g b i) (new-role r g b i))
 
   -- "All else stays."

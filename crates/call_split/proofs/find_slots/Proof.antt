@@ -1,0 +1,64 @@
+-- `call_split::find_slots` meets its contract.
+use Prim.Native.Nat.{ℕ, _*_, _≤_}
+use mathlib.Core.Path.{refl, sym, ap, _∙_}
+use mathlib.Core.List.{List}
+use native.Mathlib.Omega.{arith}
+use lib.ListN.{take}
+use lib.Dec.{eqb}
+use borrow.Author.Needs.{needs}
+use borrow.Author.Tests.{eqb-true, eqb-false}
+use Rattle.model.specs.Table.{slots, unusedSlots}
+use Rattle.model.proofs.Lists.Scan.{clash}
+use Rattle.reading.specs.Lowest.{Lists}
+use Rattle.call_split.specs.Slots.{SlotsFound}
+use Rattle.call_split.proofs.find_slots.Statement.{statement}
+use Rattle.call_split.proofs.find_slots.Tie as tie
+
+-- no more than half of the slots are asked for, and r are listed
+found : {t : List ℕ} {new r : ℕ} {words₀ words : List ℕ} → 2 * new ≤ slots t → Lists (take new (unusedSlots t)) r words₀ words
+    → SlotsFound t new words₀ words (eqb r new)
+found {t} {new} {r} {words₀} {words} half L = record {
+  long = L .long;
+  half = λ h. half;
+  listed = λ h. ap (λ (k : ℕ). take k words) (sym (eqb-true r new h)) ∙ L .front;
+  enough = λ h. sym (L .size) ∙ eqb-true r new h;
+  few = λ h _ all. eqb-false r new h (L .size ∙ all);
+}
+
+mul-if1 : tie.Need-mul-if1
+mul-if1 c = search needs
+
+slots-requires : tie.Need-slots-requires
+slots-requires c κs = search needs
+
+returns : tie.Need-returns
+returns c =
+    let is = c .before .slots .ensures in
+    let more = c .if1 .taken in
+    record {
+      long = refl;
+      half = λ e. absurd (clash e refl);
+      listed = λ e. absurd (clash e refl);
+      enough = λ e. absurd (clash e refl);
+      few = λ e h. absurd (omega arith);
+    }
+
+list-unused-requires : tie.Need-list-unused-requires
+list-unused-requires c κs =
+    let is = c .before .before .slots .ensures in
+    search needs
+
+same-length : tie.Need-same-length
+same-length c = search needs
+
+returns-2 : tie.Need-returns-2
+returns-2 c =
+    let u = c .before .before in
+    let e = u .before .before in
+    let is = e .before .slots .ensures in
+    let low = e .if1 .left in
+    found (omega arith) (u .list-unused .ensures)
+
+pub find-slots-spec : {M : Type 1} → statement M
+find-slots-spec =
+    tie.close (tie.spec mul-if1 slots-requires returns list-unused-requires same-length returns-2)

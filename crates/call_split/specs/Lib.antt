@@ -1,0 +1,4 @@
+pub mod Sheets
+pub mod Slots
+pub mod News
+pub mod Drafting
