@@ -2,7 +2,6 @@
 -- by which test 11 goes (`sewn-test`), that the table and the journal fit (`table-rule`, `journal-rule`), what the record is drafted from (`unsewn-turning`) and is (`unsewn-drafted`).
 use Prim.Native.Nat.{ℕ, _≤_}
 use mathlib.Core.Path.{_≡_, sym, ap}
-use mathlib.Core.Logic.{_≢_}
 use mathlib.Core.Bool.{Bool, false, not}
 use mathlib.Core.List.{List, []}
 use lib.ListN.{length}

@@ -12,7 +12,7 @@ use borrow.Author.Tests.{eq-eqb, ne-eqb}
 use Rattle.model.specs.Lists.{tabulate, count}
 use Rattle.model.specs.Table.{slots, link, live}
 use Rattle.model.specs.Journal.{changesFrom}
-use Rattle.model.specs.Sew.{side, unsewTable}
+use Rattle.model.specs.Sew.{unsewTable}
 use Rattle.model.specs.Meaning.Sets.{Marked, Bits}
 use Rattle.model.specs.Meaning.Pairings.{OnSide}
 use Rattle.model.proofs.Lists.Scan.{if-eq, if-lt, length-tab, getD-tab}

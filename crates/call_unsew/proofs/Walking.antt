@@ -1,7 +1,7 @@
 -- The walk of d's side that marks its darts and their partners: `Going` is the loop's invariant of `mark_side`. A turn marks two couples
 -- (`going-turn`), and the walk goes on (`going-on`) or has marked all (`going-round`).
 use Prim.Native.Nat.{ℕ, suc, _+_, _<_}
-use mathlib.Core.Path.{_≡_, refl, sym, ap, _∙_, subst}
+use mathlib.Core.Path.{_≡_, sym, ap, _∙_, subst}
 use mathlib.Core.Logic.{_⊎_, inl, inr, _≢_, ⊎-elim}
 use mathlib.Core.List.{List}
 use native.Mathlib.Omega.{arith}

@@ -1,10 +1,10 @@
 -- The flood: what holds of marks and queue while it runs (`Flooding`), which darts have gone their links (`Gone`), that the turn of a dart
 -- keeps both (`turned`), and that at the end the darts found are the orbit (`ended`).
 use Prim.Native.Nat.{ℕ, zero, suc, _+_, _/_, _%_, _^_, _≤_, _<_}
-use mathlib.Core.Path.{_≡_, refl, sym, ap, _∙_}
-use mathlib.Core.Logic.{inl, inr, ⊎-elim}
-use mathlib.Core.Bool.{true, false}
-use mathlib.Core.List.{List, [], _∷_}
+use mathlib.Core.Path.{_≡_, refl, sym, _∙_}
+use mathlib.Core.Logic.{inr, ⊎-elim}
+use mathlib.Core.Bool.{true}
+use mathlib.Core.List.{List}
 use native.Mathlib.Omega.{arith}
 use lib.ListN.{length, getD, set, replicate, length-set, length-replicate}
 use lib.Seq.{getD-set-same, getD-set-other}
@@ -18,10 +18,10 @@ use Rattle.model.proofs.Lists.Scan.{if-eq, if-lt, test, clash}
 use Rattle.model.proofs.Sets.Least.{least-set-unique, orbit-is}
 use Rattle.model.proofs.Maps.Dim.{two-cases}
 use Rattle.model.proofs.Maps.Tables.{live-below, rule-at}
-use Rattle.reach.specs.Search.{Search, searchOf, meet, follow, followBelow, Found, Listed}
+use Rattle.reach.specs.Search.{Search, searchOf, meet, follow, followBelow}
 use Rattle.reach.specs.Given.{Given, Linked, Room, Stepping}
-use Rattle.reach.proofs.Marks.{marked-found, found-marked, count-bits, alone, alone-own, alone-only, alone-bits, alone-count}
-use Rattle.reach.proofs.Meeting.{Later, later-same, later-then, meet-new, meet-old, meet-later, meet-own, store-only, listed-more}
+use Rattle.reach.proofs.Marks.{Found, marked-found, found-marked, count-bits, alone, alone-own, alone-only, alone-bits, alone-count}
+use Rattle.reach.proofs.Meeting.{Listed, Later, later-same, later-then, meet-new, meet-old, meet-later, meet-own, store-only, listed-more}
 use Rattle.reach.proofs.Meeting.{room-left, link-in, follow-takes, follow-skips, follow-later}
 
 -- ---- a flood and its state

@@ -1,6 +1,6 @@
 -- Lists of marks: how many are 0 or 1, and d's mark alone.
 use Prim.Native.Nat.{ℕ, suc, _+_, _<_}
-use mathlib.Core.Path.{_≡_, refl, sym, _∙_}
+use mathlib.Core.Path.{_≡_, refl, _∙_}
 use mathlib.Core.Logic.{inl, inr, ⊎-elim, _≢_}
 use mathlib.Core.List.{List, [], _∷_, List·Memᴰ·not-nil as not-nil, List·Memᴰ·head as here, List·Memᴰ·eq-of-singleton as sole}
 use native.Mathlib.Omega.{arith}
@@ -11,7 +11,10 @@ use Rattle.model.specs.Lists.{count}
 use Rattle.model.specs.Meaning.Sets.{Bits, Marked}
 use Rattle.model.proofs.Lists.Scan.{if-eq, if-lt}
 use Rattle.model.proofs.Sets.Pigeon.{cover, distinct-le, more, none}
-use Rattle.reach.specs.Search.{Found}
+
+-- x has a mark
+abbrev pub Found : List ℕ → ℕ → Type 0
+Found m x = getD m x 0 ≢ 0
 
 pub marked-found : (m : List ℕ) (x : ℕ) → Marked m x → Found m x
 marked-found m x h e = omega arith

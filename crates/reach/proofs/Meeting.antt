@@ -15,8 +15,15 @@ use Rattle.model.specs.Table.{slots, link, live}
 use Rattle.model.specs.Orbit.{bit}
 use Rattle.model.proofs.Lists.Scan.{if-eq, test, count-change}
 use Rattle.model.proofs.Maps.Rules.{live-in}
-use Rattle.reach.specs.Search.{Search, searchOf, meet, follow, followBelow, Found, Listed}
+use Rattle.reach.specs.Search.{Search, searchOf, meet, follow, followBelow}
 use Rattle.reach.specs.Given.{Linked, Room, Stepping, Meeting}
+use Rattle.reach.proofs.Marks.{Found}
+
+-- the first r words of the queue are the darts that have a mark, and as many
+pub record Listed (m q : List ℕ) (r : ℕ) : Type 0 where
+  pub number : r + count 0 m ≡ length m
+  pub inside : (j : ℕ) → j < r → Found m (getD q j 0)
+  pub all : (x : ℕ) → Found m x → (j : ℕ) × (j < r) × (getD q j 0 ≡ x)
 
 -- s′ is later than s: what is found stays found, and in its place in the queue
 pub record Later (s s′ : Search) : Type 0 where

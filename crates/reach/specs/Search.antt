@@ -1,13 +1,9 @@
--- The flood as the code does it: marks, and a queue of the darts found. `meet`, `follow` and `followBelow` are its steps; `Listed` says
--- what stands in the queue.
-use Prim.Native.Nat.{ℕ, zero, suc, _+_, _<_}
-use mathlib.Core.Path.{_≡_}
-use mathlib.Core.Logic.{_≢_}
+-- The flood as the code does it: marks, and a queue of the darts found. `meet`, `follow` and `followBelow` are its steps.
+use Prim.Native.Nat.{ℕ, zero, suc, _+_}
 use mathlib.Core.Bool.{true, false}
 use mathlib.Core.List.{List}
-use lib.ListN.{length, getD, set}
+use lib.ListN.{getD, set}
 use lib.Dec.{eqb}
-use Rattle.model.specs.Lists.{count}
 use Rattle.model.specs.Table.{link}
 use Rattle.model.specs.Orbit.{bit}
 
@@ -36,13 +32,3 @@ follow t mask x i s = elim (bit mask i) [ true ↦ meet (link t i x) s | false �
 unfoldable pub followBelow : List ℕ → ℕ → ℕ → ℕ → Search → Search
 followBelow t mask x zero s = s
 followBelow t mask x (suc i) s = follow t mask x i (followBelow t mask x i s)
-
--- x has a mark
-abbrev pub Found : List ℕ → ℕ → Type 0
-Found m x = getD m x 0 ≢ 0
-
--- the first r words of the queue are the darts that have a mark, and as many
-pub record Listed (m q : List ℕ) (r : ℕ) : Type 0 where
-  pub number : r + count 0 m ≡ length m
-  pub inside : (j : ℕ) → j < r → Found m (getD q j 0)
-  pub all : (x : ℕ) → Found m x → (j : ℕ) × (j < r) × (getD q j 0 ≡ x)

@@ -1,7 +1,7 @@
 // What is reached from a dart by the links of a mask: a flood over a queue that the caller lends.
 ghost use mathlib.Core.Path.{_≡_};
 ghost use Prim.Native.Nat.{_+_, _^_, _<_};
-ghost use lib.ListN.{length, getD, set, replicate};
+ghost use lib.ListN.{length, set, replicate};
 ghost use Rattle.model.specs.Lists.{count};
 ghost use Rattle.model.specs.Orbit.{orbit};
 ghost use Rattle.reach.specs.Search.{searchOf, meet, follow, followBelow};

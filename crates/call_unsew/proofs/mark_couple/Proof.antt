@@ -1,9 +1,10 @@
 -- `call_unsew::mark_couple` meets its contract.
+use mathlib.Core.Path.{sym, _∙_}
 use native.Mathlib.Omega.{arith}
 use borrow.Author.Needs.{needs}
 use Rattle.model.proofs.Maps.Rules.{live-in}
 use Rattle.sides.proofs.Entries.{live-entry, link-low}
-use Rattle.call_unsew.proofs.Marks.{marking-few, marking-both}
+use Rattle.call_unsew.proofs.Marks.{marking-few, marking-as, marking-both}
 use Rattle.call_unsew.proofs.mark_couple.Statement.{statement}
 use Rattle.call_unsew.proofs.mark_couple.Tie as tie
 
@@ -23,9 +24,11 @@ mark-requires-2 c κs =
     let marked = c .before .before .before in
     let l = marked .before .before in
     let (linked, index, lives, wide) = l .before .before .before .pre in
-    let low = link-low linked _ _ lives index in
+    let low = live-in _ _ (linked .fits) lives in
+    let to = link-low linked _ _ lives index in
+    let is = l .link-in .ensures in
     let long = marked .mark .ensures .long in
-    rw (l .link-in .ensures) (omega arith)
+    omega arith
 
 -- where the first is marked
 abbrev first : tie.After-mark2 → tie.After-mark
@@ -44,7 +47,8 @@ same-length c = search needs
 returns : tie.Need-returns
 returns c =
     let second = c .before .before in
-    marking-both (first second .mark .ensures) (rw (first second .before .before .link-in .ensures) at (second .mark2 .ensures))
+    let is = first second .before .before .link-in .ensures in
+    marking-both (first second .mark .ensures) (marking-as (second .mark2 .ensures) (λ z e. e ∙ is) (λ z e. e ∙ sym is))
 
 pub mark-couple-spec : {M : Type 1} → statement M
 mark-couple-spec = tie.close (tie.spec link-in-requires mark-requires mark-requires-2 add-result same-length returns)

@@ -1,6 +1,6 @@
 -- `call_unsew::mark_side` meets its contract. The loop's invariant is `Going`; the measure: the slots, less the turns that lead to x.
 use Prim.Native.Nat.{_-_}
-use mathlib.Core.Path.{_≡_, sym, ap, _∙_}
+use mathlib.Core.Path.{_≡_, ap, _∙_}
 use native.Mathlib.Omega.{arith}
 use borrow.Author.Needs.{needs}
 use Rattle.model.specs.Table.{slots, link}
@@ -72,8 +72,10 @@ mark-couple-requires-2 c κs =
     let long = m .mark-couple .ensures .long ∙ l .loop .inv .marking .long in
     let top = on .table .dim .1 in
     let index = on .index in
-    let lives = s .mapped .linked .goes (l .loop .x) _ (standing-live s (l .loop .inv .at)) (s .first-low) in
-    (s .mapped .linked, omega arith, rw (m .before .before .link-in .ensures) lives, (omega arith, omega arith))
+    let lives = standing-live s (l .loop .inv .at) in
+    let to = s .mapped .linked .goes (l .loop .x) _ lives (s .first-low) in
+    let is = m .before .before .link-in .ensures in
+    (s .mapped .linked, omega arith, (cc), (omega arith, omega arith))
 
 add-size-2 : tie.Need-add-size-2 Inv-loop μ-loop
 add-size-2 c =

@@ -2,7 +2,7 @@
 use Prim.Native.Nat.{_-_}
 use native.Mathlib.Omega.{arith}
 use borrow.Author.Needs.{needs}
-use Rattle.reach.specs.Search.{Search, searchOf}
+use Rattle.reach.specs.Search.{searchOf}
 use Rattle.reach.proofs.Meeting.{Going, going-from, going-stepping, going-on, going-all, going-long}
 use Rattle.reach.proofs.expand.Statement.{statement}
 use Rattle.reach.proofs.expand.Tie as tie
