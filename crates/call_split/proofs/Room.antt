@@ -50,8 +50,8 @@ module _ {n : ℕ} {t : List ℕ} {d : ℕ} (s : Splits n t d) where
   abbrev B : BlockTable n t
   B = s .dart .table
 
-  cut : Splitting n t gs fs
-  cut = splits-splitting s
+  given : Splitting n t gs fs
+  given = splits-splitting s
 
   rule : (x : ℕ) → live t x ≡ true → Rule n t x
   rule x l = rule-at (mapTable B) x l
@@ -82,7 +82,7 @@ module _ {n : ℕ} {t : List ℕ} {d : ℕ} (s : Splits n t d) where
   -- ---- the links 1 of S
 
   lives : (g : ℕ) → In g gs → live t g ≡ true
-  lives g i = cut .sheet .lives g i
+  lives g i = given .sheet .lives g i
 
   next : ℕ → ℕ
   next g = link t 1 g
@@ -103,7 +103,7 @@ module _ {n : ℕ} {t : List ℕ} {d : ℕ} (s : Splits n t d) where
       (λ x i j.
       let (g, in-g, at-g) = copy-of (λ g. g) x i in
       let (h, in-h, at-h) = copy-of next x j in
-      cut .uncrossed h in-h (in-cast (sym at-h ∙ at-g) in-g))
+      given .uncrossed h in-h (in-cast (sym at-h ∙ at-g) in-g))
 
   two-lives : (x : ℕ) → In x two → live t x ≡ true
   unfolding two next
@@ -118,7 +118,7 @@ module _ {n : ℕ} {t : List ℕ} {d : ℕ} (s : Splits n t d) where
 
   module _ (space : n ≡ 3) where
     beside : (g : ℕ) → In g gs → In (link t 2 g) gs
-    beside g i = cut .sheet .far g 2 (omega arith) (omega arith) i
+    beside g i = given .sheet .far g 2 (omega arith) (omega arith) i
 
     over-back : (g : ℕ) → In g gs → link t 2 (over g) ≡ link t 1 g
     unfolding over
@@ -131,7 +131,7 @@ module _ {n : ℕ} {t : List ℕ} {d : ℕ} (s : Splits n t d) where
     -- "going 1, 2 three times returns": h.1.2 is no g.1
     over-next : (g h : ℕ) → In g gs → In h gs → over h ≡ next g → ⊥
     unfolding over next walk
-    over-next g h i j e = cut .uncrossed (link t 2 g) (beside g i) (in-cast turned (beside h j))
+    over-next g h i j e = given .uncrossed (link t 2 g) (beside g i) (in-cast turned (beside h j))
       where
         corner : link t 2 (link t 1 (link t 2 (link t 1 (link t 2 (link t 1 h))))) ≡ h
         corner = good-cell n t (cellOf n t h) .0 (B .good h (lives h j)) .corner space h (cell-own (mapTable B) h (lives h j))
@@ -151,7 +151,7 @@ module _ {n : ℕ} {t : List ℕ} {d : ℕ} (s : Splits n t d) where
         ⊎-elim
         (λ m.
         let (g, in-g, at-g) = copy-of (λ g. g) x m in
-        cut .uncrossed h in-h (in-cast (sym (over-back h in-h) ∙ ap (link t 2) (sym at-h ∙ at-g)) (beside g in-g)))
+        given .uncrossed h in-h (in-cast (sym (over-back h in-h) ∙ ap (link t 2) (sym at-h ∙ at-g)) (beside g in-g)))
         (λ m. let (g, in-g, at-g) = copy-of next x m in over-next g h in-g in-h (sym at-h ∙ at-g)) (in-append (copy (λ g. g)) j))
 
     three-lives : (x : ℕ) → In x (copy over ++ two) → live t x ≡ true
@@ -167,8 +167,8 @@ module _ {n : ℕ} {t : List ℕ} {d : ℕ} (s : Splits n t d) where
   with-new : (l : List ℕ) → Distinct l → ((x : ℕ) → In x l → live t x ≡ true) → n * length gs + length l ≤ slots t
   with-new l once alive =
       let all = distinct-below (slots t) (fs ++ l)
-      (distinct-append fs l (cut .vacant .once) once (λ x i j. clash (alive x j) (cut .vacant .dead x i)))
-      (λ x i. ⊎-elim (cut .vacant .inside x) (λ j. live-below (mapTable B) x (alive x j)) (in-append fs i)) in
+      (distinct-append fs l (given .vacant .once) once (λ x i j. clash (alive x j) (given .vacant .dead x i)))
+      (λ x i. ⊎-elim (given .vacant .inside x) (λ j. live-below (mapTable B) x (alive x j)) (in-append fs i)) in
       let parts = length-append fs l in
       let room = s .room in
       omega arith

@@ -1,7 +1,11 @@
 -- The names of the calls, one behind the other.
 use Prim.Native.Nat.{ℕ}
-use mathlib.Core.List.{[], _∷_}
+use mathlib.Core.List.{List, [], _∷_}
 use lib.ListN.{getD}
+use Rattle.model.specs.Text.{bytes}
+
+abbrev pub allNames : List ℕ
+allNames = bytes "checkorbitsheetaddsewunsewremovesplitundoredo"
 
 -- where the k-th begins
 unfoldable pub nameStart : ℕ → ℕ

@@ -1,8 +1,8 @@
 // What a line gives: the value behind its key, if the line fits.
 ghost use mathlib.Core.Path.{_≡_};
 ghost use mathlib.Core.List.{[]};
-ghost use Prim.Native.Nat.{ℕ, _<_, _≤_};
-ghost use lib.ListN.{getD};
+ghost use Prim.Native.Nat.{ℕ, _-_, _<_, _≤_};
+ghost use lib.ListN.{length, getD, take, drop};
 ghost use Rattle.model.specs.Calls.{Outcome};
 ghost use Rattle.model.specs.Text.{number, upTo};
 ghost use Rattle.model.specs.Meaning.Worked.{equal};
@@ -22,15 +22,21 @@ fn name_start(k: usize) -> usize
     starts[k]
 }
 
+// Whether the text stands in `all` from the place `from` to before `to`.
+fn stands_at(all: &[u8], from: usize, to: usize, text: &[u8]) -> bool
+    requires { ⌜ (from ≤ to) × (to ≤ length (now all)) ⌝ }
+    ensures { λ r. ⌜ r ≡ equal (take (to - from) (drop from (now (all .entry)))) (now (text .entry)) ⌝ }
+{
+    texts::same(&all[from..to], text)
+}
+
 // Whether the text is the k-th of the calls' names.
 fn is_name(k: usize, text: &[u8]) -> bool
     requires { ⌜ k < 10 ⌝ }
     ensures { λ r. ⌜ r ≡ equal (getD names k []) (now (text .entry)) ⌝ }
 {
     let names = b"checkorbitsheetaddsewunsewremovesplitundoredo";
-    let from = name_start(k);
-    let to = name_start(k + 1);
-    texts::same(&names[from..to], text)
+    stands_at(names, name_start(k), name_start(k + 1), text)
 }
 
 // The place of an op among the names of the calls.
