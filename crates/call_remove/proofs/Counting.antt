@@ -1,9 +1,8 @@
--- A sheet's marks counted one by one: `counted-none`, and by the mark at x `counted-zero`, `counted-three`, `counted-inner`; over
--- marks that are 0 by `counted-over`.
-use Prim.Native.Nat.{ℕ, zero, suc, _+_, _-_, _≤_, _<_}
+-- A sheet's marks counted one by one: `counted-none`, and by the mark at x `counted-zero`, `counted-three`, `counted-inner`.
+use Prim.Native.Nat.{ℕ, zero, suc, _+_, _≤_, _<_}
 use mathlib.Core.Path.{_≡_, refl}
 use mathlib.Core.Logic.{_≢_}
-use mathlib.Core.Bool.{true, false}
+use mathlib.Core.Bool.{true, false, not, _&&_}
 use mathlib.Core.List.{List, [], _∷_}
 use native.Mathlib.Numerals.{add-one}
 use native.Mathlib.Omega.{arith}
@@ -12,8 +11,7 @@ use lib.Dec.{eqb}
 use borrow.Author.Tests.{eq-eqb, ne-eqb}
 use Rattle.model.specs.Lists.{count}
 use Rattle.model.specs.Remove.{countMarked}
-use Rattle.model.proofs.Lists.Scan.{test, if-eq}
-use Rattle.reading.specs.Clear.{Clear, Skips}
+use Rattle.model.proofs.Lists.Scan.{test, clash, if-eq}
 
 count-next : (v : ℕ) (m : List ℕ) (x : ℕ) → x < length m
     → count v (take (x + 1) m) ≡ count v (take x m) + elim (eqb (getD m x 0) v) [ true ↦ 1 | false ↦ 0 ]
@@ -75,17 +73,13 @@ module _ {m : List ℕ} {x darts edge : ℕ} (C : Counted m x darts edge) (low :
         few = let few = C .few in omega arith;
       }
 
-counted-zeros : {m : List ℕ} {x darts edge : ℕ} (k : ℕ) → Counted m x darts edge → x + k ≤ length m → Clear m x (x + k)
-    → Counted m (x + k) darts edge
-counted-zeros {x = x} zero C within clear = let here : x + zero ≡ x = omega arith in rw here C
-counted-zeros {x = x} (suc k) C within clear =
-    let next : x + suc k ≡ x + k + 1 = omega arith in
-    rw next (counted-zero (counted-zeros k C (omega arith) (λ z low high. clear z low (omega arith))) (omega arith)
-    (clear (x + k) (omega arith) (omega arith)))
+-- ---- whether a mark is neither 0 nor 3, as it is tested
 
-pub counted-over : {m : List ℕ} {x y darts edge : ℕ} → Counted m x darts edge → Skips m x y → Counted m y darts edge
-counted-over {m} {x} {y} C s =
-    let onward = s .onward in
-    let within = s .within in
-    let sum : x + (y - x) ≡ y = omega arith in
-    rw sum at (counted-zeros (y - x) C (omega arith) (λ z low high. s .clear z low (omega arith)))
+pub told-zero : (k : ℕ) → k ≡ 0 → (not (eqb k 0) && not (eqb k 3)) ≡ false
+told-zero k e = rw (eq-eqb k 0 e)
+
+pub told-three : (k : ℕ) → k ≡ 3 → (not (eqb k 0) && not (eqb k 3)) ≡ false
+told-three k e = rw e
+
+pub told-other : (k : ℕ) → k ≢ 3 → (not (eqb k 0) && not (eqb k 3)) ≡ false → k ≡ 0
+told-other k off h = if-eq k 0 (λ e. e) (λ e. absurd (clash (rw (ne-eqb k 0 e, ne-eqb k 3 off)) h))

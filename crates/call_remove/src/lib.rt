@@ -39,15 +39,14 @@ fn count_layer(marks: &[u8]) -> Counts
 {
     let mut darts: u32 = 0;
     let mut edge: u32 = 0;
-    let mut x = skip_blocks(marks, 0);
-    while x < marks.len() {
+    for x in 0..marks.len() {
         let mark = marks[x];
         if mark == 3 {
             edge += 1;
-        } else if mark != 0 {
+        }
+        if (mark != 0) & (mark != 3) {
             darts += 1;
         }
-        x = skip_clear(marks, x + 1);
     }
     Counts { darts, edge }
 }
