@@ -8,7 +8,7 @@ use lib.ListN.{length}
 use lib.Dec.{leb}
 use Rattle.model.specs.Journal.{Change, cursor, changesFrom, recordOf, recordLength, written}
 use Rattle.model.specs.Calls.{Outcome, refused, commit}
-use Rattle.model.proofs.History.Record.{length-record}
+use Rattle.theorems.proofs.History.Record.{length-record}
 use Rattle.answers.specs.Answers.{outcome, refusal, accepted}
 
 module _ (t u m j : List ℕ) (tag p : ℕ) (size : List Change → ℕ) {k : ℕ} {fits : Bool} {call : Outcome}

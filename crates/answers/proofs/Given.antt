@@ -11,8 +11,8 @@ use Rattle.model.specs.Table.{slots, link}
 use Rattle.model.specs.Map.{links-live, links-return, pairs-commute, stays-flat, isMap}
 use Rattle.model.specs.Checks.{pass, dimOk, tableOk, marksOk, ruleOk}
 use Rattle.model.specs.Meaning.Maps.{MapTable}
-use Rattle.model.proofs.Maps.Tables.{live-below, rule-at}
-use Rattle.model.proofs.Calls.Pass.{must-pass, dim-pass, table-pass, RulesPass, rules-pass, map-pass}
+use Rattle.theorems.proofs.Maps.Tables.{live-below, rule-at}
+use Rattle.theorems.proofs.Calls.Pass.{must-pass, dim-pass, table-pass, RulesPass, rules-pass, map-pass}
 use Rattle.reading.specs.Lowest.{Told}
 
 -- the checks of a map pass, before others

@@ -17,7 +17,7 @@ use mathlib.Core.Path.{_≡_, refl, sym}
 use mathlib.Core.List.{List, [], _∷_}
 use lib.ListN.{getD, take}
 use Rattle.model.specs.Checks.{Check, pass, refuse, andThen, inOrder}
-use Rattle.model.proofs.Calls.Checks.{not-pass}
+use Rattle.theorems.proofs.Calls.Checks.{not-pass}
 
 -- ---- checks that pass
 

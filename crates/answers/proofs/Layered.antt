@@ -16,10 +16,10 @@ use Rattle.model.specs.Meaning.Ends.{opNumbers}
 use Rattle.model.specs.Meaning.Numbers.{JournalRule}
 use Rattle.model.specs.Meaning.Sheets.{BlockDart, marksOf}
 use Rattle.model.specs.Meaning.Walks.{Layer}
-use Rattle.model.proofs.Lists.Scan.{test, getD-tab}
-use Rattle.model.proofs.Calls.Checks.{passed-number}
-use Rattle.model.proofs.Layers.Marks.{sheet-layer}
-use Rattle.model.proofs.Calls.Pass.{journal-pass, RulesPass, rules-pass, layer-passed}
+use Rattle.theorems.proofs.Lists.Scan.{test, getD-tab}
+use Rattle.theorems.proofs.Calls.Checks.{passed-number}
+use Rattle.theorems.proofs.Layers.Marks.{sheet-layer}
+use Rattle.theorems.proofs.Calls.Pass.{journal-pass, RulesPass, rules-pass, layer-passed}
 use Rattle.reading.specs.Sized.{Sized}
 use Rattle.reading.proofs.Passed.{table-passed}
 use Rattle.answers.proofs.Given.{marks-given}

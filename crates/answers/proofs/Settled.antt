@@ -8,7 +8,7 @@ use native.Mathlib.Omega.{arith}
 use lib.ListN.{take}
 use Rattle.model.specs.Checks.{Check, pass, refuse, inOrder}
 use Rattle.model.specs.Calls.{Outcome}
-use Rattle.model.proofs.Calls.Checks.{append-passed}
+use Rattle.theorems.proofs.Calls.Checks.{append-passed}
 use Rattle.answers.specs.declared.Answer.{Answer}
 use Rattle.answers.specs.Answers.{outcome, refusal}
 use Rattle.answers.specs.Openings.{Settles}

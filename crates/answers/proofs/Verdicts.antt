@@ -17,8 +17,8 @@ use Rattle.model.specs.Cell.{leastWrong}
 use Rattle.model.specs.Journal.{cursor, end}
 use Rattle.model.specs.Checks.{Check, pass, refuse, must, mustAt, marksOk, ruleNumber, ruleOk, indexOk, dartOk, blockOk}
 use Rattle.model.specs.Checks.{undoOk, redoOk}
-use Rattle.model.proofs.Lists.Scan.{test}
-use Rattle.model.proofs.Maps.Broken.{link-below, link-found}
+use Rattle.theorems.proofs.Lists.Scan.{test}
+use Rattle.theorems.proofs.Maps.Broken.{link-below, link-found}
 
 -- ---- branches; z is the number of the check c
 

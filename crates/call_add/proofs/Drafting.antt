@@ -11,13 +11,13 @@ use Rattle.model.specs.Table.{unused, slots, link}
 use Rattle.model.specs.Numbering.{cellLink}
 use Rattle.model.specs.Journal.{cursor, changesFrom}
 use Rattle.model.specs.Add.{addSlots, addTable}
-use Rattle.model.proofs.Lists.Scan.{if-eq, if-lt, below-four}
-use Rattle.model.proofs.Lists.Ones.{getD-in, getD-index, index-in}
-use Rattle.model.proofs.Sets.Closure.{getD-any}
-use Rattle.model.proofs.Maps.Rules.{dead-link}
-use Rattle.model.proofs.Cells.Rows.{row-goes}
-use Rattle.model.proofs.Operations.Slots.{rising-at}
-use Rattle.model.proofs.Operations.Added.{newAt, add-lowest, add-links, add-stays, add-length, add-changes}
+use Rattle.theorems.proofs.Lists.Scan.{if-eq, if-lt, below-four}
+use Rattle.theorems.proofs.Lists.Ones.{getD-in, getD-index, index-in}
+use Rattle.theorems.proofs.Sets.Closure.{getD-any}
+use Rattle.theorems.proofs.Maps.Rules.{dead-link}
+use Rattle.theorems.proofs.Cells.Rows.{row-goes}
+use Rattle.theorems.proofs.Operations.Slots.{rising-at}
+use Rattle.theorems.proofs.Operations.Added.{newAt, add-lowest, add-links, add-stays, add-length, add-changes}
 use Rattle.journal.specs.Records.{drafted}
 use Rattle.journal.specs.Passes.{Pass, FourLinks}
 use Rattle.journal.proofs.Passes.{pass-start, pass-over, pass-end}

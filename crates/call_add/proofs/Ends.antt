@@ -18,8 +18,8 @@ use Rattle.model.specs.Checks.{pass, refuse, must, inOrder, addRoomOk, addCheck
 use Rattle.model.specs.Calls.{refused, commit, addCall}
 use Rattle.model.specs.Meaning.Maps.{MapTable}
 use Rattle.model.specs.Meaning.Numbers.{JournalRule}
-use Rattle.model.proofs.Maps.Dim.{size-some}
-use Rattle.model.proofs.Operations.Added.{add-length, add-changes}
+use Rattle.theorems.proofs.Maps.Dim.{size-some}
+use Rattle.theorems.proofs.Operations.Added.{add-length, add-changes}
 use Rattle.reading.specs.Lowest.{Lists}
 use Rattle.journal.specs.Records.{drafted}
 use Rattle.journal.specs.Passes.{Room, Drafted}

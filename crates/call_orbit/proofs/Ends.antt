@@ -8,8 +8,8 @@ use Rattle.model.specs.Table.{slots}
 use Rattle.model.specs.Orbit.{orbit, orbitPlace}
 use Rattle.model.specs.Checks.{pass, refuse, inOrder, tableOk, mapChecks, orbitChecks}
 use Rattle.model.specs.Calls.{refused, orbitCall}
-use Rattle.model.proofs.Calls.Checks.{passed-at}
-use Rattle.model.proofs.Calls.Pass.{table-of, dart-pass}
+use Rattle.theorems.proofs.Calls.Checks.{passed-at}
+use Rattle.theorems.proofs.Calls.Pass.{table-of, dart-pass}
 use Rattle.reach.specs.Given.{Given}
 use Rattle.answers.specs.Answers.{outcome, refusal, accepted}
 use Rattle.answers.proofs.Ladder.{passed-all}

@@ -11,9 +11,9 @@ use Rattle.model.specs.Reach.{links, linksFrom}
 use Rattle.model.specs.Orbit.{bit, orbitWords, orbitPlace}
 use Rattle.model.specs.Checks.{pass, maskOk}
 use Rattle.model.specs.Meaning.Maps.{Dim}
-use Rattle.model.proofs.Lists.Scan.{below-at}
-use Rattle.model.proofs.Maps.Dim.{two-cases}
-use Rattle.model.proofs.Calls.Pass.{must-pass}
+use Rattle.theorems.proofs.Lists.Scan.{below-at}
+use Rattle.theorems.proofs.Maps.Dim.{two-cases}
+use Rattle.theorems.proofs.Calls.Pass.{must-pass}
 
 pub shift-power : (n : ℕ) → Dim n → 2 * 2 ^ n % 4294967296 ≡ 2 ^ (n + 1)
 shift-power n dim = two-cases n dim (λ n. 2 * 2 ^ n % 4294967296 ≡ 2 ^ (n + 1)) refl refl

@@ -12,11 +12,11 @@ use Rattle.model.specs.Journal.{cursor, changesFrom}
 use Rattle.model.specs.Remove.{marked, outside, removedLink, removed, removeTable}
 use Rattle.model.specs.Meaning.Sheets.{BlockDart, marksOf}
 use Rattle.model.specs.Meaning.Walks.{Layer, Removes}
-use Rattle.model.proofs.Lists.Scan.{test, if-eq, clash}
-use Rattle.model.proofs.Maps.Rules.{link-retable}
-use Rattle.model.proofs.Maps.Tables.{mapTable, live-below, rule-at}
-use Rattle.model.proofs.Layers.Marks.{marks-three, marks-cells, marks-outside, sheet-layer}
-use Rattle.model.proofs.Layers.Remove.{found-link, remove-removes}
+use Rattle.theorems.proofs.Lists.Scan.{test, if-eq, clash}
+use Rattle.theorems.proofs.Maps.Rules.{link-retable}
+use Rattle.theorems.proofs.Maps.Tables.{mapTable, live-below, rule-at}
+use Rattle.theorems.proofs.Layers.Marks.{marks-three, marks-cells, marks-outside, sheet-layer}
+use Rattle.theorems.proofs.Layers.Remove.{found-link, remove-removes}
 use Rattle.reading.specs.Clear.{Skips}
 use Rattle.reading.specs.Four.{four}
 use Rattle.reading.proofs.Four.{four-at}

@@ -11,7 +11,7 @@ use lib.Dec.{eqb}
 use borrow.Author.Tests.{eq-eqb, ne-eqb}
 use Rattle.model.specs.Lists.{count}
 use Rattle.model.specs.Remove.{countMarked}
-use Rattle.model.proofs.Lists.Scan.{test, clash, if-eq}
+use Rattle.theorems.proofs.Lists.Scan.{test, clash, if-eq}
 
 count-next : (v : ℕ) (m : List ℕ) (x : ℕ) → x < length m
     → count v (take (x + 1) m) ≡ count v (take x m) + elim (eqb (getD m x 0) v) [ true ↦ 1 | false ↦ 0 ]

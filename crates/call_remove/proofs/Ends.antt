@@ -10,7 +10,7 @@ use Rattle.model.specs.Journal.{changesFrom}
 use Rattle.model.specs.Remove.{countMarked, removed, removeTable}
 use Rattle.model.specs.Checks.{refuse, inOrder, layerChecks}
 use Rattle.model.specs.Calls.{refused, commit, removeCall}
-use Rattle.model.proofs.Layers.RemoveCounts.{remove-changes}
+use Rattle.theorems.proofs.Layers.RemoveCounts.{remove-changes}
 use Rattle.journal.specs.Records.{drafted}
 use Rattle.journal.specs.Passes.{Room, Drafted}
 use Rattle.answers.specs.Answers.{outcome, refusal}

@@ -10,10 +10,10 @@ use borrow.Author.Tests.{ne-eqb}
 use Rattle.model.specs.Table.{slots, link, walk}
 use Rattle.model.specs.Remove.{opposite, marked, outside}
 use Rattle.model.specs.Meaning.Walks.{Layer, hop}
-use Rattle.model.proofs.Lists.Scan.{test, clash}
-use Rattle.model.proofs.Operations.Frame.{outside-stops}
-use Rattle.model.proofs.Layers.Walk.{walk-ends}
-use Rattle.model.proofs.Layers.Remove.{next-lives}
+use Rattle.theorems.proofs.Lists.Scan.{test, clash}
+use Rattle.theorems.proofs.Operations.Frame.{outside-stops}
+use Rattle.theorems.proofs.Layers.Walk.{walk-ends}
+use Rattle.theorems.proofs.Layers.Remove.{next-lives}
 
 -- ---- the opposite side
 

@@ -20,12 +20,12 @@ use Rattle.model.specs.Meaning.Maps.{MapTable}
 use Rattle.model.specs.Meaning.Sets.{Marked}
 use Rattle.model.specs.Meaning.Numbers.{JournalRule}
 use Rattle.model.specs.Meaning.Pairings.{Sewable}
-use Rattle.model.proofs.Operations.Relink.{relinked-long, relinked-table}
-use Rattle.model.proofs.Calls.Checks.{append-passed, append-refused, passed-at}
-use Rattle.model.proofs.Calls.Pass.{journal-pass, SidesPassed, left-side, right-side, sides-sewable}
-use Rattle.model.proofs.Sewing.Side.{side-free}
-use Rattle.model.proofs.Sewing.Sew.{sew-relinked, sew-rest, sew-other}
-use Rattle.model.proofs.Sewing.Counts.{own-moved, other-moved, sew-changes}
+use Rattle.theorems.proofs.Operations.Relink.{relinked-long, relinked-table}
+use Rattle.theorems.proofs.Calls.Checks.{append-passed, append-refused, passed-at}
+use Rattle.theorems.proofs.Calls.Pass.{journal-pass, SidesPassed, left-side, right-side, sides-sewable}
+use Rattle.theorems.proofs.Sewing.Side.{side-free}
+use Rattle.theorems.proofs.Sewing.Sew.{sew-relinked, sew-rest, sew-other}
+use Rattle.theorems.proofs.Sewing.Counts.{own-moved, other-moved, sew-changes}
 use Rattle.journal.specs.Records.{drafted}
 use Rattle.journal.specs.Passes.{Room, Drafted}
 use Rattle.sides.specs.Turns.{Apart, Listing, InStep}

@@ -12,12 +12,12 @@ use Rattle.model.specs.Sew.{side, sewTable}
 use Rattle.model.specs.Meaning.Maps.{MapTable}
 use Rattle.model.specs.Meaning.Sets.{Marked}
 use Rattle.model.specs.Meaning.Pairings.{Pairing}
-use Rattle.model.proofs.Lists.Scan.{if-eq}
-use Rattle.model.proofs.Maps.Tables.{live-below}
-use Rattle.model.proofs.Operations.Relink.{table-same, relinked-long, relinked-table}
-use Rattle.model.proofs.Sewing.Side.{side-live, Place, own, other, outside, place}
-use Rattle.model.proofs.Sewing.Pairing.{paired-exactly}
-use Rattle.model.proofs.Sewing.Sew.{sew-relinked, sew-there, sew-back, sew-rest, sew-other}
+use Rattle.theorems.proofs.Lists.Scan.{if-eq}
+use Rattle.theorems.proofs.Maps.Tables.{live-below}
+use Rattle.theorems.proofs.Operations.Relink.{table-same, relinked-long, relinked-table}
+use Rattle.theorems.proofs.Sewing.Side.{side-live, Place, own, other, outside, place}
+use Rattle.theorems.proofs.Sewing.Pairing.{paired-exactly}
+use Rattle.theorems.proofs.Sewing.Sew.{sew-relinked, sew-there, sew-back, sew-rest, sew-other}
 use Rattle.call_sew.specs.Joins.{Fit, Joining, Joined}
 
 -- t′ is t but for link i of the darts P, which is as in u; these have the mark 1 in m′, all others the mark that they have in m

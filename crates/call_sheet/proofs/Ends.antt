@@ -9,9 +9,9 @@ use Rattle.model.specs.Sheet.{sheet, sheetMarks}
 use Rattle.model.specs.Checks.{pass, refuse, inOrder, tableOk, mapChecks, sheetChecks}
 use Rattle.model.specs.Calls.{refused, sheetCall}
 use Rattle.model.specs.Meaning.Sheets.{BlockDart}
-use Rattle.model.proofs.Cells.Exact.{block-of}
-use Rattle.model.proofs.Calls.Checks.{passed-at}
-use Rattle.model.proofs.Calls.Pass.{table-of, block-pass, dart-pass}
+use Rattle.theorems.proofs.Cells.Exact.{block-of}
+use Rattle.theorems.proofs.Calls.Checks.{passed-at}
+use Rattle.theorems.proofs.Calls.Pass.{table-of, block-pass, dart-pass}
 use Rattle.answers.specs.Answers.{outcome, refusal, accepted}
 use Rattle.answers.proofs.Ladder.{passed-all}
 use Rattle.answers.proofs.Given.{rules-given, marks-given}

@@ -21,15 +21,15 @@ use Rattle.model.specs.Checks.{refuse, must, andThen, marksOk, inOrder, layerCh
 use Rattle.model.specs.Calls.{refused, commit, splitCall}
 use Rattle.model.specs.Meaning.Maps.{Dim, MapTable}
 use Rattle.model.specs.Meaning.Sets.{Marked}
-use Rattle.model.proofs.Lists.Ones.{index-in, ones-in}
-use Rattle.model.proofs.Sets.Sizes.{length-ones}
-use Rattle.model.proofs.Maps.Dim.{two-cases}
-use Rattle.model.proofs.Maps.Tables.{mapTable, live-below, rule-at}
-use Rattle.model.proofs.Calls.Pass.{must-pass}
-use Rattle.model.proofs.Layers.Sheet.{sheet-own, sheet-live}
-use Rattle.model.proofs.Layers.Marks.{marks-one}
-use Rattle.model.proofs.Layers.Splitting.{Splits}
-use Rattle.model.proofs.Layers.Split.{split-changes, split-length}
+use Rattle.model.specs.Meaning.Splits.{Splits}
+use Rattle.theorems.proofs.Lists.Ones.{index-in, ones-in}
+use Rattle.theorems.proofs.Sets.Sizes.{length-ones}
+use Rattle.theorems.proofs.Maps.Dim.{two-cases}
+use Rattle.theorems.proofs.Maps.Tables.{mapTable, live-below, rule-at}
+use Rattle.theorems.proofs.Calls.Pass.{must-pass}
+use Rattle.theorems.proofs.Layers.Sheet.{sheet-own, sheet-live}
+use Rattle.theorems.proofs.Layers.Marks.{marks-one}
+use Rattle.theorems.proofs.Layers.Split.{split-changes, split-length}
 use Rattle.journal.specs.Records.{drafted}
 use Rattle.journal.specs.Passes.{Room, Drafted}
 use Rattle.journal.proofs.Commits.{fits-room}

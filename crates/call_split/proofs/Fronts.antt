@@ -7,9 +7,9 @@ use native.Mathlib.Omega.{arith}
 use lib.ListN.{length, getD, take}
 use lib.Seq.{getD-take, length-take-le}
 use Rattle.model.specs.Lists.{indexOf}
-use Rattle.model.proofs.Lists.Ones.{getD-in, getD-index, index-in}
-use Rattle.model.proofs.Sets.Closure.{getD-any}
-use Rattle.model.proofs.Operations.Slots.{Rising, rising-at}
+use Rattle.theorems.proofs.Lists.Ones.{getD-in, getD-index, index-in}
+use Rattle.theorems.proofs.Sets.Closure.{getD-any}
+use Rattle.theorems.proofs.Operations.Slots.{Rising, rising-at}
 
 pub record Front (size : ℕ) (words l : List ℕ) : Type 0 where
   pub front : take size words ≡ l

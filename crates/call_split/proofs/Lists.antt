@@ -13,15 +13,16 @@ use Rattle.model.specs.Sheet.{sheet}
 use Rattle.model.specs.Split.{newDart, splitTable}
 use Rattle.model.specs.Meaning.Maps.{BlockTable}
 use Rattle.model.specs.Meaning.Sets.{Marked}
-use Rattle.model.proofs.Lists.Scan.{clash}
-use Rattle.model.proofs.Lists.Ones.{ones-of, ones-in, index-in, getD-index}
-use Rattle.model.proofs.Maps.Rules.{dead-link}
-use Rattle.model.proofs.Maps.Tables.{mapTable, live-below, rule-at}
-use Rattle.model.proofs.Maps.Dim.{two-cases}
-use Rattle.model.proofs.Layers.Sheet.{sheet-least, sheet-live}
-use Rattle.model.proofs.Layers.Splitting.{slot-low}
-use Rattle.model.proofs.Layers.Split.{sheetDarts, newSlots, newOf, darts-rising, split-lowest, split-links, split-stays, split-filled}
-use Rattle.model.proofs.Layers.Split.{split-keeps, new-in-slot}
+use Rattle.model.specs.Meaning.Splits.{sheetDarts, newSlots, newOf}
+use Rattle.theorems.proofs.Lists.Scan.{clash}
+use Rattle.theorems.proofs.Lists.Ones.{ones-of, ones-in, index-in, getD-index}
+use Rattle.theorems.proofs.Maps.Rules.{dead-link}
+use Rattle.theorems.proofs.Maps.Tables.{mapTable, live-below, rule-at}
+use Rattle.theorems.proofs.Maps.Dim.{two-cases}
+use Rattle.theorems.proofs.Layers.Sheet.{sheet-least, sheet-live}
+use Rattle.theorems.proofs.Layers.Splitting.{slot-low}
+use Rattle.theorems.proofs.Layers.Split.{darts-rising, split-lowest, split-links, split-stays, split-filled}
+use Rattle.theorems.proofs.Layers.Split.{split-keeps, new-in-slot}
 use Rattle.journal.specs.Passes.{OneLink, FourLinks}
 use Rattle.call_split.specs.News.{News, Role, NewLinks}
 use Rattle.call_split.specs.Drafting.{Listed}

@@ -13,9 +13,9 @@ use Rattle.model.specs.Sheet.{sheet}
 use Rattle.model.specs.Split.{crosses}
 use Rattle.model.specs.Meaning.Sets.{Marked}
 use Rattle.model.specs.Meaning.Sheets.{BlockDart, marksOf}
-use Rattle.model.proofs.Lists.Scan.{test, clash}
-use Rattle.model.proofs.Layers.Sheet.{sheet-least, crosses-some}
-use Rattle.model.proofs.Layers.Marks.{marks-one, sheet-layer}
+use Rattle.theorems.proofs.Lists.Scan.{test, clash}
+use Rattle.theorems.proofs.Layers.Sheet.{sheet-least, crosses-some}
+use Rattle.theorems.proofs.Layers.Marks.{marks-one, sheet-layer}
 use Rattle.reading.specs.Clear.{Skips}
 
 pub ones-few : (m : List ℕ) (a : ℕ) → length (onesFrom a m) ≤ length m

@@ -8,8 +8,8 @@ use lib.ListN.{length, getD}
 use Rattle.model.specs.Table.{slots, link}
 use Rattle.model.specs.Split.{splitTable}
 use Rattle.model.specs.Journal.{cursor, changesFrom}
-use Rattle.model.proofs.Lists.Scan.{if-eq, if-lt}
-use Rattle.model.proofs.Layers.Split.{split-stays, split-length}
+use Rattle.theorems.proofs.Lists.Scan.{if-eq, if-lt}
+use Rattle.theorems.proofs.Layers.Split.{split-stays, split-length}
 use Rattle.journal.specs.Records.{drafted}
 use Rattle.journal.specs.Passes.{Pass}
 use Rattle.journal.proofs.Passes.{pass-start, pass-over, pass-end, pass-length}

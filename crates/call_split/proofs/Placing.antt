@@ -11,7 +11,7 @@ use lib.ListN.{length, getD, take, set, length-set}
 use lib.Seq.{take-all, getD-set-same, getD-set-other}
 use borrow.Author.Tests.{ne-eqb}
 use Rattle.model.specs.Lists.{ones}
-use Rattle.model.proofs.Lists.Scan.{if-eq, if-lt}
+use Rattle.theorems.proofs.Lists.Scan.{if-eq, if-lt}
 use Rattle.reading.specs.Clear.{Clear, Skips}
 use Rattle.reading.proofs.Lowest.{Listing, listing-none, listing-more, listing-first, entered-few}
 use Rattle.call_split.specs.Sheets.{Enters, Placed}

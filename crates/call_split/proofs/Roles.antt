@@ -10,13 +10,14 @@ use Rattle.model.specs.Table.{slots, link, walk}
 use Rattle.model.specs.Sheet.{sheet}
 use Rattle.model.specs.Split.{splitTable}
 use Rattle.model.specs.Meaning.Sets.{Marked}
-use Rattle.model.proofs.Lists.Scan.{below-four}
-use Rattle.model.proofs.Lists.Ones.{ones-of, ones-in}
-use Rattle.model.proofs.Maps.Tables.{mapTable, live-below}
-use Rattle.model.proofs.Layers.Sheet.{sheet-live, sheet-of}
-use Rattle.model.proofs.Layers.Splitting.{splits-splitting}
-use Rattle.model.proofs.Layers.Role.{roleTo, roleWord, roleDart, keepsSheet, sheet-walk, role-link}
-use Rattle.model.proofs.Layers.Split.{newOf, SplitLinks, split-links}
+use Rattle.model.specs.Meaning.Splits.{newOf, SplitLinks}
+use Rattle.theorems.proofs.Lists.Scan.{below-four}
+use Rattle.theorems.proofs.Lists.Ones.{ones-of, ones-in}
+use Rattle.theorems.proofs.Maps.Tables.{mapTable, live-below}
+use Rattle.theorems.proofs.Layers.Sheet.{sheet-live, sheet-of}
+use Rattle.theorems.proofs.Layers.Splitting.{splits-splitting}
+use Rattle.theorems.proofs.Layers.Role.{roleTo, roleWord, roleDart, keepsSheet, sheet-walk, role-link}
+use Rattle.theorems.proofs.Layers.Split.{split-links}
 use Rattle.call_split.specs.News.{Role, SomeRole, NewLinks}
 
 pub some-role : {n : ℕ} {t fresh places : List ℕ} {role r g : ℕ} → role ≡ r → SomeRole n t fresh places role g

@@ -14,16 +14,17 @@ use Rattle.model.specs.Cell.{cellOf}
 use Rattle.model.specs.Sheet.{sheet}
 use Rattle.model.specs.Split.{splitSlots}
 use Rattle.model.specs.Meaning.Maps.{BlockTable, Rule}
-use Rattle.model.proofs.Lists.Scan.{clash, length-tab, getD-tab, length-tabFrom, in-tab}
-use Rattle.model.proofs.Lists.Ones.{getD-in}
-use Rattle.model.proofs.Sets.Pigeon.{Distinct, more, distinct-le, distinct-tab}
-use Rattle.model.proofs.Sets.Sizes.{length-ones}
-use Rattle.model.proofs.Maps.Dim.{dim-cases}
-use Rattle.model.proofs.Maps.Tables.{mapTable, live-below, rule-at}
-use Rattle.model.proofs.Operations.Slots.{rising-at}
-use Rattle.model.proofs.Cells.Cell.{good-cell, cell-own}
-use Rattle.model.proofs.Layers.Splitting.{Splits, Splitting, splits-splitting}
-use Rattle.model.proofs.Layers.Split.{darts-rising}
+use Rattle.model.specs.Meaning.Splits.{Splits}
+use Rattle.theorems.proofs.Lists.Scan.{clash, length-tab, getD-tab, length-tabFrom, in-tab}
+use Rattle.theorems.proofs.Lists.Ones.{getD-in}
+use Rattle.theorems.proofs.Sets.Pigeon.{Distinct, more, distinct-le, distinct-tab}
+use Rattle.theorems.proofs.Sets.Sizes.{length-ones}
+use Rattle.theorems.proofs.Maps.Dim.{dim-cases}
+use Rattle.theorems.proofs.Maps.Tables.{mapTable, live-below, rule-at}
+use Rattle.theorems.proofs.Operations.Slots.{rising-at}
+use Rattle.theorems.proofs.Cells.Cell.{good-cell, cell-own}
+use Rattle.theorems.proofs.Layers.Splitting.{Splitting, splits-splitting}
+use Rattle.theorems.proofs.Layers.Split.{darts-rising}
 use Rattle.call_split.proofs.Ones.{ones-few}
 
 distinct-append : (k l : List ℕ) → Distinct k → Distinct l → ((x : ℕ) → In x k → In x l → ⊥) → Distinct (k ++ l)

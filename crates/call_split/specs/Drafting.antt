@@ -8,7 +8,7 @@ use Rattle.model.specs.Table.{slots}
 use Rattle.model.specs.Sheet.{sheet}
 use Rattle.model.specs.Split.{splitSlots, splitTable}
 use Rattle.model.specs.Meaning.Numbers.{JournalRule}
-use Rattle.model.proofs.Layers.Splitting.{Splits}
+use Rattle.model.specs.Meaning.Splits.{Splits}
 use Rattle.journal.specs.Passes.{Room, Pass}
 
 -- the first `size` darts are S, rising; the first n * size words of `fresh` are the new slots; `places` has for the k-th dart the place

@@ -7,8 +7,7 @@ use Rattle.model.specs.Table.{slots, link}
 use Rattle.model.specs.Sheet.{sheet}
 use Rattle.model.specs.Split.{splitTable}
 use Rattle.model.specs.Meaning.Sets.{Marked}
-use Rattle.model.proofs.Layers.Splitting.{Splits}
-use Rattle.model.proofs.Layers.Split.{newOf}
+use Rattle.model.specs.Meaning.Splits.{Splits, newOf}
 
 -- the new darts of a dart g of S stand in `fresh`, in order, from the word on that `places` has for g
 pub record News (n : ℕ) (t : List ℕ) (d : ℕ) (fresh places : List ℕ) : Type 0 where

@@ -18,7 +18,7 @@ ghost use Rattle.model.specs.Split.{crosses, splitTable};
 ghost use Rattle.model.specs.Checks.{pass, tableOk, inOrder, layerChecks};
 ghost use Rattle.model.specs.Calls.{splitCall};
 ghost use Rattle.model.specs.Meaning.Maps.{Dim};
-ghost use Rattle.model.proofs.Layers.Split.{newOf};
+ghost use Rattle.model.specs.Meaning.Splits.{newOf};
 ghost use Rattle.reading.specs.Lowest.{Told};
 ghost use Rattle.journal.specs.Records.{drafted};
 ghost use Rattle.answers.specs.Answers.{outcome};

@@ -13,8 +13,8 @@ use Rattle.model.specs.Checks.{pass, refuse, must, inOrder, tableOk, sewnOk, un
 use Rattle.model.specs.Calls.{refused, commit, unsewCall}
 use Rattle.model.specs.Meaning.Sets.{Marked}
 use Rattle.model.specs.Meaning.Numbers.{JournalRule}
-use Rattle.model.proofs.Calls.Checks.{passed-at}
-use Rattle.model.proofs.Calls.Pass.{journal-pass, UnsewPassed, unsew-side}
+use Rattle.theorems.proofs.Calls.Checks.{passed-at}
+use Rattle.theorems.proofs.Calls.Pass.{journal-pass, UnsewPassed, unsew-side}
 use Rattle.journal.specs.Records.{drafted}
 use Rattle.journal.specs.Passes.{Room, Drafted}
 use Rattle.sides.specs.Marked.{Turning}

@@ -15,15 +15,15 @@ use Rattle.model.specs.Journal.{changesFrom}
 use Rattle.model.specs.Sew.{unsewTable}
 use Rattle.model.specs.Meaning.Sets.{Marked, Bits}
 use Rattle.model.specs.Meaning.Pairings.{OnSide}
-use Rattle.model.proofs.Lists.Scan.{if-eq, if-lt, length-tab, getD-tab}
-use Rattle.model.proofs.Sets.Closure.{marked-in}
-use Rattle.model.proofs.Sets.Pigeon.{count-none}
-use Rattle.model.proofs.Sets.Sizes.{size-into}
-use Rattle.model.proofs.Maps.Tables.{live-below, rule-at}
-use Rattle.model.proofs.Operations.Relink.{relinked-long}
-use Rattle.model.proofs.Operations.Changes.{changedLinks, changes-size, changed-one, changed-none}
-use Rattle.model.proofs.Sewing.Side.{live-before, side-live, side-comes, side-free-back}
-use Rattle.model.proofs.Sewing.Unsew.{unsew-relinked, unsew-free, unsew-partner, unsew-rest, unsew-other}
+use Rattle.theorems.proofs.Lists.Scan.{if-eq, if-lt, length-tab, getD-tab}
+use Rattle.theorems.proofs.Sets.Closure.{marked-in}
+use Rattle.theorems.proofs.Sets.Pigeon.{count-none}
+use Rattle.theorems.proofs.Sets.Sizes.{size-into}
+use Rattle.theorems.proofs.Maps.Tables.{live-below, rule-at}
+use Rattle.theorems.proofs.Operations.Relink.{relinked-long}
+use Rattle.theorems.proofs.Operations.Changes.{changedLinks, changes-size, changed-one, changed-none}
+use Rattle.theorems.proofs.Sewing.Side.{live-before, side-live, side-comes, side-free-back}
+use Rattle.theorems.proofs.Sewing.Unsew.{unsew-relinked, unsew-free, unsew-partner, unsew-rest, unsew-other}
 use Rattle.sides.specs.Marked.{Freed}
 use Rattle.call_unsew.specs.Marking.{Marking, Unsewn}
 

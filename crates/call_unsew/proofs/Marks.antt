@@ -9,8 +9,8 @@ use native.Mathlib.Omega.{arith}
 use lib.ListN.{length, getD, set, length-set}
 use lib.Seq.{getD-set-same, getD-set-other}
 use Rattle.model.specs.Meaning.Sets.{Marked}
-use Rattle.model.proofs.Lists.Scan.{if-eq}
-use Rattle.model.proofs.Sets.Pigeon.{count-one, count-most}
+use Rattle.theorems.proofs.Lists.Scan.{if-eq}
+use Rattle.theorems.proofs.Sets.Pigeon.{count-one, count-most}
 use Rattle.call_unsew.specs.Marking.{Marking}
 
 -- they have it all

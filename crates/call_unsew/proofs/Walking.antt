@@ -7,7 +7,7 @@ use mathlib.Core.List.{List}
 use native.Mathlib.Omega.{arith}
 use Rattle.model.specs.Table.{link}
 use Rattle.model.specs.Meaning.Pairings.{OnSide}
-use Rattle.model.proofs.Lists.Scan.{if-eq}
+use Rattle.theorems.proofs.Lists.Scan.{if-eq}
 use Rattle.sides.specs.Turns.{turns, SideLinks}
 use Rattle.sides.proofs.SideTurns.{side-start, side-turning, side-turns, side-met}
 use Rattle.sides.proofs.Standing.{Standing, standing-first, on-turn, standing-next}

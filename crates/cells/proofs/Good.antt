@@ -18,10 +18,10 @@ use Rattle.model.specs.Numbering.{corners, cellLink}
 use Rattle.model.specs.Everything.{everything}
 use Rattle.model.specs.Meaning.Maps.{Dim, MapTable}
 use Rattle.model.specs.Meaning.Places.{path, place, Listed}
-use Rattle.model.proofs.Lists.Scan.{test, if-eq, clash, and-l, and-r, and-i, or-cases, or-i, below-at, below-of, below-both, getD-tab}
-use Rattle.model.proofs.Maps.Dim.{two-cases}
-use Rattle.model.proofs.Maps.Tables.{rule-at}
-use Rattle.model.proofs.Cells.Rows.{rows-in, row-comes}
+use Rattle.theorems.proofs.Lists.Scan.{test, if-eq, clash, and-l, and-r, and-i, or-cases, or-i, below-at, below-of, below-both, getD-tab}
+use Rattle.theorems.proofs.Maps.Dim.{two-cases}
+use Rattle.theorems.proofs.Maps.Tables.{rule-at}
+use Rattle.theorems.proofs.Cells.Rows.{rows-in, row-comes}
 use Rattle.numbering.specs.Orders.{orders, nextVertex, placeOf}
 use Rattle.numbering.proofs.Orders.{orders-solid, orders-some, vertex-in, place-is, place-low}
 use Rattle.cells.specs.Listing.{places}

@@ -14,10 +14,10 @@ use Rattle.model.specs.Cell.{cellSize}
 use Rattle.model.specs.Numbering.{corners, cellLink}
 use Rattle.model.specs.Meaning.Places.{path, place}
 use Rattle.model.specs.Everything.{everything}
-use Rattle.model.proofs.Lists.Scan.{if-eq, below-three, length-tab, getD-tab}
-use Rattle.model.proofs.Maps.Tables.{live-below, rule-at}
-use Rattle.model.proofs.Cells.Rows.{row-goes}
-use Rattle.model.proofs.Cells.Cell.{cell-live, place-in}
+use Rattle.theorems.proofs.Lists.Scan.{if-eq, below-three, length-tab, getD-tab}
+use Rattle.theorems.proofs.Maps.Tables.{live-below, rule-at}
+use Rattle.theorems.proofs.Cells.Rows.{row-goes}
+use Rattle.theorems.proofs.Cells.Cell.{cell-live, place-in}
 use Rattle.numbering.specs.Orders.{orders, nextOrder, nextVertex, placeOf}
 use Rattle.numbering.proofs.Orders.{order-low, vertex-low, place-low, next-place}
 use Rattle.cells.specs.Listing.{places, start, Listing, stepped, walked, around, spread}

@@ -13,9 +13,9 @@ use Rattle.model.specs.Map.{isMap}
 use Rattle.model.specs.Cell.{inWrongCell, leastWrong}
 use Rattle.model.specs.Checks.{pass, dimOk, tableOk}
 use Rattle.model.specs.Meaning.Maps.{MapTable}
-use Rattle.model.proofs.Lists.Scan.{least-by}
-use Rattle.model.proofs.Maps.Rules.{map-of}
-use Rattle.model.proofs.Calls.Pass.{dim-pass, table-pass}
+use Rattle.theorems.proofs.Lists.Scan.{least-by}
+use Rattle.theorems.proofs.Maps.Rules.{map-of}
+use Rattle.theorems.proofs.Calls.Pass.{dim-pass, table-pass}
 use Rattle.cells.specs.Good.{SeenGood}
 
 -- what the checks 1 and 2 and the map test say

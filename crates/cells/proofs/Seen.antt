@@ -14,9 +14,9 @@ use Rattle.model.specs.Table.{unused, link, live}
 use Rattle.model.specs.Cell.{cellSize, cellOf, goodCell, inWrongCell}
 use Rattle.model.specs.Meaning.Maps.{MapTable}
 use Rattle.model.specs.Meaning.Places.{place}
-use Rattle.model.proofs.Lists.Scan.{test, if-eq, in-tab}
-use Rattle.model.proofs.Maps.Tables.{live-below, rule-at}
-use Rattle.model.proofs.Cells.Cell.{place-in, cell-same}
+use Rattle.theorems.proofs.Lists.Scan.{test, if-eq, in-tab}
+use Rattle.theorems.proofs.Maps.Tables.{live-below, rule-at}
+use Rattle.theorems.proofs.Cells.Cell.{place-in, cell-same}
 use Rattle.cells.specs.Listing.{places}
 use Rattle.cells.specs.Good.{MapDart, seenWith, SeenGood}
 use Rattle.cells.proofs.Listing.{places-length, places-at, place-live}

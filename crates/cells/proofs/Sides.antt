@@ -21,11 +21,11 @@ use Rattle.model.specs.Meaning.Sets.{Marked}
 use Rattle.model.specs.Meaning.Sizes.{member}
 use Rattle.model.specs.Meaning.Pairings.{OnSide}
 use Rattle.model.specs.Meaning.Places.{place, Follows, Chart}
-use Rattle.model.proofs.Lists.Scan.{if-eq, clash, and-l, and-r, or-i, below-at, below-of, below-not}
-use Rattle.model.proofs.Lists.Ones.{member-in, index-in, getD-index}
-use Rattle.model.proofs.Maps.Dim.{two-cases}
-use Rattle.model.proofs.Sewing.Side.{on-side, side-own, side-far, side-within, straight-side}
-use Rattle.model.proofs.Cells.Chart.{chart-one}
+use Rattle.theorems.proofs.Lists.Scan.{if-eq, clash, and-l, and-r, or-i, below-at, below-of, below-not}
+use Rattle.theorems.proofs.Lists.Ones.{member-in, index-in, getD-index}
+use Rattle.theorems.proofs.Maps.Dim.{two-cases}
+use Rattle.theorems.proofs.Sewing.Side.{on-side, side-own, side-far, side-within, straight-side}
+use Rattle.theorems.proofs.Cells.Chart.{chart-one}
 use Rattle.model.specs.Everything.{everything}
 use Rattle.numbering.specs.Orders.{orders, nextOrder, nextVertex, placeOf}
 use Rattle.numbering.proofs.Orders.{order-low, vertex-low, place-low, next-place}

@@ -10,7 +10,7 @@ use lib.ListN.{length, getD, drop}
 use lib.Dec.{leb, ltb, eqb}
 use borrow.Author.Tests.{leb-true, ltb-true, eqb-true, le-leb, lt-leb, lt-ltb, le-ltb, eq-eqb, ne-eqb}
 use Rattle.model.specs.Journal.{Change, end, recordLength, readChanges, changesAt, sound, unbroken}
-use Rattle.model.proofs.Lists.Scan.{and-l, and-r, and-i}
+use Rattle.theorems.proofs.Lists.Scan.{and-l, and-r, and-i}
 use Rattle.journal.specs.Records.{changeAt, valuePut, within}
 use Rattle.journal.proofs.Puts.{read-next}
 

@@ -10,8 +10,8 @@ use lib.Seq.{length-take-le, take-suc, take-length}
 use lib.Dec.{eqb}
 use borrow.Author.Tests.{eq-eqb, ne-eqb}
 use Rattle.model.specs.Journal.{Change, changesFrom}
-use Rattle.model.proofs.Lists.Scan.{test}
-use Rattle.model.proofs.History.Record.{changes-same, changes-other}
+use Rattle.theorems.proofs.Lists.Scan.{test}
+use Rattle.theorems.proofs.History.Record.{changes-same, changes-other}
 use Rattle.journal.specs.Records.{changesBelow}
 
 changes-append : (xs ys xs′ ys′ : List ℕ) (e : ℕ) → length xs ≡ length ys

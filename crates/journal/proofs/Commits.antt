@@ -9,8 +9,8 @@ use lib.ListN.{length}
 use lib.Dec.{leb}
 use borrow.Author.Tests.{leb-true}
 use Rattle.model.specs.Journal.{cursor, changesFrom, changesAt, put, recordOf, recordLength, written}
-use Rattle.model.proofs.History.Record.{put-new-changes}
-use Rattle.model.proofs.History.Sound.{sound-redo}
+use Rattle.theorems.proofs.History.Record.{put-new-changes}
+use Rattle.theorems.proofs.History.Sound.{sound-redo}
 use Rattle.journal.specs.Records.{within}
 use Rattle.journal.proofs.Drafts.{written-length, written-read}
 use Rattle.journal.proofs.Breaks.{sound-within}

@@ -7,7 +7,7 @@ use native.Mathlib.Omega.{arith}
 use lib.ListN.{length, getD, set, take, drop, length-append, length-set, length-take, length-drop, take-append-drop}
 use lib.Seq.{sets, sets-eq, take-at, drop-at, drop-drop, set-at, take-suc, drop-cons, length-take-le, drop-set-lt}
 use Rattle.model.specs.Journal.{Change, cursor, triples, recordOf, recordLength, written, readChanges, changesAt}
-use Rattle.model.proofs.History.Record.{length-triples, length-record, read-triples}
+use Rattle.theorems.proofs.History.Record.{length-triples, length-record, read-triples}
 use Rattle.journal.specs.Records.{drafted}
 
 triples-append : (cs ds : List Change) → triples (cs ++ ds) ≡ triples cs ++ triples ds

@@ -10,7 +10,7 @@ use lib.Seq.{getD-drop, drop-drop}
 use lib.Dec.{ltb}
 use borrow.Author.Tests.{ltb-true}
 use Rattle.model.specs.Journal.{Change, readChanges, putNew, putOld, put}
-use Rattle.model.proofs.Lists.Scan.{and-l, and-r}
+use Rattle.theorems.proofs.Lists.Scan.{and-l, and-r}
 use Rattle.journal.specs.Records.{changeAt, valuePut, within}
 
 pub read-next : (j : List ℕ) (w k : ℕ) → zero < k → readChanges k (drop w j) ≡ changeAt j w ∷ readChanges (k - 1) (drop (w + 3) j)

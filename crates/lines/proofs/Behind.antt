@@ -9,7 +9,7 @@ use lib.ListN.{length, take, drop, length-drop}
 use lib.Seq.{take-all}
 use Rattle.model.specs.Text.{begins}
 use Rattle.model.specs.Session.{behind}
-use Rattle.model.proofs.Lists.Scan.{clash, if-lt}
+use Rattle.theorems.proofs.Lists.Scan.{clash, if-lt}
 use Rattle.texts.proofs.Comparing.{short-begins}
 
 pub key-length : (key xs : List ℕ) → begins key xs ≡ true → length key ≤ length xs

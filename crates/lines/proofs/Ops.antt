@@ -12,7 +12,7 @@ use borrow.Author.Tests.{leb-true, eqb-true}
 use Rattle.model.specs.Lists.{allFrom, allBelow}
 use Rattle.model.specs.Meaning.Worked.{equal}
 use Rattle.model.specs.Session.{names, placeFrom}
-use Rattle.model.proofs.Lists.Scan.{test, clash, and-l, and-r, below-at}
+use Rattle.theorems.proofs.Lists.Scan.{test, clash, and-l, and-r, below-at}
 use Rattle.lines.specs.Names.{allNames, nameStart}
 
 -- none of the first k names is the text

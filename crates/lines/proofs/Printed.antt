@@ -11,7 +11,7 @@ use borrow.Author.Tests.{lt-ltb}
 use Rattle.model.specs.Text.{newline}
 use Rattle.model.specs.Session.{Due, dimDue, slotsDue, opDue, iDue, dDue, eDue}
 use Rattle.model.specs.Session.{reads, taken, printed, bad, closing, talk, session}
-use Rattle.model.proofs.Lists.Scan.{test, if-lt}
+use Rattle.theorems.proofs.Lists.Scan.{test, if-lt}
 use Rattle.texts.specs.Texts.{Appended}
 use Rattle.lines.specs.Machine.{Machine, reading, stopped, start, hold, next, prints, fed, says, fedAll, saysAll, ends}
 use Rattle.lines.proofs.Short.{reads-short}

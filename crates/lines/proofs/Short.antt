@@ -13,7 +13,7 @@ use lib.Dec.{leb, eqb}
 use borrow.Author.Tests.{lt-leb, leb-true, eqb-false}
 use Rattle.model.specs.Text.{begins, isDigit, digits, number, upTo}
 use Rattle.model.specs.Session.{Due, dimDue, slotsDue, opDue, iDue, dDue, eDue, names, placeFrom, behind, reads}
-use Rattle.model.proofs.Lists.Scan.{test, if-lt, and-l, and-r}
+use Rattle.theorems.proofs.Lists.Scan.{test, if-lt, and-l, and-r}
 use Rattle.texts.proofs.Comparing.{equal-lengths}
 
 -- ---- a number with many digits is large

@@ -16,7 +16,7 @@ use Rattle.model.specs.Runs.{doCall}
 use Rattle.model.specs.Meaning.Worked.{begin}
 use Rattle.model.specs.Text.{bytes, newline, begins, number, upTo, said}
 use Rattle.model.specs.Session.{callOf, sessionTag, behind, reads, left, taken, answered, printed, ending, bad, closing}
-use Rattle.model.proofs.Lists.Scan.{test, clash}
+use Rattle.theorems.proofs.Lists.Scan.{test, clash}
 use Rattle.answers.specs.declared.Answer.{Answer}
 use Rattle.answers.specs.Answers.{outcome}
 use Rattle.texts.specs.Texts.{Appended}

@@ -7,6 +7,7 @@ pub mod Pairings
 pub mod Walks
 pub mod Places
 pub mod Sheets
+pub mod Splits
 pub mod Ends
 pub mod Numbers
 pub mod Demand

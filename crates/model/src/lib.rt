@@ -1,1 +1,1 @@
-// The model: definitions in specs/, laws in proofs/, and no code.
+// The model: definitions and worked cases in specs/, and no code.

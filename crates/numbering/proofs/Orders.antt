@@ -14,8 +14,8 @@ use Rattle.model.specs.Lists.{allBelow, allFrom}
 use Rattle.model.specs.Cell.{cellSize}
 use Rattle.model.specs.Numbering.{corners, flip, firstBit, swapFirst, swapLast, cellLink}
 use Rattle.model.specs.Meaning.Maps.{Dim}
-use Rattle.model.proofs.Lists.Scan.{test, and-l, and-r, or-cases, below-at, below-both}
-use Rattle.model.proofs.Maps.Dim.{two-cases}
+use Rattle.theorems.proofs.Lists.Scan.{test, and-l, and-r, or-cases, below-at, below-both}
+use Rattle.theorems.proofs.Maps.Dim.{two-cases}
 use Rattle.numbering.specs.Orders.{orders, firstAxis, secondAxis, orderOf, nextOrder, nextVertex, placeOf}
 
 -- ---- axis orders

@@ -10,7 +10,7 @@ use Rattle.model.specs.Table.{slots, link, live}
 use Rattle.model.specs.Meaning.Sizes.{liveCount}
 use Rattle.model.specs.Text.{bytes, decimal, said}
 use Rattle.model.specs.Session.{dartLines, dartsFrom}
-use Rattle.model.proofs.Lists.Scan.{test}
+use Rattle.theorems.proofs.Lists.Scan.{test}
 use Rattle.texts.specs.Texts.{Appended}
 use Rattle.texts.proofs.Writing.{appended-then}
 

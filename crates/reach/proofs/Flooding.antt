@@ -14,10 +14,10 @@ use Rattle.model.specs.Table.{slots, link, live}
 use Rattle.model.specs.Orbit.{bit, orbit}
 use Rattle.model.specs.Meaning.Maps.{Dim}
 use Rattle.model.specs.Meaning.Sets.{Bits, LeastSet, ByLink, Marked}
-use Rattle.model.proofs.Lists.Scan.{if-eq, if-lt, test, clash}
-use Rattle.model.proofs.Sets.Least.{least-set-unique, orbit-is}
-use Rattle.model.proofs.Maps.Dim.{two-cases}
-use Rattle.model.proofs.Maps.Tables.{live-below, rule-at}
+use Rattle.theorems.proofs.Lists.Scan.{if-eq, if-lt, test, clash}
+use Rattle.theorems.proofs.Sets.Least.{least-set-unique, orbit-is}
+use Rattle.theorems.proofs.Maps.Dim.{two-cases}
+use Rattle.theorems.proofs.Maps.Tables.{live-below, rule-at}
 use Rattle.reach.specs.Search.{Search, searchOf, meet, follow, followBelow}
 use Rattle.reach.specs.Given.{Given, Linked, Room, Stepping}
 use Rattle.reach.proofs.Marks.{Found, marked-found, found-marked, count-bits, alone, alone-own, alone-only, alone-bits, alone-count}

@@ -13,8 +13,8 @@ use borrow.Author.Tests.{eq-eqb, ne-eqb}
 use Rattle.model.specs.Lists.{count}
 use Rattle.model.specs.Table.{slots, link, live}
 use Rattle.model.specs.Orbit.{bit}
-use Rattle.model.proofs.Lists.Scan.{if-eq, test, count-change}
-use Rattle.model.proofs.Maps.Rules.{live-in}
+use Rattle.theorems.proofs.Lists.Scan.{if-eq, test, count-change}
+use Rattle.theorems.proofs.Maps.Rules.{live-in}
 use Rattle.reach.specs.Search.{Search, searchOf, meet, follow, followBelow}
 use Rattle.reach.specs.Given.{Linked, Room, Stepping, Meeting}
 use Rattle.reach.proofs.Marks.{Found}

@@ -5,7 +5,7 @@ use mathlib.Core.List.{List}
 use native.Mathlib.Omega.{arith}
 use lib.Bits.{bitOr, or-add-and, and-le-l, and-le-r}
 use lib.ListN.{length, getD}
-use Rattle.model.proofs.Lists.Scan.{if-eq, if-lt}
+use Rattle.theorems.proofs.Lists.Scan.{if-eq, if-lt}
 use Rattle.reading.specs.Clear.{Clear, Skips}
 
 pub or-clear : (a b : ℕ) → bitOr a b ≡ 0 → (a ≡ 0) × (b ≡ 0)

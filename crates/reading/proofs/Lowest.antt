@@ -13,8 +13,8 @@ use lib.Seq.{take-suc, take-all, take-append-seam, take-suc-set, length-take-le}
 use borrow.Author.Tests.{eq-eqb, ne-eqb, ltb-true, ltb-false}
 use Rattle.model.specs.Lists.{tabulate, onesFrom, ones}
 use Rattle.model.specs.Table.{unused, slots, link, live}
-use Rattle.model.proofs.Lists.Scan.{test, if-eq, and-l, and-r, clash, length-tab, getD-tab}
-use Rattle.model.proofs.Maps.Rules.{live-by}
+use Rattle.theorems.proofs.Lists.Scan.{test, if-eq, and-l, and-r, clash, length-tab, getD-tab}
+use Rattle.theorems.proofs.Maps.Rules.{live-by}
 use Rattle.reading.specs.Lowest.{Lists, Entered, Told}
 
 -- ---- the places of the ones, one by one

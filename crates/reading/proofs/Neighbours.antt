@@ -12,8 +12,8 @@ use borrow.Author.Tests.{eqb-true, eq-eqb, lt-ltb, ltb-true, not-true, not-false
 use Rattle.model.specs.Table.{unused, slots, link, live}
 use Rattle.model.specs.Map.{isMap}
 use Rattle.model.specs.Meaning.Maps.{Dim, Rule}
-use Rattle.model.proofs.Lists.Scan.{test, clash}
-use Rattle.model.proofs.Maps.Rules.{map-of, of-map, live-in, live-by}
+use Rattle.theorems.proofs.Lists.Scan.{test, clash}
+use Rattle.theorems.proofs.Maps.Rules.{map-of, of-map, live-in, live-by}
 use Rattle.reading.specs.Sized.{Sized}
 use Rattle.reading.specs.Near.{four, turned, commutes, nearRules, keepsNear, Row, Below}
 use Rattle.reading.proofs.Rules.{four-at, four-of, Tests, tests-of, of-tests, turned-live}

@@ -3,7 +3,7 @@ use Prim.Native.Nat.{ℕ}
 use mathlib.Core.Path.{_≡_}
 use mathlib.Core.List.{List}
 use Rattle.model.specs.Checks.{pass, tableOk}
-use Rattle.model.proofs.Calls.Pass.{table-pass}
+use Rattle.theorems.proofs.Calls.Pass.{table-pass}
 use Rattle.reading.specs.Sized.{Sized}
 
 pub table-passed : (t : List ℕ) → tableOk t ≡ pass → Sized t

@@ -11,9 +11,9 @@ use borrow.Author.Tests.{eqb-true, eq-eqb, ne-eqb}
 use Rattle.model.specs.Table.{unused, link, live}
 use Rattle.model.specs.Map.{crossed, keepsRules}
 use Rattle.model.specs.Meaning.Maps.{Dim, Rule}
-use Rattle.model.proofs.Lists.Scan.{and-l, and-r, and-i, test, if-eq}
-use Rattle.model.proofs.Maps.Dim.{dim-cases}
-use Rattle.model.proofs.Maps.Rules.{rule-of, of-rule, crossed-far, dead-link}
+use Rattle.theorems.proofs.Lists.Scan.{and-l, and-r, and-i, test, if-eq}
+use Rattle.theorems.proofs.Maps.Dim.{dim-cases}
+use Rattle.theorems.proofs.Maps.Rules.{rule-of, of-rule, crossed-far, dead-link}
 use Rattle.reading.specs.Near.{four, rules, turned}
 
 -- two tests that pass together are equal

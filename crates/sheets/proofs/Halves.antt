@@ -18,14 +18,14 @@ use Rattle.model.specs.Everything.{everything}
 use Rattle.model.specs.Meaning.Maps.{Dim, BlockTable}
 use Rattle.model.specs.Meaning.Places.{path, place}
 use Rattle.model.specs.Meaning.Sheets.{half}
-use Rattle.model.proofs.Lists.Scan.{test, clash, and-l, and-r, below-at, below-both, below-not}
-use Rattle.model.proofs.Maps.Dim.{two-cases}
-use Rattle.model.proofs.Maps.Tables.{mapTable}
-use Rattle.model.proofs.Cells.Rows.{small, rowWalk, walk-rows, path-small}
-use Rattle.model.proofs.Cells.Cell.{word-place}
-use Rattle.model.proofs.Cells.Chart.{place-chart, place-zero, place-live}
-use Rattle.model.proofs.Layers.Half.{half-size}
-use Rattle.model.proofs.Layers.Near.{Near, none, more, near-link}
+use Rattle.theorems.proofs.Lists.Scan.{test, clash, and-l, and-r, below-at, below-both, below-not}
+use Rattle.theorems.proofs.Maps.Dim.{two-cases}
+use Rattle.theorems.proofs.Maps.Tables.{mapTable}
+use Rattle.theorems.proofs.Cells.Rows.{small, rowWalk, walk-rows, path-small}
+use Rattle.theorems.proofs.Cells.Cell.{word-place}
+use Rattle.theorems.proofs.Cells.Chart.{place-chart, place-zero, place-live}
+use Rattle.theorems.proofs.Layers.Half.{half-size}
+use Rattle.theorems.proofs.Layers.Near.{Near, none, more, near-link}
 use Rattle.numbering.specs.Orders.{orders, placeOf}
 use Rattle.sheets.specs.Spread.{sides, sideStart}
 

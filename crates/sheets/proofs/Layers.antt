@@ -14,15 +14,15 @@ use Rattle.model.specs.Meaning.Maps.{MapTable}
 use Rattle.model.specs.Meaning.Sets.{Marked, SheetStep, along, across, beside}
 use Rattle.model.specs.Meaning.Places.{place}
 use Rattle.model.specs.Meaning.Sheets.{BlockDart, InCells, Touches, half}
-use Rattle.model.proofs.Lists.Scan.{if-eq}
-use Rattle.model.proofs.Lists.Ones.{ones-of, ones-in}
-use Rattle.model.proofs.Sets.Least.{cell-is, sheet-is}
-use Rattle.model.proofs.Sets.Sizes.{size-into}
-use Rattle.model.proofs.Maps.Tables.{mapTable}
-use Rattle.model.proofs.Cells.Cell.{cell-own}
-use Rattle.model.proofs.Layers.Walk.{link-back}
-use Rattle.model.proofs.Layers.Sheet.{sheet-live, sheet-of}
-use Rattle.model.proofs.Layers.Marks.{marks-one, marks-two, marks-three, marks-zero, sheet-layer}
+use Rattle.theorems.proofs.Lists.Scan.{if-eq}
+use Rattle.theorems.proofs.Lists.Ones.{ones-of, ones-in}
+use Rattle.theorems.proofs.Sets.Least.{cell-is, sheet-is}
+use Rattle.theorems.proofs.Sets.Sizes.{size-into}
+use Rattle.theorems.proofs.Maps.Tables.{mapTable}
+use Rattle.theorems.proofs.Cells.Cell.{cell-own}
+use Rattle.theorems.proofs.Layers.Walk.{link-back}
+use Rattle.theorems.proofs.Layers.Sheet.{sheet-live, sheet-of}
+use Rattle.theorems.proofs.Layers.Marks.{marks-one, marks-two, marks-three, marks-zero, sheet-layer}
 use Rattle.sheets.specs.Spread.{Inner}
 use Rattle.sheets.specs.Found.{Awaits, Spreading}
 use Rattle.sheets.proofs.Halves.{half-along, half-across, half-beside}

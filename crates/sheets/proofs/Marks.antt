@@ -11,9 +11,9 @@ use borrow.Author.Tests.{eq-eqb, ne-eqb}
 use Rattle.model.specs.Lists.{count}
 use Rattle.model.specs.Table.{slots, link}
 use Rattle.model.specs.Meaning.Sheets.{half}
-use Rattle.model.proofs.Lists.Scan.{if-eq, if-lt}
-use Rattle.model.proofs.Sets.Pigeon.{count-one}
-use Rattle.model.proofs.Maps.Tables.{live-below, rule-at}
+use Rattle.theorems.proofs.Lists.Scan.{if-eq, if-lt}
+use Rattle.theorems.proofs.Sets.Pigeon.{count-one}
+use Rattle.theorems.proofs.Maps.Tables.{live-below, rule-at}
 use Rattle.cells.specs.Listing.{Listing}
 use Rattle.sheets.specs.Spread.{sides, sideStart, Fresh, Firsts, Inner, Touched, Rest, Put, over, Waiting, Spread}
 use Rattle.sheets.proofs.Halves.{start-low, half-in}

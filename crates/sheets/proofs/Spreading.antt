@@ -15,17 +15,17 @@ use Rattle.model.specs.Meaning.Maps.{Dim, MapTable, BlockTable}
 use Rattle.model.specs.Meaning.Sets.{Marked}
 use Rattle.model.specs.Meaning.Places.{place}
 use Rattle.model.specs.Meaning.Sheets.{BlockDart, InCells, half}
-use Rattle.model.proofs.Lists.Scan.{if-eq, if-lt}
-use Rattle.model.proofs.Lists.Ones.{ones-of, ones-in}
-use Rattle.model.proofs.Sets.Pigeon.{count-none, count-most}
-use Rattle.model.proofs.Maps.Dim.{two-cases}
-use Rattle.model.proofs.Maps.Tables.{mapTable, live-below}
-use Rattle.model.proofs.Cells.Rows.{rows-in, path-zero}
-use Rattle.model.proofs.Cells.Cell.{place-in}
-use Rattle.model.proofs.Cells.Chart.{place-chart, place-one, place-live}
-use Rattle.model.proofs.Layers.Walk.{link-live, link-back}
-use Rattle.model.proofs.Layers.Sheet.{sheet-own, sheet-live, sheet-of}
-use Rattle.model.proofs.Layers.Half.{in-half}
+use Rattle.theorems.proofs.Lists.Scan.{if-eq, if-lt}
+use Rattle.theorems.proofs.Lists.Ones.{ones-of, ones-in}
+use Rattle.theorems.proofs.Sets.Pigeon.{count-none, count-most}
+use Rattle.theorems.proofs.Maps.Dim.{two-cases}
+use Rattle.theorems.proofs.Maps.Tables.{mapTable, live-below}
+use Rattle.theorems.proofs.Cells.Rows.{rows-in, path-zero}
+use Rattle.theorems.proofs.Cells.Cell.{place-in}
+use Rattle.theorems.proofs.Cells.Chart.{place-chart, place-one, place-live}
+use Rattle.theorems.proofs.Layers.Walk.{link-live, link-back}
+use Rattle.theorems.proofs.Layers.Sheet.{sheet-own, sheet-live, sheet-of}
+use Rattle.theorems.proofs.Layers.Half.{in-half}
 use Rattle.cells.specs.Listing.{places}
 use Rattle.cells.specs.Good.{MapDart}
 use Rattle.cells.proofs.Listing.{places-length, places-at, places-listing}

@@ -7,8 +7,8 @@ use native.Mathlib.Omega.{arith}
 use lib.ListN.{length}
 use Rattle.model.specs.Table.{slots, link, live}
 use Rattle.model.specs.Meaning.Maps.{MapTable}
-use Rattle.model.proofs.Maps.Rules.{live-in}
-use Rattle.model.proofs.Maps.Tables.{rule-at}
+use Rattle.theorems.proofs.Maps.Rules.{live-in}
+use Rattle.theorems.proofs.Maps.Tables.{rule-at}
 use Rattle.sides.specs.Turns.{Linked}
 
 -- in a map each link of a live slot is a live slot

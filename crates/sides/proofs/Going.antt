@@ -9,7 +9,7 @@ use native.Mathlib.Omega.{arith}
 use lib.ListN.{length, set, length-set}
 use lib.Seq.{getD-set-same, getD-set-other}
 use Rattle.model.specs.Table.{slots, link, live}
-use Rattle.model.proofs.Lists.Scan.{if-eq, or-cases, or-false, clash}
+use Rattle.theorems.proofs.Lists.Scan.{if-eq, or-cases, or-false, clash}
 use Rattle.sides.specs.Turns.{turned, turns, Alike, AlikeAt, Passing, EndTest, Gone, BothEnd, Together, Walked, Parted}
 use Rattle.sides.proofs.SideTurns.{New, turns-live, turns-low, turns-few, turns-fit}
 

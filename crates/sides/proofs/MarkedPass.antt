@@ -9,7 +9,7 @@ use lib.ListN.{length}
 use Rattle.model.specs.Table.{slots, link}
 use Rattle.model.specs.Journal.{cursor, changesFrom}
 use Rattle.model.specs.Meaning.Sets.{Marked}
-use Rattle.model.proofs.Lists.Scan.{if-eq}
+use Rattle.theorems.proofs.Lists.Scan.{if-eq}
 use Rattle.reading.specs.Clear.{Clear, Skips}
 use Rattle.journal.specs.Records.{drafted}
 use Rattle.journal.specs.Passes.{Pass, OneLink}

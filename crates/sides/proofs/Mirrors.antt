@@ -7,7 +7,7 @@ use native.Mathlib.Omega.{arith}
 use lib.ListN.{length, getD, set, length-set}
 use lib.Seq.{getD-set-same, getD-set-other}
 use Rattle.model.specs.Table.{slots, link, live}
-use Rattle.model.proofs.Lists.Scan.{if-eq}
+use Rattle.theorems.proofs.Lists.Scan.{if-eq}
 use Rattle.sides.specs.Turns.{Mirrors}
 use Rattle.sides.proofs.Entries.{live-entry, link-low}
 

@@ -12,7 +12,7 @@ use Rattle.model.specs.Reach.{inSet}
 use Rattle.model.specs.Sew.{side}
 use Rattle.model.specs.Meaning.Sets.{Marked}
 use Rattle.model.specs.Meaning.Pairings.{OnSide}
-use Rattle.model.proofs.Lists.Scan.{if-eq, or-cases, or-false}
+use Rattle.theorems.proofs.Lists.Scan.{if-eq, or-cases, or-false}
 use Rattle.sides.specs.Turns.{turns, SideLinks}
 use Rattle.sides.proofs.SideTurns.{side-start, side-turning, side-turns, side-met}
 use Rattle.sides.proofs.Standing.{Standing, standing-first, on-turn, standing-next}

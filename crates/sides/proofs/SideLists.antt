@@ -14,9 +14,9 @@ use Rattle.model.specs.Table.{slots, link}
 use Rattle.model.specs.Sew.{side}
 use Rattle.model.specs.Meaning.Sets.{Marked}
 use Rattle.model.specs.Meaning.Pairings.{OnSide}
-use Rattle.model.proofs.Lists.Scan.{if-lt, or-cases, or-false}
-use Rattle.model.proofs.Maps.Tables.{live-below}
-use Rattle.model.proofs.Sewing.Side.{side-live, side-own, sides-parted}
+use Rattle.theorems.proofs.Lists.Scan.{if-lt, or-cases, or-false}
+use Rattle.theorems.proofs.Maps.Tables.{live-below}
+use Rattle.theorems.proofs.Sewing.Side.{side-live, side-own, sides-parted}
 use Rattle.sides.specs.Turns.{turned, turns, SideLinks, Gone, BothEnd, Together, Walked, Parted}
 use Rattle.sides.specs.Turns.{Mirrors, Mirrored, Apart, Listing, InStep}
 use Rattle.sides.proofs.Turning.{turned-apart, mirror-apart, open-all}

@@ -12,12 +12,12 @@ use Rattle.model.specs.Table.{link}
 use Rattle.model.specs.Sew.{side, partners, isPaired}
 use Rattle.model.specs.Meaning.Sets.{Marked}
 use Rattle.model.specs.Meaning.Pairings.{Far, OnSide, Pairing}
-use Rattle.model.proofs.Lists.Scan.{if-eq, if-lt, test}
-use Rattle.model.proofs.Maps.Tables.{rule-at}
-use Rattle.model.proofs.Sets.Pigeon.{count-by}
-use Rattle.model.proofs.Sewing.Side.{side-live, side-own, side-all}
-use Rattle.model.proofs.Sewing.Pairing.{paired-exactly}
-use Rattle.model.proofs.Sewing.Walked.{partners-some}
+use Rattle.theorems.proofs.Lists.Scan.{if-eq, if-lt, test}
+use Rattle.theorems.proofs.Maps.Tables.{rule-at}
+use Rattle.theorems.proofs.Sets.Pigeon.{count-by}
+use Rattle.theorems.proofs.Sewing.Side.{side-live, side-own, side-all}
+use Rattle.theorems.proofs.Sewing.Pairing.{paired-exactly}
+use Rattle.theorems.proofs.Sewing.Walked.{partners-some}
 use Rattle.sides.specs.Turns.{turned, turns, SideLink, SideLinks, Same, AlikeAt, Listing}
 use Rattle.sides.proofs.Turning.{Turning, Met, met-start, met-first, met-second, met-all}
 use Rattle.sides.proofs.SideTurns.{side-turning, side-turns}

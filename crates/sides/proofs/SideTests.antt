@@ -8,7 +8,7 @@ use lib.Dec.{eqb}
 use borrow.Author.Tests.{eqb-true, eqb-false, not-true, not-false}
 use Rattle.model.specs.Meaning.Maps.{Dim}
 use Rattle.model.specs.Meaning.Pairings.{Far}
-use Rattle.model.proofs.Lists.Scan.{if-eq, or-cases, or-false, clash}
+use Rattle.theorems.proofs.Lists.Scan.{if-eq, or-cases, or-false, clash}
 use Rattle.sides.specs.Turns.{SideLink, SideLinks, Same, Alike, Tests, EndTest}
 
 -- ---- the links of a side

@@ -16,11 +16,11 @@ use Rattle.model.specs.Sew.{side}
 use Rattle.model.specs.Meaning.Maps.{Dim, MapTable}
 use Rattle.model.specs.Meaning.Sets.{Marked}
 use Rattle.model.specs.Meaning.Pairings.{OnSide}
-use Rattle.model.proofs.Lists.Scan.{if-lt, length-tabFrom, in-tab}
-use Rattle.model.proofs.Maps.Rules.{live-in}
-use Rattle.model.proofs.Maps.Tables.{rule-at}
-use Rattle.model.proofs.Sets.Pigeon.{distinct-le, distinct-tab}
-use Rattle.model.proofs.Sewing.Side.{side-live, side-own, side-far, side-all}
+use Rattle.theorems.proofs.Lists.Scan.{if-lt, length-tabFrom, in-tab}
+use Rattle.theorems.proofs.Maps.Rules.{live-in}
+use Rattle.theorems.proofs.Maps.Tables.{rule-at}
+use Rattle.theorems.proofs.Sets.Pigeon.{distinct-le, distinct-tab}
+use Rattle.theorems.proofs.Sewing.Side.{side-live, side-own, side-far, side-all}
 use Rattle.sides.specs.Turns.{turns, SideLink, SideLinks, Mapped, Start}
 use Rattle.sides.proofs.Entries.{map-linked}
 use Rattle.sides.proofs.Turning.{Turning, turned-in, turned-apart, Met, met-start, met-first, met-second}

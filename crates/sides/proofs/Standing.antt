@@ -10,7 +10,7 @@ use lib.Dec.{eqb}
 use borrow.Author.Tests.{eq-eqb, ne-eqb}
 use Rattle.model.specs.Lists.{least}
 use Rattle.model.specs.Table.{slots, link, live}
-use Rattle.model.proofs.Lists.Scan.{if-eq, least-by}
+use Rattle.theorems.proofs.Lists.Scan.{if-eq, least-by}
 use Rattle.sides.specs.Turns.{turned, turns, Start}
 use Rattle.sides.proofs.SideTurns.{New, turns-live, turns-apart, turns-few}
 

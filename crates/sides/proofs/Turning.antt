@@ -7,7 +7,7 @@ use Prim.Native.Nat.{ℕ, zero, suc, _+_, _-_, _<_}
 use mathlib.Core.Path.{_≡_, refl, sym, ap, _∙_, subst}
 use mathlib.Core.Logic.{_⊎_, inl, inr, _≢_, ⊎-elim}
 use native.Mathlib.Omega.{arith}
-use Rattle.model.proofs.Lists.Scan.{if-eq, if-lt}
+use Rattle.theorems.proofs.Lists.Scan.{if-eq, if-lt}
 use Rattle.sides.specs.Turns.{turned}
 
 -- a and b lead from a point of L to a point of L, and back

@@ -12,7 +12,7 @@ use lib.Dec.{eqb}
 use borrow.Author.Tests.{eq-eqb, ne-eqb}
 use Rattle.model.specs.Meaning.Worked.{equal}
 use Rattle.model.specs.Text.{begins}
-use Rattle.model.proofs.Lists.Scan.{test}
+use Rattle.theorems.proofs.Lists.Scan.{test}
 
 pub equal-lengths : (xs ys : List ℕ) → length xs ≢ length ys → equal xs ys ≡ false
 unfolding equal

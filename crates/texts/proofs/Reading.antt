@@ -10,7 +10,7 @@ use lib.ListN.{length, getD, drop}
 use lib.Seq.{drop-cons}
 use borrow.Author.Tests.{le-leb, lt-leb, eq-eqb, ne-eqb}
 use Rattle.model.specs.Text.{isDigit, digits, number, upTo}
-use Rattle.model.proofs.Lists.Scan.{test}
+use Rattle.theorems.proofs.Lists.Scan.{test}
 
 pub digits-step : (v : ℕ) (xs : List ℕ) (k : ℕ) → k < length xs → 48 ≤ getD xs k 0 → getD xs k 0 ≤ 57
     → digits v (drop k xs) ≡ digits (10 * v + (getD xs k 0 - 48)) (drop (k + 1) xs)

@@ -11,7 +11,7 @@ use lib.Seq.{take-suc, take-suc-set, length-take-le}
 use lib.Dec.{ltb}
 use borrow.Author.Tests.{lt-ltb, le-ltb, ltb-true, ltb-false}
 use Rattle.model.specs.Text.{lastDigits, decimal, said}
-use Rattle.model.proofs.Lists.Scan.{test}
+use Rattle.theorems.proofs.Lists.Scan.{test}
 use Rattle.texts.specs.Texts.{Appended}
 
 -- ---- behind what stands

@@ -9,7 +9,7 @@ use Rattle.model.specs.Checks.{Check, addChecks, mapChecks}
 use Rattle.model.specs.Journal.{cursor}
 use Rattle.model.specs.Meaning.Maps.{MapTable}
 use Rattle.model.specs.Meaning.Numbers.{JournalRule}
-use Rattle.model.proofs.Calls.Pass.{journal-pass, table-of}
+use Rattle.theorems.proofs.Calls.Pass.{journal-pass, table-of}
 use Rattle.numbering.proofs.Orders.{size-few}
 use Rattle.journal.proofs.Commits.{fits-room}
 use Rattle.answers.proofs.Ladder.{Rung, up, out, all-passed}

@@ -4,7 +4,7 @@ use native.Mathlib.Omega.{arith}
 use lib.ListN.{length}
 use borrow.Author.Needs.{needs}
 use Rattle.model.specs.Numbering.{cellLink}
-use Rattle.model.proofs.Cells.Rows.{row-goes}
+use Rattle.theorems.proofs.Cells.Rows.{row-goes}
 use Rattle.call_add.proofs.cell_slot.Statement.{statement}
 use Rattle.call_add.proofs.cell_slot.Tie as tie
 

@@ -1,7 +1,7 @@
 -- `call_orbit::mask_fits` meets its contract.
 use native.Mathlib.Omega.{arith}
 use Rattle.model.specs.Checks.{maskOk}
-use Rattle.model.proofs.Calls.Pass.{dim-pass}
+use Rattle.theorems.proofs.Calls.Pass.{dim-pass}
 use Rattle.call_orbit.proofs.Masks.{shift-power}
 use Rattle.call_orbit.proofs.mask_fits.Statement.{statement}
 use Rattle.call_orbit.proofs.mask_fits.Tie as tie

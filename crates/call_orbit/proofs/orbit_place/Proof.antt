@@ -5,7 +5,7 @@ use native.Mathlib.Omega.{arith}
 use lib.Count.{trailing-le}
 use borrow.Author.Tests.{eq-eqb, ne-eqb}
 use Rattle.model.specs.Orbit.{orbitPlace}
-use Rattle.model.proofs.Calls.Pass.{dim-pass}
+use Rattle.theorems.proofs.Calls.Pass.{dim-pass}
 use Rattle.call_orbit.proofs.Masks.{mask-bound, placeByOnes, ones-place}
 use Rattle.call_orbit.proofs.orbit_place.Statement.{statement}
 use Rattle.call_orbit.proofs.orbit_place.Tie as tie

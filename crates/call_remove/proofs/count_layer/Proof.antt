@@ -6,7 +6,7 @@ use native.Mathlib.Omega.{arith}
 use lib.ListN.{length}
 use lib.Seq.{take-all}
 use borrow.Author.Needs.{needs}
-use Rattle.model.proofs.Lists.Scan.{clash}
+use Rattle.theorems.proofs.Lists.Scan.{clash}
 use Rattle.call_remove.proofs.Counting.{Counted, counted-none, counted-zero, counted-three, counted-inner}
 use Rattle.call_remove.proofs.Counting.{told-zero, told-three, told-other}
 use Rattle.call_remove.proofs.count_layer.Statement.{statement}

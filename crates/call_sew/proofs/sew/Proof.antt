@@ -6,8 +6,8 @@ use native.Mathlib.Omega.{arith}
 use borrow.Author.Needs.{needs}
 use Rattle.model.specs.Checks.{Check, pass, inOrder, sidesChecks, mapChecks}
 use Rattle.model.specs.Meaning.Pairings.{OnSide}
-use Rattle.model.proofs.Sets.Closure.{none-marked}
-use Rattle.model.proofs.Calls.Pass.{table-of, index-pass, dart-pass}
+use Rattle.theorems.proofs.Sets.Closure.{none-marked}
+use Rattle.theorems.proofs.Calls.Pass.{table-of, index-pass, dart-pass}
 use Rattle.answers.proofs.Ladder.{Rung, up, out, all-passed}
 use Rattle.answers.proofs.Verdicts.{passes, refuses, clear-passes, clear-refuses, dart-test}
 use Rattle.answers.proofs.Settled.{Opening, opened, handed-on}

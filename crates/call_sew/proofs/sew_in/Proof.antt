@@ -8,7 +8,7 @@ use mathlib.Core.Path.{refl}
 use mathlib.Core.Bool.{true}
 use Rattle.model.specs.Sew.{sewTable}
 use Rattle.model.specs.Meaning.Numbers.{JournalRule}
-use Rattle.model.proofs.Calls.Pass.{SidesPassed, sides-passed}
+use Rattle.theorems.proofs.Calls.Pass.{SidesPassed, sides-passed}
 use Rattle.journal.specs.Passes.{Room, Drafted}
 use Rattle.journal.proofs.Commits.{fits-room}
 use Rattle.journal.proofs.Carrying.{draft-closes}

@@ -7,7 +7,7 @@ use borrow.Author.Needs.{needs}
 use borrow.Author.Tests.{not-true}
 use borrow.Fn.Kinds.{In}
 use borrow.Fn.PlainCycle.{Measures, is, falls, and}
-use Rattle.model.proofs.Calls.Pass.{must-pass}
+use Rattle.theorems.proofs.Calls.Pass.{must-pass}
 use Rattle.answers.proofs.Given.{room-small, room-given}
 use Rattle.answers.proofs.Layered.{layered}
 use Rattle.reading.proofs.table_fits.Reads as table-fits

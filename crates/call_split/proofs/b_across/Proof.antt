@@ -3,7 +3,7 @@ use mathlib.Core.Path.{refl, sym, _∙_}
 use mathlib.Core.List.{[], _∷_}
 use native.Mathlib.Omega.{arith}
 use Rattle.model.specs.Table.{walk}
-use Rattle.model.proofs.Layers.Role.{keepsSheet}
+use Rattle.theorems.proofs.Layers.Role.{keepsSheet}
 use Rattle.call_split.proofs.Roles.{link-asked, dart-asked, dart-found, links}
 use Rattle.call_split.proofs.b_across.Statement.{statement}
 use Rattle.call_split.proofs.b_across.Tie as tie

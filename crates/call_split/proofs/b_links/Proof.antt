@@ -4,7 +4,7 @@ use mathlib.Core.List.{[], _∷_}
 use native.Mathlib.Omega.{arith}
 use borrow.Author.Needs.{needs}
 use Rattle.model.specs.Table.{walk}
-use Rattle.model.proofs.Layers.Role.{keepsSheet}
+use Rattle.theorems.proofs.Layers.Role.{keepsSheet}
 use Rattle.call_split.proofs.Roles.{link-asked, dart-asked, dart-found, links, b-over, four-links}
 use Rattle.call_split.proofs.b_links.Statement.{statement}
 use Rattle.call_split.proofs.b_links.Tie as tie

@@ -9,9 +9,9 @@ use Rattle.model.specs.Lists.{ones}
 use Rattle.model.specs.Table.{link}
 use Rattle.model.specs.Split.{crosses}
 use Rattle.model.specs.Meaning.Sets.{Marked}
-use Rattle.model.proofs.Lists.Scan.{test, if-eq, if-lt}
-use Rattle.model.proofs.Sets.Closure.{marked-in}
-use Rattle.model.proofs.Layers.Sheet.{crosses-some}
+use Rattle.theorems.proofs.Lists.Scan.{test, if-eq, if-lt}
+use Rattle.theorems.proofs.Sets.Closure.{marked-in}
+use Rattle.theorems.proofs.Layers.Sheet.{crosses-some}
 use Rattle.call_split.proofs.Ones.{clear-unmarked}
 use Rattle.call_split.proofs.crosses.Statement.{statement}
 use Rattle.call_split.proofs.crosses.Tie as tie

@@ -8,7 +8,7 @@ use lib.Dec.{eqb}
 use borrow.Author.Needs.{needs}
 use borrow.Author.Tests.{eqb-true, eqb-false}
 use Rattle.model.specs.Table.{slots, unusedSlots}
-use Rattle.model.proofs.Lists.Scan.{clash}
+use Rattle.theorems.proofs.Lists.Scan.{clash}
 use Rattle.reading.specs.Lowest.{Lists}
 use Rattle.call_split.specs.Slots.{SlotsFound}
 use Rattle.call_split.proofs.find_slots.Statement.{statement}

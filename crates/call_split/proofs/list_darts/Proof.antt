@@ -3,7 +3,7 @@ use Prim.Native.Nat.{_-_, _≤_, _<_}
 use mathlib.Core.Path.{refl}
 use native.Mathlib.Omega.{arith}
 use lib.ListN.{length}
-use Rattle.model.proofs.Layers.Splitting.{slot-low}
+use Rattle.theorems.proofs.Layers.Splitting.{slot-low}
 use Rattle.call_split.proofs.Placing.{Placing, placing-none, placing-more, placing-over, placing-left, placing-all, enters-few}
 use Rattle.call_split.proofs.list_darts.Statement.{statement}
 use Rattle.call_split.proofs.list_darts.Tie as tie

@@ -8,7 +8,7 @@ use borrow.Author.Needs.{needs}
 use borrow.Author.Tests.{not-true, not-false}
 use Rattle.model.specs.Table.{slots}
 use Rattle.model.specs.Split.{splitTable}
-use Rattle.model.proofs.Maps.Tables.{mapTable}
+use Rattle.theorems.proofs.Maps.Tables.{mapTable}
 use Rattle.journal.specs.Passes.{Drafted}
 use Rattle.answers.proofs.Given.{told-given}
 use Rattle.answers.proofs.Commits.{commit-full, commit-done}

@@ -7,7 +7,7 @@ use lib.ListN.{getD}
 use borrow.Author.Needs.{needs}
 use Rattle.model.specs.Table.{walk}
 use Rattle.model.specs.Split.{splitTable}
-use Rattle.model.proofs.Layers.Role.{keepsSheet}
+use Rattle.theorems.proofs.Layers.Role.{keepsSheet}
 use Rattle.journal.specs.Passes.{OneLink}
 use Rattle.journal.proofs.Passes.{pass-word, pass-length}
 use Rattle.call_split.specs.Drafting.{Drafting}

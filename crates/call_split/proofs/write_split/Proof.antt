@@ -5,7 +5,7 @@ use mathlib.Core.Path.{_≡_, refl, ap}
 use native.Mathlib.Omega.{arith}
 use borrow.Author.Needs.{needs}
 use Rattle.model.specs.Journal.{cursor}
-use Rattle.model.proofs.Lists.Scan.{if-lt}
+use Rattle.theorems.proofs.Lists.Scan.{if-lt}
 use Rattle.journal.proofs.Passes.{pass-word}
 use Rattle.call_split.specs.Drafting.{Writing, Drafting, DartsMet, NewMet}
 use Rattle.call_split.proofs.Lists.{dart-inside, new-next-dart}

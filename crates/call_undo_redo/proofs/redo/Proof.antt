@@ -7,7 +7,7 @@ use borrow.Author.Needs.{needs}
 use Rattle.model.specs.Journal.{cursor, end}
 use Rattle.model.specs.Checks.{Check, stepChecks, redoOk, mapChecks}
 use Rattle.model.specs.Meaning.Numbers.{JournalRule}
-use Rattle.model.proofs.Calls.Pass.{journal-pass}
+use Rattle.theorems.proofs.Calls.Pass.{journal-pass}
 use Rattle.answers.proofs.Ladder.{Rung, up, out, all-passed}
 use Rattle.answers.proofs.Verdicts.{differ-passes, differ-refuses, redo-test}
 use Rattle.answers.proofs.Settled.{Opening, opened, handed-on}

@@ -7,7 +7,7 @@ use borrow.Author.Needs.{needs}
 use borrow.Author.Tests.{not-true, not-false}
 use Rattle.model.specs.Journal.{recordLength, tagAt}
 use Rattle.model.specs.Meaning.Numbers.{JournalRule}
-use Rattle.model.proofs.Calls.Pass.{journal-pass}
+use Rattle.theorems.proofs.Calls.Pass.{journal-pass}
 use Rattle.journal.proofs.Steps.{unbroken-fits, unbroken-again, unbroken-back, step-broken, step-no-map, step-taken}
 use Rattle.call_undo_redo.proofs.Given.{put-given}
 use Rattle.call_undo_redo.proofs.Ends.{step-refused}

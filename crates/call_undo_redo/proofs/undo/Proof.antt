@@ -4,7 +4,7 @@ use native.Mathlib.Omega.{arith}
 use borrow.Author.Needs.{needs}
 use Rattle.model.specs.Checks.{Check, stepChecks, undoOk, mapChecks}
 use Rattle.model.specs.Meaning.Numbers.{JournalRule}
-use Rattle.model.proofs.Calls.Pass.{journal-pass}
+use Rattle.theorems.proofs.Calls.Pass.{journal-pass}
 use Rattle.answers.proofs.Ladder.{Rung, up, out, all-passed}
 use Rattle.answers.proofs.Verdicts.{differ-passes, differ-refuses, undo-test}
 use Rattle.answers.proofs.Settled.{Opening, opened, handed-on}

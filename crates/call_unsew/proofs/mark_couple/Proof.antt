@@ -2,7 +2,7 @@
 use mathlib.Core.Path.{sym, _∙_}
 use native.Mathlib.Omega.{arith}
 use borrow.Author.Needs.{needs}
-use Rattle.model.proofs.Maps.Rules.{live-in}
+use Rattle.theorems.proofs.Maps.Rules.{live-in}
 use Rattle.sides.proofs.Entries.{live-entry, link-low}
 use Rattle.call_unsew.proofs.Marks.{marking-few, marking-as, marking-both}
 use Rattle.call_unsew.proofs.mark_couple.Statement.{statement}

@@ -5,8 +5,8 @@ use mathlib.Core.List.{List}
 use native.Mathlib.Omega.{arith}
 use borrow.Author.Needs.{needs}
 use Rattle.model.specs.Checks.{Check, pass, inOrder, unsewChecks, mapChecks}
-use Rattle.model.proofs.Sets.Closure.{none-marked}
-use Rattle.model.proofs.Calls.Pass.{dim-pass, index-pass}
+use Rattle.theorems.proofs.Sets.Closure.{none-marked}
+use Rattle.theorems.proofs.Calls.Pass.{dim-pass, index-pass}
 use Rattle.answers.proofs.Ladder.{Rung, up, out, all-passed}
 use Rattle.answers.proofs.Verdicts.{clear-passes, clear-refuses}
 use Rattle.answers.proofs.Settled.{Opening, opened, handed-on}

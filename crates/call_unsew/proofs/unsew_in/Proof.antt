@@ -6,7 +6,7 @@ use borrow.Author.Needs.{needs}
 use borrow.Author.Tests.{not-true, not-false}
 use Rattle.model.specs.Sew.{unsewTable}
 use Rattle.model.specs.Meaning.Numbers.{JournalRule}
-use Rattle.model.proofs.Calls.Pass.{UnsewPassed, unsew-passed, unsew-side}
+use Rattle.theorems.proofs.Calls.Pass.{UnsewPassed, unsew-passed, unsew-side}
 use Rattle.journal.specs.Passes.{Room, Drafted}
 use Rattle.journal.proofs.Commits.{fits-room}
 use Rattle.answers.proofs.Commits.{commit-full, commit-done}

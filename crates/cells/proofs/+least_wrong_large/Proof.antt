@@ -8,7 +8,7 @@ use borrow.Author.Tests.{not-true}
 use borrow.Fn.Kinds.{In}
 use borrow.Fn.PlainCycle.{Measures, is, falls, and}
 use lib.ListN.{getD-replicate}
-use Rattle.model.proofs.Calls.Pass.{must-pass, table-pass}
+use Rattle.theorems.proofs.Calls.Pass.{must-pass, table-pass}
 use Rattle.reading.proofs.table_fits.Reads as table-fits
 use Rattle.cells.proofs.first_wrong.Reads as first-wrong
 use Rattle.cells.proofs.least_wrong_large.Reads as least-wrong-large

@@ -6,7 +6,7 @@ use native.Mathlib.Omega.{arith}
 use borrow.Author.Count.{below-none, below-more}
 use borrow.Author.Needs.{needs}
 use borrow.Author.Tests.{not-true, not-false}
-use Rattle.model.proofs.Lists.Scan.{below-of}
+use Rattle.theorems.proofs.Lists.Scan.{below-of}
 use Rattle.cells.specs.Good.{sideOf, isStraight, allStraight}
 use Rattle.cells.proofs.Good.{not-all}
 use Rattle.cells.proofs.all_straight.Statement.{statement}

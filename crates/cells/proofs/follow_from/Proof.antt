@@ -9,7 +9,7 @@ use borrow.Author.Count.{below-more}
 use borrow.Author.Needs.{needs}
 use borrow.Author.Tests.{lt-ltb, le-ltb, not-true, not-false}
 use Rattle.model.specs.Numbering.{corners}
-use Rattle.model.proofs.Lists.Scan.{or-i, below-of}
+use Rattle.theorems.proofs.Lists.Scan.{or-i, below-of}
 use Rattle.numbering.specs.Orders.{nextVertex, placeOf}
 use Rattle.cells.specs.Good.{followsAt, followFrom}
 use Rattle.cells.proofs.Good.{not-all}

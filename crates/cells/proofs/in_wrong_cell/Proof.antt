@@ -4,7 +4,7 @@ use mathlib.Core.Bool.{true}
 use native.Mathlib.Omega.{arith}
 use borrow.Author.Needs.{needs}
 use Rattle.model.specs.Table.{live}
-use Rattle.model.proofs.Maps.Rules.{live-by}
+use Rattle.theorems.proofs.Maps.Rules.{live-by}
 use Rattle.cells.proofs.Seen.{unused-right, visit-ready, visit-answers}
 use Rattle.cells.proofs.in_wrong_cell.Statement.{statement}
 use Rattle.cells.proofs.in_wrong_cell.Tie as tie

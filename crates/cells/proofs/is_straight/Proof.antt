@@ -7,7 +7,7 @@ use native.Mathlib.Omega.{arith}
 use lib.ListN.{getD}
 use borrow.Author.Count.{below-more}
 use borrow.Author.Needs.{needs}
-use Rattle.model.proofs.Lists.Scan.{below-of}
+use Rattle.theorems.proofs.Lists.Scan.{below-of}
 use Rattle.model.specs.Table.{link}
 use Rattle.numbering.specs.Orders.{orders, placeOf}
 use Rattle.numbering.proofs.Orders.{orders-few, order-low}

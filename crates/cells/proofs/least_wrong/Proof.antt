@@ -2,7 +2,7 @@
 use native.Mathlib.Omega.{arith}
 use borrow.Author.Needs.{needs}
 use lib.ListN.{getD-replicate}
-use Rattle.model.proofs.Calls.Pass.{table-pass}
+use Rattle.theorems.proofs.Calls.Pass.{table-pass}
 use Rattle.cells.proofs.least_wrong.Statement.{statement}
 use Rattle.cells.proofs.least_wrong.Tie as tie
 

@@ -6,7 +6,7 @@ use native.Mathlib.Omega.{arith}
 use borrow.Author.Count.{below-more}
 use borrow.Author.Needs.{needs}
 use lib.ListN.{length}
-use Rattle.model.proofs.Lists.Scan.{below-of}
+use Rattle.theorems.proofs.Lists.Scan.{below-of}
 use Rattle.cells.specs.Good.{notAgain, onlyFirst}
 use Rattle.cells.proofs.Good.{not-all, not-again-first, not-again, again}
 use Rattle.cells.proofs.only_first.Statement.{statement}

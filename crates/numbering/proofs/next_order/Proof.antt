@@ -4,7 +4,7 @@ use native.Mathlib.Omega.{arith}
 use borrow.Author.Needs.{needs}
 use borrow.Author.Tests.{eqb-true}
 use lib.Dec.{eqb}
-use Rattle.model.proofs.Lists.Scan.{and-r}
+use Rattle.theorems.proofs.Lists.Scan.{and-r}
 use Rattle.numbering.proofs.Orders.{orders-solid, order-one, order-two, order-rest}
 use Rattle.numbering.proofs.next_order.Statement.{statement}
 use Rattle.numbering.proofs.next_order.Tie as tie

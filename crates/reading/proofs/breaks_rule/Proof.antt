@@ -4,8 +4,8 @@ use mathlib.Core.Bool.{not}
 use native.Mathlib.Omega.{arith}
 use borrow.Author.Needs.{needs}
 use Rattle.model.specs.Map.{keepsRules, breaksRule}
-use Rattle.model.proofs.Maps.Failing.{failing, failing-live, failing-dead}
-use Rattle.model.proofs.Maps.Rules.{live-in}
+use Rattle.theorems.proofs.Maps.Failing.{failing, failing-live, failing-dead}
+use Rattle.theorems.proofs.Maps.Rules.{live-in}
 use Rattle.reading.proofs.Passed.{table-passed}
 use Rattle.reading.proofs.breaks_rule.Statement.{statement}
 use Rattle.reading.proofs.breaks_rule.Tie as tie

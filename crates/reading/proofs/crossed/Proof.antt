@@ -2,7 +2,7 @@
 use mathlib.Core.Path.{sym}
 use native.Mathlib.Omega.{arith}
 use borrow.Author.Needs.{needs}
-use Rattle.model.proofs.Maps.Rules.{crossed-far}
+use Rattle.theorems.proofs.Maps.Rules.{crossed-far}
 use Rattle.reading.proofs.crossed.Statement.{statement}
 use Rattle.reading.proofs.crossed.Tie as tie
 

@@ -6,7 +6,7 @@ use native.Mathlib.Omega.{arith}
 use borrow.Author.Count.{below-none, below-more}
 use Rattle.model.specs.Table.{slots}
 use Rattle.model.specs.Map.{breaksRule, leastBreaking}
-use Rattle.model.proofs.Lists.Scan.{searched}
+use Rattle.theorems.proofs.Lists.Scan.{searched}
 use Rattle.reading.proofs.Passed.{table-passed}
 use Rattle.reading.proofs.first_breaking.Statement.{statement}
 use Rattle.reading.proofs.first_breaking.Tie as tie

@@ -6,7 +6,7 @@ use native.Mathlib.Omega.{arith}
 use borrow.Author.Count.{below-none, below-more}
 use borrow.Author.Tests.{not-true, not-false}
 use Rattle.reading.specs.Near.{keepsNear}
-use Rattle.model.proofs.Calls.Pass.{dim-pass}
+use Rattle.theorems.proofs.Calls.Pass.{dim-pass}
 use Rattle.reading.proofs.Passed.{table-passed}
 use Rattle.reading.proofs.Neighbours.{near-map, broken-map}
 use Rattle.reading.proofs.is_map.Statement.{statement}

@@ -2,7 +2,7 @@
 use mathlib.Core.Path.{sym, _∙_}
 use native.Mathlib.Omega.{arith}
 use Rattle.reading.specs.Near.{Row}
-use Rattle.model.proofs.Calls.Pass.{dim-pass}
+use Rattle.theorems.proofs.Calls.Pass.{dim-pass}
 use Rattle.reading.proofs.Neighbours.{below, row-range, row-unused, near-in, near-out}
 use Rattle.reading.proofs.keeps_near.Statement.{statement}
 use Rattle.reading.proofs.keeps_near.Tie as tie

@@ -3,7 +3,7 @@ use mathlib.Core.Path.{_∙_}
 use native.Mathlib.Omega.{arith}
 use borrow.Author.Needs.{needs}
 use Rattle.model.specs.Map.{crossed}
-use Rattle.model.proofs.Calls.Pass.{dim-pass}
+use Rattle.theorems.proofs.Calls.Pass.{dim-pass}
 use Rattle.reading.specs.Near.{turned}
 use Rattle.reading.proofs.Rules.{rules-flat, rules-solid, keeps-rules}
 use Rattle.reading.proofs.keeps_rules.Statement.{statement}

@@ -5,7 +5,7 @@ use native.Mathlib.Omega.{arith}
 use lib.ListN.{List·getD-eq-default}
 use borrow.Author.Needs.{needs}
 use Rattle.model.specs.Table.{link, unused}
-use Rattle.model.proofs.Sets.Closure.{getD-any}
+use Rattle.theorems.proofs.Sets.Closure.{getD-any}
 use Rattle.reading.proofs.link.Statement.{statement}
 use Rattle.reading.proofs.link.Tie as tie
 

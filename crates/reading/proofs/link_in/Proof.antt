@@ -3,7 +3,7 @@ use Prim.Native.Nat.{_+_, _*_}
 use native.Mathlib.Omega.{arith}
 use borrow.Author.Needs.{needs}
 use Rattle.model.specs.Table.{link, unused}
-use Rattle.model.proofs.Sets.Closure.{getD-any}
+use Rattle.theorems.proofs.Sets.Closure.{getD-any}
 use Rattle.reading.proofs.link_in.Statement.{statement}
 use Rattle.reading.proofs.link_in.Tie as tie
 

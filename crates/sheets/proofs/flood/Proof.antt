@@ -7,7 +7,7 @@ use lib.ListN.{length, getD, length-set, length-replicate}
 use lib.Seq.{getD-set-same}
 use Rattle.model.specs.Table.{slots}
 use Rattle.model.specs.Meaning.Sheets.{half}
-use Rattle.model.proofs.Maps.Tables.{mapTable, live-below}
+use Rattle.theorems.proofs.Maps.Tables.{mapTable, live-below}
 use Rattle.sheets.specs.Found.{Spreading}
 use Rattle.sheets.proofs.Spreading.{falls, some-room, size-few, size-within, spreading-start, taken-dart, spreading-taken, found-few, begins-of, spreading-next}
 use Rattle.sheets.proofs.Layers.{spread-marks, found-size}

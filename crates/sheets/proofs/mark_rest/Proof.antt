@@ -9,7 +9,7 @@ use borrow.Author.Needs.{needs}
 use lib.ListN.{length, getD, length-set}
 use Rattle.model.specs.Table.{slots, link, live}
 use Rattle.model.specs.Cell.{cellSize}
-use Rattle.model.proofs.Maps.Tables.{live-below, rule-at}
+use Rattle.theorems.proofs.Maps.Tables.{live-below, rule-at}
 use Rattle.cells.proofs.Listing.{link-there}
 use Rattle.sheets.specs.Spread.{Rest}
 use Rattle.sheets.proofs.Marks.{marked-on, rest-none, rest-new, rest-old}

@@ -6,7 +6,7 @@ use borrow.Author.Needs.{needs}
 use borrow.Author.Tests.{eq-eqb, ne-eqb}
 use Rattle.model.specs.Map.{links-live, links-return, pairs-commute, stays-flat, isMap}
 use Rattle.model.specs.Checks.{Check, mapChecks}
-use Rattle.model.proofs.Calls.Checks.{map-keeps}
+use Rattle.theorems.proofs.Calls.Checks.{map-keeps}
 use Rattle.answers.specs.Openings.{openingChecks}
 use Rattle.answers.proofs.Ladder.{Rung, ground, up, out, all-passed}
 use Rattle.answers.proofs.Verdicts.{passes, refuses}

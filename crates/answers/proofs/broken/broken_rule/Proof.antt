@@ -3,8 +3,8 @@ use mathlib.Core.List.{List}
 use borrow.Author.Needs.{needs}
 use Rattle.model.specs.Map.{links-live, links-return, pairs-commute}
 use Rattle.model.specs.Checks.{Check, ruleNumber, mapChecks}
-use Rattle.model.proofs.Calls.Pass.{dim-pass}
-use Rattle.model.proofs.Calls.Rules.{last-refused}
+use Rattle.theorems.proofs.Calls.Pass.{dim-pass}
+use Rattle.theorems.proofs.Calls.Rules.{last-refused}
 use Rattle.answers.proofs.Ladder.{Rung, ground, up, out}
 use Rattle.answers.proofs.Verdicts.{rule-passes, rule-refuses}
 use Rattle.answers.proofs.Settled.{settles-refusal}

@@ -6,7 +6,7 @@ use borrow.Author.Needs.{needs}
 use borrow.Author.Tests.{not-true, not-false}
 use Rattle.model.specs.Table.{slots, link}
 use Rattle.model.specs.Remove.{cellMark, marked, outside}
-use Rattle.model.proofs.Operations.Frame.{outside-stops}
+use Rattle.theorems.proofs.Operations.Frame.{outside-stops}
 use Rattle.call_remove.proofs.Hops.{hops, Ends, Nearer, hop-nearer, walk-out}
 use Rattle.call_remove.proofs.walk.first_outside.Statement.{statement}
 use Rattle.call_remove.proofs.walk.first_outside.Tie as tie

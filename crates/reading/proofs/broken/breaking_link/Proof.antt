@@ -5,7 +5,7 @@ use mathlib.Core.Bool.{false, not}
 use native.Mathlib.Omega.{arith}
 use borrow.Author.Count.{below-none, below-more}
 use Rattle.model.specs.Map.{keepsAt, breakingLink}
-use Rattle.model.proofs.Lists.Scan.{searched}
+use Rattle.theorems.proofs.Lists.Scan.{searched}
 use Rattle.reading.specs.RuleOf.{ruleOf}
 use Rattle.reading.proofs.broken.breaking_link.Statement.{statement}
 use Rattle.reading.proofs.broken.breaking_link.Tie as tie

@@ -7,9 +7,9 @@ use borrow.Author.Count.{below-more}
 use borrow.Author.Tests.{not-true, not-false}
 use Rattle.model.specs.Lists.{allBelow}
 use Rattle.model.specs.Map.{crossed}
-use Rattle.model.proofs.Lists.Scan.{test, clash, below-at, below-of}
-use Rattle.model.proofs.Maps.Rules.{crossed-near}
-use Rattle.model.proofs.Calls.Pass.{dim-pass}
+use Rattle.theorems.proofs.Lists.Scan.{test, clash, below-at, below-of}
+use Rattle.theorems.proofs.Maps.Rules.{crossed-near}
+use Rattle.theorems.proofs.Calls.Pass.{dim-pass}
 use Rattle.reading.proofs.broken.pairs_commute.Statement.{statement}
 use Rattle.reading.proofs.broken.pairs_commute.Tie as tie
 

@@ -1,0 +1,160 @@
+-- Counts are sizes. Of sew, unsew, undo and redo: the entries that changed, one at least (`sew-count`, ..). Of orbit and
+-- sheet: the darts of the set. Of add, remove and split: the darts of the new cell, of the removed cells, the new darts.
+-- `op-changes-some`: an accepted operation changes an entry.
+use Prim.Native.Nat.{ℕ, zero, suc, _+_, _*_, _<_}
+use mathlib.Core.Path.{_≡_, refl, sym, ap, _∙_}
+use mathlib.Core.Bool.{Bool, true, false, not, _&&_}
+use mathlib.Core.List.{List}
+use native.Mathlib.Omega.{arith}
+use lib.ListN.{length, getD, drop}
+use lib.Dec.{eqb, leb}
+use borrow.Author.Tests.{eqb-false, not-true}
+use Rattle.model.specs.Lists.{count}
+use Rattle.model.specs.Cell.{cellSize, isBlock}
+use Rattle.model.specs.Orbit.{orbit}
+use Rattle.model.specs.Sheet.{sheet}
+use Rattle.model.specs.Remove.{countMarked}
+use Rattle.model.specs.Journal.{end, changesFrom, recordLength, changesAt, readChanges, put, sound, unbroken}
+use Rattle.model.specs.Checks.{stepChecks, undoOk, redoOk}
+use Rattle.model.specs.Calls.{Outcome}
+use Rattle.model.specs.Runs.{Op, Call, doCall, effect}
+use Rattle.model.specs.Meaning.Ends.{Passed, done, CountsChanges, checksOf, doneOf}
+use Rattle.theorems.proofs.Lists.Scan.{and-l, and-r}
+use Rattle.theorems.proofs.Sets.Sizes.{length-ones}
+use Rattle.theorems.proofs.Calls.Checks.{passed-at, passed-append}
+use Rattle.theorems.proofs.Calls.Pass.{step-pass}
+use Rattle.theorems.proofs.Calls.Ends.{call-passed, call-done, op-accepted}
+use Rattle.theorems.proofs.History.Record.{changes-some}
+use Rattle.theorems.proofs.History.Sound.{sound-changes}
+use Rattle.theorems.proofs.History.Ops.{effect-length, op-changes}
+
+-- ---- operations
+
+pub effect-changes-some : (n : ℕ) (t m j : List ℕ) (p : Op) → Passed n t m j p → 0 < length (changesFrom 0 t (effect n t p))
+effect-changes-some n t m j p passed = changes-some t (effect n t p) (sym (effect-length n t p)) (op-changes n t m j p passed)
+
+module _ (n : ℕ) (o : Outcome) where
+  pub op-changes-some : (tag : ℕ) (p : Op) → doCall n o (Call.op tag p) .number ≡ 0
+      → 0 < length (changesFrom 0 (o .table) (doCall n o (Call.op tag p) .table))
+  op-changes-some tag p h =
+      let r = op-accepted n o tag p h in
+      rw (r .table) (effect-changes-some n (o .table) (o .marks) (o .journal) p (r .passed))
+
+  abbrev Counted : Call → Type 0
+  Counted c = doCall n o c .number ≡ 0 → CountsChanges (o .table) (doCall n o c .table) (doCall n o c .count)
+
+  op-counted : (tag : ℕ) (p : Op)
+      → done n o (Call.op tag p) .count ≡ length (changesFrom 0 (o .table) (done n o (Call.op tag p) .table))
+      → Counted (Call.op tag p)
+  op-counted tag p e h =
+      let is = call-done n o (Call.op tag p) h in
+      let changes : Outcome → ℕ = λ r. length (changesFrom 0 (o .table) (r .table)) in
+      let size = ap (λ (r : Outcome). r .count) is ∙ e ∙ sym (ap changes is) in
+      record { size = size; some = rw size (op-changes-some tag p h) }
+
+  pub sew-count : (tag i d e : ℕ) → Counted (Call.op tag (Op.sew i d e))
+  unfolding doneOf
+  sew-count tag i d e = op-counted tag (Op.sew i d e) refl
+
+  pub unsew-count : (tag i d : ℕ) → Counted (Call.op tag (Op.unsew i d))
+  unfolding doneOf
+  unsew-count tag i d = op-counted tag (Op.unsew i d) refl
+
+-- ---- undo and redo
+
+length-read : (k : ℕ) (ws : List ℕ) → length (readChanges k ws) ≡ k
+unfolding readChanges
+length-read zero ws = refl
+length-read (suc k) ws = ap suc (length-read k (drop 3 ws))
+
+-- an unbroken record has a change, and its changes are sound
+module _ (redo : Bool) (t j : List ℕ) (a k : ℕ) (whole : unbroken redo t j a k ≡ true) where
+  abbrev some-change : Bool
+  some-change = not (eqb k 0)
+
+  abbrev behind-2 : Bool
+  behind-2 = leb 2 a
+
+  abbrev before-end : Bool
+  before-end = leb (a + recordLength k) (end j)
+
+  abbrev counts-agree : Bool
+  counts-agree = eqb (getD j a 0) (getD j (a + (3 * k + 2)) 0)
+
+  unbroken-sound : sound redo t 0 (changesAt j a k) ≡ true
+  unfolding unbroken
+  unbroken-sound = and-r (some-change && behind-2 && before-end && counts-agree) _ whole
+
+  unbroken-some : 0 < k
+  unfolding unbroken
+  unbroken-some =
+      let four = and-l (some-change && behind-2 && before-end && counts-agree) _ whole in
+      let three = and-l (some-change && behind-2 && before-end) _ four in
+      let two = and-l (some-change && behind-2) _ three in
+      let not-0 = eqb-false k 0 (not-true _ (and-l some-change behind-2 two)) in
+      omega arith
+
+  unbroken-counts : CountsChanges t (put redo (changesAt j a k) t) k
+  unfolding changesAt
+  unbroken-counts = record {
+    size = sym (sound-changes redo t (changesAt j a k) unbroken-sound ∙ length-read k _);
+    some = unbroken-some;
+  }
+
+module _ (n : ℕ) (o : Outcome) where
+  pub undo-count : Counted n o Call.undo
+  unfolding checksOf doneOf
+  undo-count h =
+      let q = passed-append (stepChecks n (o .table) (o .journal) (undoOk (o .journal))) _ (call-passed n o Call.undo h) in
+      let whole = step-pass false n (o .table) (o .journal) _ _ (passed-at _ (q .1) 0) .0 in
+      rw (call-done n o Call.undo h) (unbroken-counts false (o .table) (o .journal) _ _ whole)
+
+  pub redo-count : Counted n o Call.redo
+  unfolding checksOf doneOf
+  redo-count h =
+      let q = passed-append (stepChecks n (o .table) (o .journal) (redoOk (o .journal))) _ (call-passed n o Call.redo h) in
+      let whole = step-pass true n (o .table) (o .journal) _ _ (passed-at _ (q .1) 0) .0 in
+      rw (call-done n o Call.redo h) (unbroken-counts true (o .table) (o .journal) _ _ whole)
+
+-- ---- sets of darts
+
+module _ (n : ℕ) (o : Outcome) where
+  -- "count 1 for a map, 2 for a block map"
+  pub check-count : doCall n o Call.check .number ≡ 0
+      → (isBlock n (o .table) ≡ true → doCall n o Call.check .count ≡ 2)
+      × (isBlock n (o .table) ≡ false → doCall n o Call.check .count ≡ 1)
+  unfolding doneOf
+  check-count h =
+      let is = ap (λ (r : Outcome). r .count) (call-done n o Call.check h) in
+      (λ b. is ∙ rw b, λ b. is ∙ rw b)
+
+  -- "Count: darts reached"
+  pub orbit-count : (mask d : ℕ) → doCall n o (Call.orbit mask d) .number ≡ 0
+      → doCall n o (Call.orbit mask d) .count ≡ count 1 (orbit n (o .table) mask d)
+  unfolding doneOf
+  orbit-count mask d h = ap (λ (r : Outcome). r .count) (call-done n o (Call.orbit mask d) h)
+
+  -- "Count: size of S"
+  pub sheet-count : (d : ℕ) → doCall n o (Call.sheet d) .number ≡ 0
+      → doCall n o (Call.sheet d) .count ≡ count 1 (sheet n (o .table) d)
+  unfolding doneOf
+  sheet-count d h = ap (λ (r : Outcome). r .count) (call-done n o (Call.sheet d) h)
+
+  -- "Count: 8 or 48"
+  pub add-count : (tag : ℕ) → doCall n o (Call.op tag Op.add) .number ≡ 0 → doCall n o (Call.op tag Op.add) .count ≡ cellSize n
+  unfolding doneOf
+  add-count tag h = ap (λ (r : Outcome). r .count) (call-done n o (Call.op tag Op.add) h)
+
+  -- "Count: darts removed": those with marks 1 or 2
+  pub remove-count : (tag d : ℕ) → doCall n o (Call.op tag (Op.remove d)) .number ≡ 0
+      → doCall n o (Call.op tag (Op.remove d)) .count
+      ≡ count 1 (doCall n o (Call.op tag (Op.remove d)) .marks) + count 2 (doCall n o (Call.op tag (Op.remove d)) .marks)
+  unfolding doneOf countMarked
+  remove-count tag d h = rw (call-done n o (Call.op tag (Op.remove d)) h)
+
+  -- "Count: darts added": n for each dart of S
+  pub split-count : (tag d : ℕ) → doCall n o (Call.op tag (Op.split d)) .number ≡ 0
+      → doCall n o (Call.op tag (Op.split d)) .count ≡ n * count 1 (sheet n (o .table) d)
+  unfolding doneOf
+  split-count tag d h =
+      rw (call-done n o (Call.op tag (Op.split d)) h) (ap (λ (k : ℕ). n * k) (length-ones (sheet n (o .table) d) 0))

@@ -1,0 +1,1 @@
+// What follows from the definitions of the model: the theorems in proofs/, and no code.
