@@ -13,7 +13,7 @@ use Rattle.model.specs.Checks.{pass, dimOk, tableOk, marksOk, ruleOk}
 use Rattle.model.specs.Meaning.Maps.{MapTable}
 use Rattle.theorems.proofs.Maps.Tables.{live-below, rule-at}
 use Rattle.theorems.proofs.Calls.Pass.{must-pass, dim-pass, table-pass, RulesPass, rules-pass, map-pass}
-use Rattle.reading.specs.Lowest.{Told}
+use Rattle.reading.specs.Told.{Told}
 
 -- the checks of a map pass, before others
 pub rules-given : (n : ℕ) (t : List ℕ) {Others : Type 0}

@@ -16,7 +16,7 @@ pub fn opening_layer(n: u32, table: &[u32], marks: bool, journal: bool, d: u32) 
     if !reading::live(table, d) {
         return numbers::NOT_LIVE;
     }
-    let wrong = cells::least_wrong(n, table);
+    let wrong = block_test::least_wrong(n, table);
     if wrong != reading::slots(table) {
         return Answer {
             number: numbers::NO_BLOCK_MAP,

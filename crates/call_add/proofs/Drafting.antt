@@ -18,9 +18,9 @@ use Rattle.theorems.proofs.Maps.Rules.{dead-link}
 use Rattle.theorems.proofs.Cells.Rows.{row-goes}
 use Rattle.theorems.proofs.Operations.Slots.{rising-at}
 use Rattle.theorems.proofs.Operations.Added.{newAt, add-lowest, add-links, add-stays, add-length, add-changes}
-use Rattle.journal.specs.Records.{drafted}
-use Rattle.journal.specs.Passes.{Pass, FourLinks}
-use Rattle.journal.proofs.Passes.{pass-start, pass-over, pass-end}
+use Rattle.drafts.specs.Drafts.{drafted}
+use Rattle.drafts.specs.Passes.{Pass, FourLinks}
+use Rattle.drafts.proofs.Passes.{pass-start, pass-over, pass-end}
 use Rattle.call_add.specs.NewCell.{NewCell}
 
 module _ {n : ℕ} {t words : List ℕ} {size : ℕ} {j : List ℕ} (C : NewCell n t words size j) where

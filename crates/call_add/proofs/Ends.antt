@@ -20,9 +20,9 @@ use Rattle.model.specs.Meaning.Maps.{MapTable}
 use Rattle.model.specs.Meaning.Numbers.{JournalRule}
 use Rattle.theorems.proofs.Maps.Dim.{size-some}
 use Rattle.theorems.proofs.Operations.Added.{add-length, add-changes}
-use Rattle.reading.specs.Lowest.{Lists}
-use Rattle.journal.specs.Records.{drafted}
-use Rattle.journal.specs.Passes.{Room, Drafted}
+use Rattle.scans.specs.Lowest.{Lists}
+use Rattle.drafts.specs.Drafts.{drafted}
+use Rattle.drafts.specs.Passes.{Room, Drafted}
 use Rattle.answers.specs.Answers.{outcome, refusal}
 use Rattle.call_add.specs.NewCell.{NewCell}
 use Rattle.call_add.proofs.Drafting.{word-inside}

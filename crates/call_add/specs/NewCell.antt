@@ -7,7 +7,7 @@ use Rattle.model.specs.Cell.{cellSize}
 use Rattle.model.specs.Add.{addSlots, addTable}
 use Rattle.model.specs.Meaning.Maps.{MapTable}
 use Rattle.model.specs.Meaning.Numbers.{JournalRule}
-use Rattle.journal.specs.Passes.{Room}
+use Rattle.drafts.specs.Passes.{Room}
 
 -- t is a map, the first `size` words are the slots of the new cell, and its record has room in j
 pub record NewCell (n : ℕ) (t words : List ℕ) (size : ℕ) (j : List ℕ) : Type 0 where

@@ -13,7 +13,7 @@ ghost use Rattle.model.specs.Journal.{changesFrom};
 ghost use Rattle.model.specs.Add.{addTable};
 ghost use Rattle.model.specs.Calls.{addCall};
 ghost use Rattle.model.specs.Meaning.Maps.{Dim};
-ghost use Rattle.journal.specs.Records.{drafted};
+ghost use Rattle.drafts.specs.Drafts.{drafted};
 ghost use Rattle.answers.specs.Answers.{outcome};
 ghost use Rattle.call_add.specs.NewCell.{NewCell, SomeCell};
 
@@ -47,7 +47,7 @@ fn write_cell(n: u32, journal: &mut [u32], fresh: &[u16], size: u32)
             cell_slot(n, fresh, 2, k),
             cell_slot(n, fresh, 3, k),
         ];
-        journal::write_slot(journal, w, x, [UNUSED; 4], links);
+        drafts::write_slot(journal, w, x, [UNUSED; 4], links);
         w += 12;
     }
 }
@@ -63,7 +63,7 @@ pub fn add(n: u32, table: &mut [u32], journal: &mut [u32], tag: u32) -> Answer
     }
     let size = cell_size(n);
     let mut fresh = [0u16; 48];
-    if reading::list_unused(table, &mut fresh, size) != size {
+    if scans::list_unused(table, &mut fresh, size) != size {
         return numbers::TOO_FEW_SLOTS;
     }
     let changes = 4 * size;
@@ -71,7 +71,7 @@ pub fn add(n: u32, table: &mut [u32], journal: &mut [u32], tag: u32) -> Answer
         return numbers::NO_ROOM;
     }
     write_cell(n, journal, &fresh, size);
-    journal::carry_out(table, journal, changes, tag);
+    drafts::carry_out(table, journal, changes, tag);
     Answer {
         number: 0,
         place: fresh[0] as u32,

@@ -13,7 +13,7 @@ pub fn check(n: u32, table: &[u32]) -> Answer
     if opened.number != 0 {
         return opened;
     }
-    if cells::is_block(n, table) {
+    if block_test::is_block(n, table) {
         return Answer {
             number: 0,
             place: 0,

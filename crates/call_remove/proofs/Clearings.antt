@@ -17,12 +17,12 @@ use Rattle.theorems.proofs.Maps.Rules.{link-retable}
 use Rattle.theorems.proofs.Maps.Tables.{mapTable, live-below, rule-at}
 use Rattle.theorems.proofs.Layers.Marks.{marks-three, marks-cells, marks-outside, sheet-layer}
 use Rattle.theorems.proofs.Layers.Remove.{found-link, remove-removes}
-use Rattle.reading.specs.Clear.{Skips}
+use Rattle.scans.specs.Clear.{Skips}
 use Rattle.reading.specs.Four.{four}
 use Rattle.reading.proofs.Four.{four-at}
-use Rattle.journal.specs.Records.{drafted}
-use Rattle.journal.specs.Passes.{Pass, OneLink, FourLinks}
-use Rattle.journal.proofs.Passes.{pass-start, pass-stays, pass-over, pass-word, pass-length, pass-end}
+use Rattle.drafts.specs.Drafts.{drafted}
+use Rattle.drafts.specs.Passes.{Pass, OneLink, FourLinks}
+use Rattle.drafts.proofs.Passes.{pass-start, pass-stays, pass-over, pass-word, pass-length, pass-end}
 use Rattle.call_remove.specs.Removing.{OfSheet, Removing, Clearing}
 
 -- ---- a slot of the table, by its mark

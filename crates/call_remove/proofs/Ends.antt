@@ -11,8 +11,8 @@ use Rattle.model.specs.Remove.{countMarked, removed, removeTable}
 use Rattle.model.specs.Checks.{refuse, inOrder, layerChecks}
 use Rattle.model.specs.Calls.{refused, commit, removeCall}
 use Rattle.theorems.proofs.Layers.RemoveCounts.{remove-changes}
-use Rattle.journal.specs.Records.{drafted}
-use Rattle.journal.specs.Passes.{Room, Drafted}
+use Rattle.drafts.specs.Drafts.{drafted}
+use Rattle.drafts.specs.Passes.{Room, Drafted}
 use Rattle.answers.specs.Answers.{outcome, refusal}
 use Rattle.answers.proofs.Layered.{Sheeted, given}
 use Rattle.call_remove.specs.Removing.{OfSheet, Removing}

@@ -8,7 +8,7 @@ use Rattle.model.specs.Table.{slots}
 use Rattle.model.specs.Remove.{removed}
 use Rattle.model.specs.Meaning.Numbers.{JournalRule}
 use Rattle.model.specs.Meaning.Sheets.{BlockDart, marksOf}
-use Rattle.journal.specs.Passes.{Room, Pass}
+use Rattle.drafts.specs.Passes.{Room, Pass}
 
 -- m are the marks of the sheet of some dart of a block map
 pub record OfSheet (n : ℕ) (t m : List ℕ) : Type 0 where

@@ -6,8 +6,8 @@ use reading::LARGE;
 use reading::MIDDLE;
 use reading::SMALL;
 use reading::UNUSED;
-use reading::skip_blocks;
-use reading::skip_clear;
+use scans::skip_blocks;
+use scans::skip_clear;
 use walk::first_outside;
 ghost use mathlib.Core.Path.{_≡_};
 ghost use mathlib.Core.List.{List};
@@ -19,7 +19,7 @@ ghost use Rattle.model.specs.Journal.{changesFrom};
 ghost use Rattle.model.specs.Remove.{countMarked, removed};
 ghost use Rattle.model.specs.Checks.{pass, inOrder, layerChecks};
 ghost use Rattle.model.specs.Calls.{removeCall};
-ghost use Rattle.journal.specs.Records.{drafted};
+ghost use Rattle.drafts.specs.Drafts.{drafted};
 ghost use Rattle.answers.specs.Answers.{outcome};
 ghost use Rattle.call_remove.specs.Removing.{Removing, Clearing, ToClear};
 
@@ -60,10 +60,10 @@ fn write_marked(n: u32, table: &[u32], journal: &mut [u32], marks: &[u8], w: usi
 {
     if marks[x as usize] == 3 {
         let y = reading::link_in(table, n as usize, x);
-        journal::write_link(journal, w, x, n, y, first_outside(n, table, marks, x));
+        drafts::write_link(journal, w, x, n, y, first_outside(n, table, marks, x));
         return w + 3;
     }
-    journal::write_slot(journal, w, x, reading::links_in(table, x), [UNUSED; 4]);
+    drafts::write_slot(journal, w, x, reading::links_in(table, x), [UNUSED; 4]);
     w + 12
 }
 
@@ -105,7 +105,7 @@ fn remove_in(
         return numbers::NO_ROOM;
     }
     write_layer(n, table, journal, marks);
-    journal::carry_out(table, journal, changes, tag);
+    drafts::carry_out(table, journal, changes, tag);
     Answer {
         number: 0,
         place: 0,

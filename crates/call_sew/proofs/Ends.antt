@@ -1,6 +1,6 @@
 -- How sew ends: refused by a check (`sew-refused`; by 12, `sew-unpaired`), else by what is left of it, `commit` (`sew-goes`); and what
 -- it knows on the way: by which tests 9 and 10 go, what the walk of both sides asks (`sides-apart`), how many entries change
--- (`changes-number`), what the sides are joined by (`joining`), and what the record is drafted from (`sewn-turning`) and is
+-- (`changes-number`), what the sides are joined by (`joining`), and what the record is drafted from (`sewn-record`) and is
 -- (`sewn-drafted`).
 use Prim.Native.Nat.{ℕ, _+_, _*_, _≤_, _<_}
 use mathlib.Core.Path.{_≡_, sym, ap, _∙_}
@@ -26,10 +26,10 @@ use Rattle.theorems.proofs.Calls.Pass.{journal-pass, SidesPassed, left-side, ri
 use Rattle.theorems.proofs.Sewing.Side.{side-free}
 use Rattle.theorems.proofs.Sewing.Sew.{sew-relinked, sew-rest, sew-other}
 use Rattle.theorems.proofs.Sewing.Counts.{own-moved, other-moved, sew-changes}
-use Rattle.journal.specs.Records.{drafted}
-use Rattle.journal.specs.Passes.{Room, Drafted}
+use Rattle.drafts.specs.Drafts.{drafted}
+use Rattle.drafts.specs.Passes.{Room, Drafted}
 use Rattle.sides.specs.Turns.{Apart, Listing, InStep}
-use Rattle.sides.specs.Marked.{Freed, Turning}
+use Rattle.marked_links.specs.Marked.{Freed, MarkedRecord}
 use Rattle.answers.specs.Answers.{outcome, refusal}
 use Rattle.call_sew.specs.Joins.{Joining, Joined}
 
@@ -149,8 +149,8 @@ module _ {n : ℕ} {t : List ℕ} {i d e : ℕ} (passed : SidesPassed n t i d e)
         }
 
         module _ {j : List ℕ} (rule : JournalRule j) (room : Room t (sewTable n t i d e) j) where
-          pub sewn-turning : Turning true t′ t m′ i j
-          sewn-turning = rw (J .table) (record { freed = freed; rule = rule; room = room })
+          pub sewn-record : MarkedRecord true t′ t m′ i j
+          sewn-record = rw (J .table) (record { freed = freed; rule = rule; room = room })
 
           pub sewn-drafted : {w : List ℕ} → w ≡ drafted j (changesFrom 0 t t′) → Drafted t (sewTable n t i d e) j (2 * size) w
           sewn-drafted draft = record {

@@ -68,8 +68,8 @@ fn sew_in(
         return numbers::NO_ROOM;
     }
     join(table, marks, i, xs, ys, size);
-    sides::write_marked(table, journal, marks, i, true);
-    journal::close_record(journal, changes, tag);
+    marked_links::write_marked(table, journal, marks, i, true);
+    drafts::close_record(journal, changes, tag);
     Answer {
         number: 0,
         place: 0,

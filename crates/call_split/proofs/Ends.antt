@@ -23,22 +23,23 @@ use Rattle.model.specs.Meaning.Maps.{Dim, MapTable}
 use Rattle.model.specs.Meaning.Sets.{Marked}
 use Rattle.model.specs.Meaning.Splits.{Splits}
 use Rattle.theorems.proofs.Lists.Ones.{index-in, ones-in}
-use Rattle.theorems.proofs.Sets.Sizes.{length-ones}
+use Rattle.theorems.proofs.Sets.Sizes.{length-ones, ones-few}
 use Rattle.theorems.proofs.Maps.Dim.{two-cases}
 use Rattle.theorems.proofs.Maps.Tables.{mapTable, live-below, rule-at}
 use Rattle.theorems.proofs.Calls.Pass.{must-pass}
 use Rattle.theorems.proofs.Layers.Sheet.{sheet-own, sheet-live}
 use Rattle.theorems.proofs.Layers.Marks.{marks-one}
 use Rattle.theorems.proofs.Layers.Split.{split-changes, split-length}
-use Rattle.journal.specs.Records.{drafted}
-use Rattle.journal.specs.Passes.{Room, Drafted}
-use Rattle.journal.proofs.Commits.{fits-room}
+use Rattle.drafts.specs.Drafts.{drafted}
+use Rattle.drafts.specs.Passes.{Room, Drafted}
+use Rattle.drafts.proofs.Commits.{fits-room}
 use Rattle.answers.specs.Answers.{outcome, refusal}
 use Rattle.answers.proofs.Layered.{Layered, Sheeted, given, layer, marks-few}
-use Rattle.call_split.specs.Sheets.{LeadsIn, Placed}
+use Rattle.call_split.specs.Sheets.{LeadsIn}
+use Rattle.new_darts.specs.Placed.{Placed}
 use Rattle.call_split.specs.Slots.{SlotsFound}
-use Rattle.call_split.specs.Drafting.{Writing}
-use Rattle.call_split.proofs.Ones.{ones-few, marks-ones, marks-crosses}
+use Rattle.new_darts.specs.Drafting.{Writing}
+use Rattle.call_split.proofs.Ones.{marks-ones, marks-crosses}
 use Rattle.call_split.proofs.Room.{split-room}
 
 pub split-refused : (n : ℕ) (t m j : List ℕ) (tag d : ℕ) {k p q : ℕ} → inOrder (layerChecks n t m j d) ≡ refuse k p q

@@ -1,8 +1,3 @@
 pub mod Ones
 pub mod Room
-pub mod Roles
-pub mod Placing
-pub mod Fronts
-pub mod Lists
-pub mod Passing
 pub mod Ends

@@ -1,5 +1,4 @@
--- The marks of a sheet tell its darts: they have the same ones (`marks-ones`), which are no more than the slots (`ones-few`), and cross
--- themselves alike (`marks-crosses`).
+-- The marks of a sheet tell its darts: they have the same ones (`marks-ones`), and cross themselves alike (`marks-crosses`).
 use Prim.Native.Nat.{ℕ, suc, _≤_, _<_}
 use mathlib.Core.Path.{_≡_, refl, sym, ap, _∙_}
 use mathlib.Core.Logic.{_↔_}
@@ -16,14 +15,7 @@ use Rattle.model.specs.Meaning.Sheets.{BlockDart, marksOf}
 use Rattle.theorems.proofs.Lists.Scan.{test, clash}
 use Rattle.theorems.proofs.Layers.Sheet.{sheet-least, crosses-some}
 use Rattle.theorems.proofs.Layers.Marks.{marks-one, sheet-layer}
-use Rattle.reading.specs.Clear.{Skips}
-
-pub ones-few : (m : List ℕ) (a : ℕ) → length (onesFrom a m) ≤ length m
-unfolding onesFrom
-ones-few [] a = omega arith
-ones-few (x ∷ m) a =
-    let rec = ones-few m (suc a) in
-    test (eqb x 1) (λ e. rw (e, onesFrom) (omega arith)) (λ e. rw (e, onesFrom) (omega arith))
+use Rattle.scans.specs.Clear.{Skips}
 
 pub clear-unmarked : {m : List ℕ} {x y : ℕ} → Skips m x y → (k : ℕ) → x ≤ k → k < y → Marked m k → ⊥
 clear-unmarked S k low high m = let clear = S .clear k low high in omega arith

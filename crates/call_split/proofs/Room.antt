@@ -18,14 +18,13 @@ use Rattle.model.specs.Meaning.Splits.{Splits}
 use Rattle.theorems.proofs.Lists.Scan.{clash, length-tab, getD-tab, length-tabFrom, in-tab}
 use Rattle.theorems.proofs.Lists.Ones.{getD-in}
 use Rattle.theorems.proofs.Sets.Pigeon.{Distinct, more, distinct-le, distinct-tab}
-use Rattle.theorems.proofs.Sets.Sizes.{length-ones}
+use Rattle.theorems.proofs.Sets.Sizes.{length-ones, ones-few}
 use Rattle.theorems.proofs.Maps.Dim.{dim-cases}
 use Rattle.theorems.proofs.Maps.Tables.{mapTable, live-below, rule-at}
 use Rattle.theorems.proofs.Operations.Slots.{rising-at}
 use Rattle.theorems.proofs.Cells.Cell.{good-cell, cell-own}
 use Rattle.theorems.proofs.Layers.Splitting.{Splitting, splits-splitting}
 use Rattle.theorems.proofs.Layers.Split.{darts-rising}
-use Rattle.call_split.proofs.Ones.{ones-few}
 
 distinct-append : (k l : List ℕ) → Distinct k → Distinct l → ((x : ℕ) → In x k → In x l → ⊥) → Distinct (k ++ l)
 distinct-append [] l p q apart = q

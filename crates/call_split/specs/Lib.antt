@@ -1,4 +1,2 @@
 pub mod Sheets
 pub mod Slots
-pub mod News
-pub mod Drafting

@@ -1,5 +1,5 @@
 -- How unsew ends: refused by a check (`unsew-refused`), else by what is left of it, `commit` (`unsew-goes`); and what it knows on the way:
--- by which test 11 goes (`sewn-test`), that the table and the journal fit (`table-rule`, `journal-rule`), what the record is drafted from (`unsewn-turning`) and is (`unsewn-drafted`).
+-- by which test 11 goes (`sewn-test`), that the table and the journal fit (`table-rule`, `journal-rule`), what the record is drafted from (`unsewn-record`) and is (`unsewn-drafted`).
 use Prim.Native.Nat.{ℕ, _≤_}
 use mathlib.Core.Path.{_≡_, sym, ap}
 use mathlib.Core.Bool.{Bool, false, not}
@@ -15,9 +15,9 @@ use Rattle.model.specs.Meaning.Sets.{Marked}
 use Rattle.model.specs.Meaning.Numbers.{JournalRule}
 use Rattle.theorems.proofs.Calls.Checks.{passed-at}
 use Rattle.theorems.proofs.Calls.Pass.{journal-pass, UnsewPassed, unsew-side}
-use Rattle.journal.specs.Records.{drafted}
-use Rattle.journal.specs.Passes.{Room, Drafted}
-use Rattle.sides.specs.Marked.{Turning}
+use Rattle.drafts.specs.Drafts.{drafted}
+use Rattle.drafts.specs.Passes.{Room, Drafted}
+use Rattle.marked_links.specs.Marked.{MarkedRecord}
 use Rattle.answers.specs.Answers.{outcome, refusal}
 use Rattle.call_unsew.specs.Marking.{Marking, Unsewn}
 use Rattle.call_unsew.proofs.Freeing.{unsewn-freed, unsewn-number}
@@ -54,8 +54,8 @@ module _ {n : ℕ} {t : List ℕ} {i d : ℕ} (passed : UnsewPassed n t i d) {m�
     changes-number = unsewn-number (unsew-side passed) (passed .sewn) clear wide M
 
     module _ {j : List ℕ} (rule : JournalRule j) (room : Room t (unsewTable n t i d) j) where
-      pub unsewn-turning : Turning false t (unsewTable n t i d) m i j
-      unsewn-turning = record { freed = unsewn-freed (unsew-side passed) (passed .sewn) clear wide M; rule = rule; room = room }
+      pub unsewn-record : MarkedRecord false t (unsewTable n t i d) m i j
+      unsewn-record = record { freed = unsewn-freed (unsew-side passed) (passed .sewn) clear wide M; rule = rule; room = room }
 
       pub unsewn-drafted : {w : List ℕ} → w ≡ drafted j (changesFrom 0 t (unsewTable n t i d))
           → Drafted t (unsewTable n t i d) j r w

@@ -24,7 +24,7 @@ use Rattle.theorems.proofs.Operations.Relink.{relinked-long}
 use Rattle.theorems.proofs.Operations.Changes.{changedLinks, changes-size, changed-one, changed-none}
 use Rattle.theorems.proofs.Sewing.Side.{live-before, side-live, side-comes, side-free-back}
 use Rattle.theorems.proofs.Sewing.Unsew.{unsew-relinked, unsew-free, unsew-partner, unsew-rest, unsew-other}
-use Rattle.sides.specs.Marked.{Freed}
+use Rattle.marked_links.specs.Marked.{Freed}
 use Rattle.call_unsew.specs.Marking.{Marking, Unsewn}
 
 -- ---- one change for each marked dart

@@ -83,8 +83,8 @@ fn unsew_in(
     if !journal::record_fits(journal, changes) {
         return numbers::NO_ROOM;
     }
-    sides::write_marked(table, journal, marks, i, false);
-    journal::carry_out(table, journal, changes, tag);
+    marked_links::write_marked(table, journal, marks, i, false);
+    drafts::carry_out(table, journal, changes, tag);
     Answer {
         number: 0,
         place: 0,

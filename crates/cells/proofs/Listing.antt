@@ -20,8 +20,7 @@ use Rattle.theorems.proofs.Cells.Rows.{row-goes}
 use Rattle.theorems.proofs.Cells.Cell.{cell-live, place-in}
 use Rattle.numbering.specs.Orders.{orders, nextOrder, nextVertex, placeOf}
 use Rattle.numbering.proofs.Orders.{order-low, vertex-low, place-low, next-place}
-use Rattle.cells.specs.Listing.{places, start, Listing, stepped, walked, around, spread}
-use Rattle.cells.specs.Good.{MapDart}
+use Rattle.cells.specs.Listing.{MapDart, places, start, Listing, stepped, walked, around, spread}
 
 -- ---- the darts of a cell by their places
 

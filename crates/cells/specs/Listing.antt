@@ -21,6 +21,11 @@ places n t d = tabulate (cellSize n) (place n t d)
 unfoldable pub start : ℕ → ℕ → List ℕ
 start n d = replicate (cellSize n) d
 
+-- d is a live slot of a map
+pub record MapDart (n : ℕ) (t : List ℕ) (d : ℕ) : Type 0 where
+  pub table : MapTable n t
+  pub lives : live t d ≡ true
+
 -- a live slot of a map at each place
 pub record Listing (n : ℕ) (t cell : List ℕ) : Type 0 where
   pub table : MapTable n t

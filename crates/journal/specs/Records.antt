@@ -1,18 +1,11 @@
--- What the contracts say beyond the model: a record of which the triples stand already (`drafted`), the triple at a word
--- (`changeAt`), the value that a change puts (`valuePut`), changes whose entries lie in a table (`within`), and the changes below an
--- entry (`changesBelow`).
-use Prim.Native.Nat.{ℕ, suc, _+_, _*_}
+-- What the contracts say beyond the model: the triple at a word (`changeAt`), the value that a change puts (`valuePut`), and changes
+-- whose entries lie in a table (`within`).
+use Prim.Native.Nat.{ℕ, _+_}
 use mathlib.Core.Bool.{Bool, true, false, _&&_}
-use mathlib.Core.List.{List, [], _∷_, _++_}
-use lib.ListN.{length, getD, take, drop}
+use mathlib.Core.List.{List, [], _∷_}
+use lib.ListN.{getD}
 use lib.Dec.{ltb}
-use Rattle.model.specs.Journal.{Change, cursor, changesFrom, triples}
-
--- the journal j in which the triples of cs stand where a record at the cursor has them; all else as in j
-unfoldable pub drafted : List ℕ → List Change → List ℕ
-drafted j cs =
-    let a = suc (suc (cursor j)) in
-    take a j ++ triples cs ++ drop (a + 3 * length cs) j
+use Rattle.model.specs.Journal.{Change}
 
 -- the triple at the word w
 unfoldable pub changeAt : List ℕ → ℕ → Change
@@ -27,7 +20,3 @@ valuePut false c = c .old
 unfoldable pub within : ℕ → List Change → Bool
 within n [] = true
 within n (c ∷ cs) = ltb (c .entry) n && within n cs
-
--- of the changes from t to u those at the entries below e
-unfoldable pub changesBelow : ℕ → List ℕ → List ℕ → List Change
-changesBelow e t u = changesFrom 0 (take e t) (take e u)

@@ -1,12 +1,14 @@
 -- The small maps that document 01 has worked, 1 to 14, and some of 02's requests: each fact of them, as one table with one
--- statement. 3 to 5 have the figures of R-11. Where nothing is said of tags they are 0.
+-- statement. 3 to 5 have the figures of R-11. Where nothing is said of tags they are 0. 1204 is our own: a side of two darts unsewn.
 -- The lengths of case 14, too long to compute with, follow from the check.
 use Prim.Native.Nat.{ℕ, _+_, _*_}
 use mathlib.Core.Path.{_≡_, refl}
 use mathlib.Core.List.{List, [], _∷_, _++_}
 use lib.ListN.{length, set, replicate}
-use Rattle.model.specs.Table.{unused}
+use Rattle.model.specs.Table.{unused, link}
 use Rattle.model.specs.Add.{addTable}
+use Rattle.model.specs.Remove.{removeTable}
+use Rattle.model.specs.Split.{splitTable}
 use Rattle.model.specs.Checks.{pass, refuse, tableOk, must}
 use Rattle.model.specs.Runs.{Op, Call, doCall, keeping}
 use Rattle.model.specs.Everything.{everything}
@@ -108,8 +110,7 @@ cases =
     ∷ row 1201 2 8 200 quad (Call.op 0 (Op.unsew 0 0)) (gives 0 0 2 ∷ changes 2 ∷ [])
     ∷ row 1202 2 8 200 unlinked (Call.op 0 (Op.sew 2 0 5)) (gives 12 0 0 ∷ [])
     ∷ row 1203 2 8 200 unlinked (Call.sheet 0) (gives 8 0 0 ∷ [])
-    ∷ row 1301 3 96 2000 quad (Call.sheet 0) (gives 0 0 16 ∷ marksAre (replicate 16 1 ++ replicate 32 2 ++ replicate 48 0) ∷ [])
-    ∷ row 1302 3 96 2000 quad (Call.op 0 (Op.split 0)) (gives 0 48 48 ∷ changes 208 ∷ [])
+    ∷ row 1204 2 24 600 three (Call.op 0 (Op.unsew 2 5)) (gives 0 0 4 ∷ goes 7 2 7 ∷ goes 14 2 14 ∷ [])
     ∷ row 1401 2 8 2 [] Call.undo (gives 16 0 0 ∷ [])
     ∷ row 1402 2 24 600 three (Call.orbit 6 5) (gives 0 1 4 ∷ [])
     ∷ row 1403 2 0 2 [] Call.check (gives 0 0 2 ∷ [])
@@ -119,14 +120,9 @@ cases =
     ∷ rowOn 10304 2 (damaged 4 3 6 (damaged 6 3 4 quadTable)) 200 Call.check (gives 26 4 3 ∷ [])
     ∷ rowOn 10305 2 (damaged 4 3 6 (damaged 6 3 4 quadTable)) 200 (Call.op 0 (Op.unsew 1 0))
     (gives 26 4 3 ∷ changes 0 ∷ cursorIs 2 ∷ [])
-    ∷ rowOn 10306 3 (damaged 31 1 48 hexahedronTable) 200 Call.check (gives 5 31 1 ∷ [])
-    ∷ rowOn 10307 3 (damaged 31 1 31 hexahedronTable) 200 Call.check (gives 24 47 1 ∷ [])
-    ∷ rowOn 10308 3 (damaged 47 3 0 hexahedronTable) 200 Call.check (gives 25 31 1 ∷ [])
     ∷ row 10401 2 8 200 bent Call.check (gives 0 0 2 ∷ [])
     ∷ rowOn 10402 2 foldedEdge 200 Call.check (gives 0 0 1 ∷ [])
     ∷ rowOn 10403 2 foldedEdge 200 (Call.sheet 5) (gives 8 0 0 ∷ marksAre (replicate 8 0) ∷ [])
-    ∷ row 10404 3 48 2000 foldedFace Call.check (gives 0 0 1 ∷ goes 0 3 3 ∷ [])
-    ∷ row 10405 3 48 2000 foldedFace (Call.sheet 47) (gives 8 0 0 ∷ [])
     ∷ row 11001 2 24 600 three (Call.sheet 8) (gives 0 0 4 ∷ marksAre middle ∷ [])
     ∷ row 11002 2 24 600 three (Call.op 0 (Op.remove 8)) (gives 0 0 8 ∷ marksAre middle ∷ changes 36 ∷ [])
     ∷ row 11003 2 24 600 three (Call.op 0 (Op.split 8)) (gives 14 0 0 ∷ marksAre middle ∷ changes 0 ∷ [])
@@ -137,6 +133,14 @@ cases =
     ∷ row 11104 2 16 212 (named ++ (Call.undo ∷ Call.undo ∷ [])) Call.redo (gives 0 7 32 ∷ cursorIs 101 ∷ liveAre 8 ∷ [])
     ∷ row 11105 2 16 212 (named ++ (Call.undo ∷ [])) Call.redo (gives 0 4294967295 36 ∷ cursorIs 212 ∷ liveAre 16 ∷ [])
     ∷ row 11106 2 16 212 named Call.redo (gives 16 0 0 ∷ cursorIs 212 ∷ [])
+    -- those in 3D stand last: they take the longest to compute
+    ∷ row 1301 3 96 2000 quad (Call.sheet 0) (gives 0 0 16 ∷ marksAre (replicate 16 1 ++ replicate 32 2 ++ replicate 48 0) ∷ [])
+    ∷ row 1302 3 96 2000 quad (Call.op 0 (Op.split 0)) (gives 0 48 48 ∷ changes 208 ∷ [])
+    ∷ rowOn 10306 3 (damaged 31 1 48 hexahedronTable) 200 Call.check (gives 5 31 1 ∷ [])
+    ∷ rowOn 10307 3 (damaged 31 1 31 hexahedronTable) 200 Call.check (gives 24 47 1 ∷ [])
+    ∷ rowOn 10308 3 (damaged 47 3 0 hexahedronTable) 200 Call.check (gives 25 31 1 ∷ [])
+    ∷ row 10404 3 48 2000 foldedFace Call.check (gives 0 0 1 ∷ goes 0 3 3 ∷ [])
+    ∷ row 10405 3 48 2000 foldedFace (Call.sheet 47) (gives 8 0 0 ∷ [])
     ∷ []
 
 pub all-hold : failing cases ≡ []
@@ -151,3 +155,16 @@ longest-passes t long = rw long
 pub longer-refused : (t : List ℕ) → length t ≡ 262148 → tableOk t ≡ refuse 2 0 0
 unfolding tableOk must
 longer-refused t long = rw long
+
+-- our own, in 3D: the two hexahedra that split makes of one; and where the first is removed, the other's side there is free, as the
+-- walk goes on from a free side and comes back
+pub twoHexahedra : List ℕ
+twoHexahedra = splitTable 3 (addTable 3 (replicate 384 unused)) 0
+
+pub solid-split : (link twoHexahedra 0 48 ≡ 0) × (link twoHexahedra 2 49 ≡ 50) × (link twoHexahedra 3 50 ≡ 53)
+unfolding everything twoHexahedra
+solid-split = (refl, refl, refl)
+
+pub solid-remove : link (removeTable 3 twoHexahedra 0) 3 53 ≡ 53
+unfolding everything twoHexahedra
+solid-remove = refl

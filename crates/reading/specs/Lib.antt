@@ -1,6 +1,5 @@
 pub mod Sized
+pub mod Told
 pub mod Near
 pub mod RuleOf
-pub mod Lowest
 pub mod Four
-pub mod Clear

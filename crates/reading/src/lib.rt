@@ -1,23 +1,19 @@
 // Reading the table: links, live and unused slots, the rules of a map, which of them a slot breaks, and the checks 1, 2 and 4.
 pub use broken::Rule;
 pub use broken::breaking_link;
-pub use marks::skip_blocks;
-pub use marks::skip_clear;
 
 mod broken;
-mod marks;
 
 ghost use mathlib.Core.Path.{_≡_};
 ghost use mathlib.Core.List.{[], _∷_};
-ghost use Prim.Native.Nat.{_+_, _*_, _<_, _≤_, min};
-ghost use lib.ListN.{length, take};
+ghost use Prim.Native.Nat.{_+_, _*_, _<_, _≤_};
+ghost use lib.ListN.{length};
 ghost use lib.Dec.{eqb};
-ghost use Rattle.model.specs.Table.{slots, link, live, walk, unusedSlots};
+ghost use Rattle.model.specs.Table.{slots, link, live, walk};
 ghost use Rattle.model.specs.Map.{crossed, keepsRules, breaksRule, leastBreaking, isMap};
 ghost use Rattle.model.specs.Checks.{must, pass, dimOk, tableOk, journalOk};
 ghost use Rattle.reading.specs.Sized.{Sized};
 ghost use Rattle.reading.specs.Four.{four};
-ghost use Rattle.reading.specs.Lowest.{Lists, Entered, Told};
 ghost use Rattle.reading.specs.Near.{turned, nearRules, keepsNear, Row, Below};
 
 // The entry of an unused slot.
@@ -246,33 +242,4 @@ pub fn least_breaking(n: u32, table: &[u32]) -> u32
         return slots(table);
     }
     first_breaking(n, table)
-}
-
-// Where x is listed, it becomes the word r; how many are listed then.
-fn enter(words: &mut [u16], r: u32, x: u32, listed: bool) -> u32
-    requires { ⌜ (r < length (now words)) × (r < 65536) × (x < 65536) ⌝ }
-    ensures { λ s. ⌜ Entered listed r x s (now (words .entry)) (now (words .exit)) ⌝ }
-{
-    if listed {
-        words[r as usize] = x as u16;
-        r + 1
-    } else {
-        r
-    }
-}
-
-// Lists the lowest unused slots of a map, rising, at most `want` of them; how many they are.
-pub fn list_unused(table: &[u32], words: &mut [u16], want: u32) -> u32
-    requires { ⌜ (tableOk (now table) ≡ pass) × (Told (now table)) ⌝ }
-    requires { ⌜ min want (slots (now table)) ≤ length (now words) ⌝ }
-    ensures { λ r. ⌜ Lists (take want (unusedSlots (now (table .entry)))) r (now (words .entry)) (now (words .exit)) ⌝ }
-{
-    let end = slots(table);
-    let mut r: u32 = 0;
-    let mut x: u32 = 0;
-    while (x < end) & (r < want) {
-        r = enter(words, r, x, link_in(table, 0, x) == UNUSED);
-        x += 1;
-    }
-    r
 }

@@ -26,8 +26,7 @@ use Rattle.theorems.proofs.Cells.Chart.{place-chart, place-one, place-live}
 use Rattle.theorems.proofs.Layers.Walk.{link-live, link-back}
 use Rattle.theorems.proofs.Layers.Sheet.{sheet-own, sheet-live, sheet-of}
 use Rattle.theorems.proofs.Layers.Half.{in-half}
-use Rattle.cells.specs.Listing.{places}
-use Rattle.cells.specs.Good.{MapDart}
+use Rattle.cells.specs.Listing.{MapDart, places}
 use Rattle.cells.proofs.Listing.{places-length, places-at, places-listing}
 use Rattle.sheets.specs.Spread.{sides, sideStart, ListedBelow, Fresh, Firsts, Inner, over, Ready, Spread, Begins}
 use Rattle.sheets.specs.Found.{Awaits, Spreading}

@@ -8,4 +8,3 @@ pub mod Going
 pub mod Mirrors
 pub mod SidePairs
 pub mod SideLists
-pub mod MarkedPass

@@ -11,7 +11,7 @@ use Rattle.model.specs.Meaning.Maps.{MapTable}
 use Rattle.model.specs.Meaning.Numbers.{JournalRule}
 use Rattle.theorems.proofs.Calls.Pass.{journal-pass, table-of}
 use Rattle.numbering.proofs.Orders.{size-few}
-use Rattle.journal.proofs.Commits.{fits-room}
+use Rattle.drafts.proofs.Commits.{fits-room}
 use Rattle.answers.proofs.Ladder.{Rung, up, out, all-passed}
 use Rattle.answers.proofs.Verdicts.{equal-passes, equal-refuses}
 use Rattle.answers.proofs.Settled.{Opening, opened, handed-on}

@@ -5,7 +5,7 @@ use mathlib.Core.List.{List}
 use native.Mathlib.Omega.{arith}
 use borrow.Author.Needs.{needs}
 use Rattle.model.specs.Journal.{cursor}
-use Rattle.journal.proofs.Passes.{pass-length, pass-word}
+use Rattle.drafts.proofs.Passes.{pass-length, pass-word}
 use Rattle.call_add.specs.NewCell.{NewCell}
 use Rattle.call_add.proofs.Drafting.{word-inside, new-links, Drafting, drafting-none, drafting-at, drafting-more, drafting-all}
 use Rattle.call_add.proofs.write_cell.Statement.{statement}

@@ -1,4 +1,4 @@
--- `call_check::check` meets its contract: its opening, and behind it `cells::is_block`.
+-- `call_check::check` meets its contract: its opening, and behind it `block_test::is_block`.
 use mathlib.Core.Path.{sym, _∙_}
 use mathlib.Core.List.{List}
 use borrow.Author.Needs.{needs}

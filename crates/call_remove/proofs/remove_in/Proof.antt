@@ -8,7 +8,7 @@ use borrow.Author.Needs.{needs}
 use borrow.Author.Tests.{not-true, not-false}
 use Rattle.model.specs.Journal.{changesFrom}
 use Rattle.model.specs.Remove.{removed}
-use Rattle.journal.proofs.Commits.{fits-room}
+use Rattle.drafts.proofs.Commits.{fits-room}
 use Rattle.answers.proofs.Layered.{Sheeted, layered, given, marks-long, marks-few, marks-low}
 use Rattle.answers.proofs.Commits.{commit-full, commit-done}
 use Rattle.call_remove.specs.Removing.{Removing}

@@ -9,14 +9,14 @@ use mathlib.Core.Bool.{true}
 use Rattle.model.specs.Sew.{sewTable}
 use Rattle.model.specs.Meaning.Numbers.{JournalRule}
 use Rattle.theorems.proofs.Calls.Pass.{SidesPassed, sides-passed}
-use Rattle.journal.specs.Passes.{Room, Drafted}
-use Rattle.journal.proofs.Commits.{fits-room}
-use Rattle.journal.proofs.Carrying.{draft-closes}
+use Rattle.drafts.specs.Passes.{Room, Drafted}
+use Rattle.drafts.proofs.Commits.{fits-room}
+use Rattle.drafts.proofs.Carrying.{draft-closes}
 use Rattle.answers.proofs.Commits.{commit-full, commit-done}
-use Rattle.sides.specs.Marked.{Turning}
+use Rattle.marked_links.specs.Marked.{MarkedRecord}
 use Rattle.call_sew.specs.Joins.{Joining, Joined}
 use Rattle.call_sew.proofs.Ends.{sew-unpaired, sew-goes, journal-rule, sides-apart, size-few, step-paired, changes-number}
-use Rattle.call_sew.proofs.Ends.{joining, sewn-turning, sewn-drafted}
+use Rattle.call_sew.proofs.Ends.{joining, sewn-record, sewn-drafted}
 use Rattle.call_sew.proofs.sew_in.Statement.{statement}
 use Rattle.call_sew.proofs.sew_in.Tie as tie
 
@@ -78,14 +78,14 @@ sewn : (c : tie.After-join) →
     Joined (a .n) (a .table .now) (a .i) (a .d) (a .e) (c .join .last .0) (c .join .last .1 .0)
 sewn c = c .join .ensures _ _ _ (joins (fitting c))
 
-turning : (c : tie.After-join) →
+recorded : (c : tie.After-join) →
     let a = start (stepped (paired (fitting c) .before)) .args in
-    Turning true (c .join .last .0) (a .table .now) (c .join .last .1 .0) (a .i) (a .journal .now)
-turning c =
+    MarkedRecord true (c .join .last .0) (a .table .now) (c .join .last .1 .0) (a .i) (a .journal .now)
+recorded c =
     let f = fitting c in
     let p = paired f in
     let s = stepped (p .before) in
-    sewn-turning (passed (start s)) (s .in-step .ensures) (p .if1 .left) (sewn c) (rule (start s)) (room f)
+    sewn-record (passed (start s)) (s .in-step .ensures) (p .if1 .left) (sewn c) (rule (start s)) (room f)
 
 drafts : (c : tie.After-write-marked) →
     let s = stepped (paired (fitting (joined c)) .before) in
@@ -98,7 +98,7 @@ drafts c =
     let p = paired f in
     let s = stepped (p .before) in
     sewn-drafted (passed (start s)) (s .in-step .ensures) (p .if1 .left) (sewn j) (rule (start s)) (room f)
-    (c .write-marked .ensures _ (turning j))
+    (c .write-marked .ensures _ (recorded j))
 
 -- ---- the needs
 
@@ -159,7 +159,7 @@ join-requires : tie.Need-join-requires
 join-requires c κs = record { n = _; d = _; e = _; is = joins (c .before .before .before .before) }
 
 write-marked-requires : tie.Need-write-marked-requires
-write-marked-requires c κs = record { v = _; is = turning (c .before .before .before .before .before .before .before) }
+write-marked-requires c κs = record { v = _; is = recorded (c .before .before .before .before .before .before .before) }
 
 close-record-requires : tie.Need-close-record-requires
 close-record-requires c κs = draft-closes (drafts (c .before .before .before))

@@ -9,7 +9,7 @@ use borrow.Author.Needs.{needs}
 use borrow.Author.Tests.{eqb-true, eqb-false}
 use Rattle.model.specs.Table.{slots, unusedSlots}
 use Rattle.theorems.proofs.Lists.Scan.{clash}
-use Rattle.reading.specs.Lowest.{Lists}
+use Rattle.scans.specs.Lowest.{Lists}
 use Rattle.call_split.specs.Slots.{SlotsFound}
 use Rattle.call_split.proofs.find_slots.Statement.{statement}
 use Rattle.call_split.proofs.find_slots.Tie as tie

@@ -9,11 +9,11 @@ use borrow.Author.Tests.{not-true, not-false}
 use Rattle.model.specs.Table.{slots}
 use Rattle.model.specs.Split.{splitTable}
 use Rattle.theorems.proofs.Maps.Tables.{mapTable}
-use Rattle.journal.specs.Passes.{Drafted}
+use Rattle.drafts.specs.Passes.{Drafted}
 use Rattle.answers.proofs.Given.{told-given}
 use Rattle.answers.proofs.Commits.{commit-full, commit-done}
 use Rattle.answers.proofs.Layered.{Sheeted, layered, given, layer}
-use Rattle.call_split.specs.Drafting.{Writing}
+use Rattle.new_darts.specs.Drafting.{Writing}
 use Rattle.call_split.proofs.Ends.{marks-long, leads-in, new-few, changes-few, split-crosses, split-few, ready as is-ready, Ready}
 use Rattle.call_split.proofs.Ends.{split-goes, changes-number, some-new, first-new, new-count, darts-asked, writing, split-drafted}
 use Rattle.call_split.proofs.split_in.Statement.{statement}

@@ -7,11 +7,11 @@ use borrow.Author.Tests.{not-true, not-false}
 use Rattle.model.specs.Sew.{unsewTable}
 use Rattle.model.specs.Meaning.Numbers.{JournalRule}
 use Rattle.theorems.proofs.Calls.Pass.{UnsewPassed, unsew-passed, unsew-side}
-use Rattle.journal.specs.Passes.{Room, Drafted}
-use Rattle.journal.proofs.Commits.{fits-room}
+use Rattle.drafts.specs.Passes.{Room, Drafted}
+use Rattle.drafts.proofs.Commits.{fits-room}
 use Rattle.answers.proofs.Commits.{commit-full, commit-done}
-use Rattle.sides.specs.Marked.{Turning}
-use Rattle.call_unsew.proofs.Ends.{unsew-goes, journal-rule, changes-number, unsewn-turning, unsewn-drafted}
+use Rattle.marked_links.specs.Marked.{MarkedRecord}
+use Rattle.call_unsew.proofs.Ends.{unsew-goes, journal-rule, changes-number, unsewn-record, unsewn-drafted}
 use Rattle.call_unsew.proofs.unsew_in.Statement.{statement}
 use Rattle.call_unsew.proofs.unsew_in.Tie as tie
 
@@ -46,14 +46,14 @@ room c =
     fits-room _ _ _ _ (changes-number (passed s) (s .pre .1 .0) (s .pre .1 .1 .0) (m .mark-side .ensures)) _
     (c .before .record-fits .ensures) (not-false _ (c .if1 .left))
 
-turning : (c : tie.Else1) →
+recorded : (c : tie.Else1) →
     let m = marked (c .before) in
     let a = start m .args in
-    Turning false (a .table .now) (unsewTable (a .n) (a .table .now) (a .i) (a .d)) (m .mark-side .last .1 .1 .0) (a .i) (a .journal .now)
-turning c =
+    MarkedRecord false (a .table .now) (unsewTable (a .n) (a .table .now) (a .i) (a .d)) (m .mark-side .last .1 .1 .0) (a .i) (a .journal .now)
+recorded c =
     let m = marked (c .before) in
     let s = start m in
-    unsewn-turning (passed s) (s .pre .1 .0) (s .pre .1 .1 .0) (m .mark-side .ensures) (rule s) (room c)
+    unsewn-record (passed s) (s .pre .1 .0) (s .pre .1 .1 .0) (m .mark-side .ensures) (rule s) (room c)
 
 drafts : (c : tie.After-write-marked) →
     let m = marked (fitting c .before) in
@@ -65,7 +65,7 @@ drafts c =
     let m = marked (f .before) in
     let s = start m in
     unsewn-drafted (passed s) (s .pre .1 .0) (s .pre .1 .1 .0) (m .mark-side .ensures) (rule s) (room f)
-    (c .write-marked .ensures _ (turning f))
+    (c .write-marked .ensures _ (recorded f))
 
 -- ---- the needs
 
@@ -100,7 +100,7 @@ returns c =
     (c .before .record-fits .ensures) (not-true _ (c .if1 .taken))
 
 write-marked-requires : tie.Need-write-marked-requires
-write-marked-requires c κs = record { v = _; is = turning (c .before .before .before) }
+write-marked-requires c κs = record { v = _; is = recorded (c .before .before .before) }
 
 carry-out-requires : tie.Need-carry-out-requires
 carry-out-requires c κs = record { u = _; j = _; drafted = drafts (c .before .before .before .before) }

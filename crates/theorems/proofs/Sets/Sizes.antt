@@ -1,5 +1,5 @@
 -- Sizes of sets of slots: a map of one set to another compares them.
--- `size-into`: by a one-to-one map; `size-onto`: by one that meets each slot. `length-ones`: the places of the ones are as many.
+-- `size-into`: by a one-to-one map; `size-onto`: by one that meets each slot. `length-ones`: the places of the ones are as many, and no more than the slots (`ones-few`).
 use Prim.Native.Nat.{ℕ, suc, _≤_}
 use mathlib.Core.Path.{_≡_, refl, sym, ap, _∙_}
 use mathlib.Core.Logic.{_≢_}
@@ -13,7 +13,7 @@ use lib.Dec.{eqb}
 use Rattle.model.specs.Lists.{count, onesFrom, ones}
 use Rattle.model.specs.Meaning.Sets.{Marked}
 use Rattle.theorems.proofs.Lists.Ones.{ones-of, ones-in, ones-distinct}
-use Rattle.theorems.proofs.Sets.Pigeon.{count-drop, cover, Distinct, more}
+use Rattle.theorems.proofs.Sets.Pigeon.{count-most, count-drop, cover, Distinct, more}
 
 pub length-ones : (s : List ℕ) (a : ℕ) → length (onesFrom a s) ≡ count 1 s
 unfolding onesFrom count
@@ -25,6 +25,9 @@ length-ones (y ∷ s) a = go (length-ones s (suc a)) (eqb y 1)
         ≡ elim b [ true ↦ suc (count 1 s) | false ↦ count 1 s ]
     go rec true = ap suc rec
     go rec false = rec
+
+pub ones-few : (s : List ℕ) (a : ℕ) → length (onesFrom a s) ≤ length s
+ones-few s a = rw (length-ones s a) (count-most s)
 
 module _ (f : ℕ → ℕ) where
   -- distinct slots that f takes one-to-one into a set are at most as many as it has

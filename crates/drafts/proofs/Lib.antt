@@ -1,0 +1,5 @@
+pub mod Changes
+pub mod Drafts
+pub mod Commits
+pub mod Passes
+pub mod Carrying

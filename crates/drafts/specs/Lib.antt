@@ -1,0 +1,2 @@
+pub mod Drafts
+pub mod Passes

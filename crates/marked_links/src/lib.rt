@@ -1,0 +1,55 @@
+// The record of sew and unsew: link i of marked darts changes, from the dart itself to another dart, or back.
+ghost use mathlib.Core.Path.{_≡_};
+ghost use mathlib.Core.Bool.{true, false};
+ghost use mathlib.Core.List.{List};
+ghost use Prim.Native.Nat.{ℕ, _+_};
+ghost use Rattle.model.specs.Journal.{changesFrom};
+ghost use Rattle.drafts.specs.Drafts.{drafted};
+ghost use Rattle.marked_links.specs.Marked.{before, after, MarkedRecord, SomeMarkedRecord, MarkedPass, ToMarked};
+
+// x where it holds, else y.
+fn pick(holds: bool, x: u32, y: u32) -> u32
+    ensures { λ r. ⌜ r ≡ elim holds [ true ↦ x | false ↦ y ] ⌝ }
+{
+    if holds { x } else { y }
+}
+
+// A pass of that record comes to the slot x, with the next triple at the word w: where x is marked, the triple is written; the word of
+// the next one.
+fn write_one(
+    table: &[u32],
+    journal: &mut [u32],
+    marks: &[u8],
+    i: u32,
+    sews: bool,
+    w: usize,
+    x: u32,
+) -> usize
+    requires { ⌜ ToMarked sews (now table) (now marks) i x w (now journal) ⌝ }
+    ensures { λ r. ⌜ ((v j : List ℕ) → MarkedPass sews (now (table .entry)) v (now (marks .entry)) i j x w (now (journal .entry))
+        → MarkedPass sews (now (table .entry)) v (now (marks .entry)) i j (x + 1) r (now (journal .exit))) ⌝ }
+{
+    if marks[x as usize] != 1 {
+        return w;
+    }
+    let y = reading::link_in(table, i as usize, x);
+    drafts::write_link(journal, w, x, i, pick(sews, x, y), pick(sews, y, x));
+    w + 3
+}
+
+// Drafts the record of the change between the table and the one in which the darts marked with 1 are i-free: where it sews, to the
+// table, else from it.
+pub fn write_marked(table: &[u32], journal: &mut [u32], marks: &[u8], i: u32, sews: bool)
+    requires { ⌜ SomeMarkedRecord sews (now table) (now marks) i (now journal) ⌝ }
+    ensures { λ _. ⌜ ((v : List ℕ) → MarkedRecord sews (now (table .entry)) v (now (marks .entry)) i (now (journal .entry))
+        → now (journal .exit) ≡ drafted (now (journal .entry))
+        (changesFrom 0 (before sews (now (table .entry)) v) (after sews (now (table .entry)) v))) ⌝ }
+{
+    let end = table.len() / 4;
+    let mut w = journal[0] as usize + 2;
+    let mut x = scans::skip_blocks(marks, 0);
+    while x < end {
+        w = write_one(table, journal, marks, i, sews, w, x as u32);
+        x = scans::skip_clear(marks, x + 1);
+    }
+}

@@ -1,0 +1,5 @@
+pub mod Roles
+pub mod Placing
+pub mod Fronts
+pub mod Lists
+pub mod Passing

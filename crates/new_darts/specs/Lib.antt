@@ -1,0 +1,3 @@
+pub mod Placed
+pub mod News
+pub mod Drafting
