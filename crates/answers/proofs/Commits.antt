@@ -1,7 +1,7 @@
 -- How an operation ends whose checks have passed, by the test whether the record of its k changes fits: refused by 15
 -- (`commit-full`), or carried out (`commit-done`).
 use Prim.Native.Nat.{ℕ, _-_}
-use mathlib.Core.Path.{_≡_, sym, _∙_}
+use mathlib.Core.Path.{_≡_}
 use mathlib.Core.Bool.{Bool, true, false}
 use mathlib.Core.List.{List}
 use lib.ListN.{length}

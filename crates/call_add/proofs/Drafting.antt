@@ -1,10 +1,9 @@
 -- The record of add, drafted slot by slot: `drafting-none`, `drafting-more`, `drafting-all`.
-use Prim.Native.Nat.{ℕ, _+_, _*_, _≤_, _<_}
+use Prim.Native.Nat.{ℕ, _+_, _≤_, _<_}
 use mathlib.Core.Path.{_≡_, refl, sym, ap, _∙_}
-use mathlib.Core.Logic.{_≢_}
 use mathlib.Core.List.{List, [], _∷_, List·Memᴰ as In}
 use native.Mathlib.Omega.{arith}
-use lib.ListN.{length, getD, replicate, getD-replicate}
+use lib.ListN.{getD, replicate, getD-replicate}
 use lib.Seq.{getD-take}
 use Rattle.model.specs.Lists.{indexOf}
 use Rattle.model.specs.Table.{unused, slots, link}
@@ -17,7 +16,7 @@ use Rattle.theorems.proofs.Sets.Closure.{getD-any}
 use Rattle.theorems.proofs.Maps.Rules.{dead-link}
 use Rattle.theorems.proofs.Cells.Rows.{row-goes}
 use Rattle.theorems.proofs.Operations.Slots.{rising-at}
-use Rattle.theorems.proofs.Operations.Added.{newAt, add-lowest, add-links, add-stays, add-length, add-changes}
+use Rattle.theorems.proofs.Operations.Added.{newAt, add-lowest, add-links, add-stays, add-length}
 use Rattle.drafts.specs.Drafts.{drafted}
 use Rattle.drafts.specs.Passes.{Pass, FourLinks}
 use Rattle.drafts.proofs.Passes.{pass-start, pass-over, pass-end}

@@ -1,10 +1,8 @@
 -- How add ends: refused by a check (`add-refused`), else by what is left of it, `commit` (`add-goes`); and what it knows on the way:
 -- whether the unused slots that it lists are enough (`room-test`), what the record is written from (`new-cell`), and its draft
 -- (`cell-drafted`).
-use Prim.Native.Nat.{ℕ, _*_, _≤_, _<_, min}
+use Prim.Native.Nat.{ℕ, _*_, _≤_, _<_}
 use mathlib.Core.Path.{_≡_, sym, ap, _∙_}
-use mathlib.Core.Logic.{_≢_}
-use mathlib.Core.Bool.{true}
 use mathlib.Core.List.{List, []}
 use native.Mathlib.Omega.{arith}
 use lib.ListN.{length, getD, take}
@@ -12,7 +10,7 @@ use lib.Seq.{getD-take}
 use lib.Dec.{eqb}
 use Rattle.model.specs.Table.{unusedSlots}
 use Rattle.model.specs.Cell.{cellSize}
-use Rattle.model.specs.Journal.{cursor, changesFrom, recordLength}
+use Rattle.model.specs.Journal.{changesFrom}
 use Rattle.model.specs.Add.{addSlots, addTable}
 use Rattle.model.specs.Checks.{pass, refuse, must, inOrder, addRoomOk, addChecks}
 use Rattle.model.specs.Calls.{refused, commit, addCall}

@@ -1,6 +1,6 @@
 -- A draft carried out: what `close_record` and `put_record` require (`draft-closes`, `closed-puts`), and what they leave (`carried`).
 use Prim.Native.Nat.{ℕ, _+_, _≤_}
-use mathlib.Core.Path.{_≡_, refl, ap, _∙_}
+use mathlib.Core.Path.{_≡_, ap, _∙_}
 use mathlib.Core.Bool.{true}
 use mathlib.Core.List.{List}
 use native.Mathlib.Omega.{arith}

@@ -1,18 +1,18 @@
 -- The rising pass that drafts a record: a listed change is the record. It begins with `pass-start`, goes over slots that stay by
 -- `pass-stays` and `pass-over`, over one with a change by `link-met` or `slot-met`, and has the whole draft by `pass-end`.
 use Prim.Native.Nat.{ℕ, zero, suc, _+_, _*_, _-_, _≤_, _<_}
-use mathlib.Core.Path.{_≡_, refl, sym, ap, _∙_}
+use mathlib.Core.Path.{_≡_, sym, ap, _∙_}
 use mathlib.Core.Logic.{_≢_}
 use mathlib.Core.List.{List, [], _∷_, _++_}
 use native.Mathlib.Numerals.{add-one}
 use native.Mathlib.Omega.{arith}
 use lib.ListN.{length, getD}
 use Rattle.model.specs.Table.{unused, slots, link}
-use Rattle.model.specs.Journal.{Change, cursor, changesFrom, recordLength}
+use Rattle.model.specs.Journal.{Change, cursor, changesFrom}
 use Rattle.model.specs.Meaning.Numbers.{JournalRule}
 use Rattle.drafts.specs.Drafts.{drafted, changesBelow}
 use Rattle.drafts.specs.Passes.{Room, Met, Pass, OneLink, FourLinks, Drafted}
-use Rattle.drafts.proofs.Changes.{below-none, below-all, below-most, below-same, below-other, below-count, below-alike}
+use Rattle.drafts.proofs.Changes.{below-none, below-all, below-most, below-other, below-count, below-alike}
 use Rattle.drafts.proofs.Drafts.{draft-none, draft-keeps}
 
 -- what `write_triple` ensures

@@ -1,17 +1,14 @@
 -- The tests of a listed cell.
 -- Main definitions: `allFollow`, `onlyFirst`, `allStraight`.
-use Prim.Native.Nat.{ℕ, zero, suc, _*_, _-_, _/_, _%_, _^_, _≤_, _<_}
-use mathlib.Core.Path.{_≡_}
-use mathlib.Core.Logic.{_≢_}
-use mathlib.Core.Bool.{Bool, true, false, not, _&&_, _||_}
+use Prim.Native.Nat.{ℕ, zero, suc, _*_, _-_, _/_, _%_, _^_}
+use mathlib.Core.Bool.{Bool, not, _&&_, _||_}
 use mathlib.Core.List.{List, [], _∷_}
-use lib.ListN.{length, getD, set}
+use lib.ListN.{length, getD}
 use lib.Dec.{eqb, ltb}
 use Rattle.model.specs.Lists.{allBelow}
-use Rattle.model.specs.Table.{slots, link, live}
-use Rattle.model.specs.Cell.{cellSize, inWrongCell}
+use Rattle.model.specs.Table.{link}
+use Rattle.model.specs.Cell.{cellSize}
 use Rattle.model.specs.Numbering.{corners, cellLink}
-use Rattle.model.specs.Meaning.Maps.{MapTable}
 use Rattle.numbering.specs.Orders.{nextOrder, nextVertex, placeOf}
 
 -- link i leads from the place k where the numbering says

@@ -24,7 +24,7 @@ use Rattle.texts.proofs.Writing.{appended-none}
 use Rattle.lines.specs.declared.Key.{Key}
 use Rattle.lines.specs.declared.Key.the-variants.{Dim, Slots, Op, I, D, E}
 use Rattle.lines.specs.declared.Session.{Session}
-use Rattle.lines.specs.Machine.{reading, stopped, hold, next, prints, fed, says, ends}
+use Rattle.lines.specs.Machine.{reading, hold, next, prints, fed, says, ends}
 use Rattle.lines.specs.Held.{lent, dueAt, dueOf, atOp, unless, machineOf, Kept, notedAt, Fits, Noted, Told}
 
 -- ---- a byte is held

@@ -1,12 +1,10 @@
 -- `call_add::add` meets its contract: its opening, check 14 by the slots listed, 15 by the number of changes; the record drafted and
 -- carried out.
-use mathlib.Core.Path.{_≡_, refl}
 use mathlib.Core.List.{List}
 use native.Mathlib.Omega.{arith}
 use borrow.Author.Needs.{needs}
 use borrow.Author.Tests.{not-true, not-false}
 use Rattle.model.specs.Checks.{Check, addChecks, mapChecks}
-use Rattle.model.specs.Journal.{cursor}
 use Rattle.model.specs.Meaning.Maps.{MapTable}
 use Rattle.model.specs.Meaning.Numbers.{JournalRule}
 use Rattle.theorems.proofs.Calls.Pass.{journal-pass, table-of}

@@ -1,6 +1,5 @@
 -- `call_add::write_cell` meets its contract. The loop's invariant: the first k slots are drafted.
 use Prim.Native.Nat.{ℕ, _-_, _≤_}
-use mathlib.Core.Path.{sym, _∙_}
 use mathlib.Core.List.{List}
 use native.Mathlib.Omega.{arith}
 use borrow.Author.Needs.{needs}

@@ -7,7 +7,7 @@ use mathlib.Core.Bool.{true}
 use mathlib.Core.List.{List, List·Memᴰ as In}
 use native.Mathlib.Omega.{arith}
 use Rattle.model.specs.Table.{link, live}
-use Rattle.model.specs.Cell.{cellSize, cellOf, goodCell}
+use Rattle.model.specs.Cell.{cellSize, cellOf}
 use Rattle.model.specs.Split.{newDart, splitBy}
 use Rattle.model.specs.Meaning.Maps.{BlockTable}
 use Rattle.model.specs.Meaning.Places.{place, AtPlace, Chart}

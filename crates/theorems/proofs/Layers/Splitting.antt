@@ -2,7 +2,7 @@
 -- link 0 of the darts of the sheet (`split-dart-link`), the links of the new darts (`new-link`), and what stays (`split-kept`).
 use Prim.Native.Nat.{ℕ, _+_, _*_, _/_, _%_, _<_}
 use mathlib.Core.Path.{_≡_, sym, ap, ap₂, _∙_}
-use mathlib.Core.Bool.{true, false}
+use mathlib.Core.Bool.{true}
 use mathlib.Core.List.{List, List·Memᴰ as In}
 use native.Mathlib.Omega.{arith}
 use lib.ListN.{length, getD}

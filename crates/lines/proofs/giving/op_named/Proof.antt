@@ -3,7 +3,6 @@ use Prim.Native.Nat.{_-_, _≤_}
 use mathlib.Core.Path.{_≡_, refl, sym, _∙_}
 use native.Mathlib.Omega.{arith}
 use Rattle.model.specs.Session.{names, placeFrom}
-use Rattle.texts.specs.Texts.{givenBy}
 use Rattle.lines.proofs.Ops.{Past, past, found}
 use Rattle.lines.proofs.giving.op_named.Statement.{statement}
 use Rattle.lines.proofs.giving.op_named.Tie as tie
