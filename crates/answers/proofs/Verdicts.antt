@@ -2,20 +2,20 @@
 -- `clear-passes`, `clear-refuses` for a test that is a Boolean, `equal-passes`, `equal-refuses`, `differ-passes`, `differ-refuses` for two numbers,
 -- `least-passes`, `least-refuses` for a least slot and the number of slots, `rule-passes`, `rule-refuses` for a rule of a map.
 -- `marks-test` and the like say by which test a check goes.
-use Prim.Native.Nat.{ℕ, _/_, _≤_, _<_}
+use Prim.Native.Nat.{ℕ, _≤_, _<_}
 use mathlib.Core.Path.{_≡_, refl, sym, ap, _∙_}
 use mathlib.Core.Logic.{_≢_}
 use mathlib.Core.Bool.{Bool, true, false, not}
 use mathlib.Core.List.{List}
 use native.Mathlib.Omega.{arith}
-use lib.ListN.{length, getD}
+use lib.ListN.{getD}
 use lib.Dec.{eqb}
 use borrow.Author.Tests.{eq-eqb, ne-eqb, le-leb, lt-leb, not-true, not-false}
 use Rattle.model.specs.Table.{slots, live}
 use Rattle.model.specs.Map.{MapRule, keepsRule, breakingLink, leastBreaking, isMap}
 use Rattle.model.specs.Cell.{leastWrong}
 use Rattle.model.specs.Journal.{cursor, end}
-use Rattle.model.specs.Checks.{Check, pass, refuse, must, mustAt, marksOk, ruleNumber, ruleOk, indexOk, dartOk, blockOk}
+use Rattle.model.specs.Checks.{Check, pass, refuse, must, mustAt, ruleNumber, ruleOk, indexOk, dartOk, blockOk}
 use Rattle.model.specs.Checks.{undoOk, redoOk}
 use Rattle.theorems.proofs.Lists.Scan.{test}
 use Rattle.theorems.proofs.Maps.Broken.{link-below, link-found}
@@ -89,10 +89,6 @@ unfolding indexOk must
 index-refuses n i h = rw (lt-leb i n h)
 
 -- ---- the tests of the checks
-
-pub marks-test : (t m : List ℕ) → must (eqb (length m) (length t / 4)) 3 ≡ marksOk t m
-unfolding marksOk slots
-marks-test t m = refl
 
 pub dart-test : (t : List ℕ) (d : ℕ) {b : Bool} → b ≡ live t d → must b 7 ≡ dartOk t d
 unfolding dartOk

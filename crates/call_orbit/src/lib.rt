@@ -73,7 +73,7 @@ pub fn orbit(n: u32, table: &[u32], marks: &mut [u8], mask: u32, d: u32) -> Answ
     ensures { λ r. ⌜ outcome r (now (table .entry)) (now (marks .exit)) []
         ≡ orbitCall n (now (table .entry)) (now (marks .entry)) mask d ⌝ }
 {
-    let opened = answers::opening(n, table, marks.len() == table.len() / 4, true);
+    let opened = answers::opening(n, table, reading::marks_fit(table, marks), true);
     if opened.number != 0 {
         return opened;
     }

@@ -154,7 +154,7 @@ pub fn remove(
     let opened = answers::opening_layer(
         n,
         table,
-        marks.len() == table.len() / 4,
+        reading::marks_fit(table, marks),
         reading::journal_fits(journal),
         d,
     );

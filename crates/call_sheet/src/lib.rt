@@ -53,7 +53,7 @@ pub fn sheet(n: u32, table: &[u32], marks: &mut [u8], d: u32) -> Answer
     ensures { λ r. ⌜ outcome r (now (table .entry)) (now (marks .exit)) []
         ≡ sheetCall n (now (table .entry)) (now (marks .entry)) d ⌝ }
 {
-    let opened = answers::opening_layer(n, table, marks.len() == table.len() / 4, true, d);
+    let opened = answers::opening_layer(n, table, reading::marks_fit(table, marks), true, d);
     if opened.number != 0 {
         return opened;
     }

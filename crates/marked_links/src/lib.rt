@@ -45,7 +45,7 @@ pub fn write_marked(table: &[u32], journal: &mut [u32], marks: &[u8], i: u32, se
         → now (journal .exit) ≡ drafted (now (journal .entry))
         (changesFrom 0 (before sews (now (table .entry)) v) (after sews (now (table .entry)) v))) ⌝ }
 {
-    let end = table.len() / 4;
+    let end = reading::slots(table) as usize;
     let mut w = journal[0] as usize + 2;
     let mut x = scans::skip_blocks(marks, 0);
     while x < end {

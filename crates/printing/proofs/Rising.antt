@@ -1,5 +1,5 @@
 -- The live slots one by one: counted (`live-next`), and with their lines (`darts-next`).
-use Prim.Native.Nat.{ℕ, suc, _+_, _*_, _-_, _/_, _<_, _≤_}
+use Prim.Native.Nat.{ℕ, suc, _+_, _*_, _-_, _<_, _≤_}
 use mathlib.Core.Path.{_≡_, refl, ap, _∙_}
 use mathlib.Core.Bool.{true, false}
 use mathlib.Core.List.{List, [], _++_, append-nil, append-assoc}
@@ -41,10 +41,10 @@ pub dead-unmarked : (t : List ℕ) (d : ℕ) → live t d ≡ false → liveMark
 unfolding liveMark
 dead-unmarked t d h = rw (h, liveMark)
 
-pub live-all : (t : List ℕ) → 0 + liveFrom t (length t / 4 - 0) 0 ≡ liveCount t
-unfolding liveFrom liveCount tabulate slots
+pub live-all : (t : List ℕ) → 0 + liveFrom t (slots t - 0) 0 ≡ liveCount t
+unfolding liveFrom liveCount tabulate
 live-all t =
-    let whole : length t / 4 - 0 ≡ length t / 4 = omega arith in
+    let whole : slots t - 0 ≡ slots t = omega arith in
     rw whole (omega arith)
 
 pub live-end : (t : List ℕ) (k : ℕ) {count : ℕ} (d : ℕ) → k ≡ 0 → count + liveFrom t k d ≡ liveCount t → count ≡ liveCount t

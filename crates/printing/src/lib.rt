@@ -65,7 +65,7 @@ fn darts(out: &mut [u8], at: usize, table: &[u32]) -> usize
     ensures { λ r. ⌜ Appended (now (out .entry)) at (dartsFrom (slots (now (table .entry))) 0 (now (table .entry)))
         (now (out .exit)) r ⌝ }
 {
-    let end = (table.len() / 4) as u32;
+    let end = reading::slots(table);
     let mut place = at;
     let mut d = 0;
     while d < end {
@@ -80,7 +80,7 @@ fn live_count(table: &[u32]) -> u32
     requires { ⌜ length (now table) ≤ 3840 ⌝ }
     ensures { λ r. ⌜ r ≡ liveCount (now (table .entry)) ⌝ }
 {
-    let end = (table.len() / 4) as u32;
+    let end = reading::slots(table);
     let mut count = 0;
     let mut d = 0;
     while d < end {

@@ -1,4 +1,4 @@
-// Reading the table: links, live and unused slots, the rules of a map, which of them a slot breaks, and the checks 1, 2 and 4.
+// Reading the table: links, live and unused slots, the rules of a map, which of them a slot breaks, and the checks 1 to 4.
 pub use broken::Rule;
 pub use broken::breaking_link;
 
@@ -11,7 +11,7 @@ ghost use lib.ListN.{length};
 ghost use lib.Dec.{eqb};
 ghost use Rattle.model.specs.Table.{slots, link, live, walk};
 ghost use Rattle.model.specs.Map.{crossed, keepsRules, breaksRule, leastBreaking, isMap};
-ghost use Rattle.model.specs.Checks.{must, pass, dimOk, tableOk, journalOk};
+ghost use Rattle.model.specs.Checks.{must, pass, dimOk, tableOk, marksOk, journalOk};
 ghost use Rattle.reading.specs.Sized.{Sized};
 ghost use Rattle.reading.specs.Four.{four};
 ghost use Rattle.reading.specs.Near.{turned, nearRules, keepsNear, Row, Below};
@@ -40,6 +40,13 @@ pub fn table_fits(table: &[u32]) -> bool
     (table.len() % 4 == 0) & (table.len() <= 262144)
 }
 
+// Whether check 3 passes.
+pub fn marks_fit(table: &[u32], marks: &[u8]) -> bool
+    ensures { λ r. ⌜ must r 3 ≡ marksOk (now (table .entry)) (now (marks .entry)) ⌝ }
+{
+    marks.len() == table.len() / 4
+}
+
 // Whether check 4 passes.
 pub fn journal_fits(journal: &[u32]) -> bool
     ensures { λ r. ⌜ must r 4 ≡ journalOk (now (journal .entry)) ⌝ }
@@ -57,7 +64,7 @@ pub fn journal_fits(journal: &[u32]) -> bool
 
 // The number of slots.
 pub fn slots(table: &[u32]) -> u32
-    requires { ⌜ tableOk (now table) ≡ pass ⌝ }
+    requires { ⌜ length (now table) ≤ 262144 ⌝ }
     ensures { λ r. ⌜ r ≡ slots (now (table .entry)) ⌝ }
 {
     (table.len() / 4) as u32

@@ -5,6 +5,7 @@ use native.Mathlib.Omega.{arith}
 use lib.ListN.{length}
 use Rattle.model.specs.Table.{slots}
 use Rattle.model.specs.Meaning.Maps.{MapTable}
+use Rattle.reading.proofs.Passed.{table-short}
 use Rattle.block_test.proofs.Scan.{checked, Scanned, scan-first, scan-next, scan-found, scan-none}
 use Rattle.block_test.proofs.first_wrong.Statement.{statement}
 use Rattle.block_test.proofs.first_wrong.Tie as tie
@@ -16,7 +17,7 @@ abbrev μ-loop : tie.MeasureT-loop
 μ-loop n table seen₀ end d₀ seen d = end - d
 
 slots-requires : tie.Need-slots-requires Inv-loop μ-loop
-slots-requires c κs = c .before .before .pre .0 .1
+slots-requires c κs = table-short _ (c .before .before .pre .0 .1)
 
 loop-holds : tie.Need-loop-holds Inv-loop μ-loop
 loop-holds c =

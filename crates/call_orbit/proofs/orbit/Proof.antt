@@ -4,7 +4,7 @@ use mathlib.Core.List.{List}
 use borrow.Author.Needs.{needs}
 use Rattle.model.specs.Checks.{Check, pass, inOrder, orbitChecks, mapChecks}
 use Rattle.answers.proofs.Ladder.{Rung, up, out, all-passed}
-use Rattle.answers.proofs.Verdicts.{passes, refuses, marks-test, dart-test}
+use Rattle.answers.proofs.Verdicts.{passes, refuses, dart-test}
 use Rattle.answers.proofs.Settled.{Opening, opened, handed-on}
 use Rattle.answers.proofs.Opened.{opened-marks}
 use Rattle.answers.proofs.Given.{room-small}
@@ -20,9 +20,9 @@ checks p = orbitChecks (p .args .n) (p .args .table .now) (p .args .marks .now) 
 abbrev opening : tie.After-struct-known → Opening checks 7
 unfolding orbitChecks mapChecks
 opening c = record {
-  entry = c .before .before .before .before;
+  entry = c .before .before .before .before .before .before;
   answer = _;
-  settles = opened-marks _ _ _ _ (marks-test _ _) (c .before .opening .ensures);
+  settles = opened-marks _ _ _ _ (c .before .before .marks-fit .ensures) (c .before .opening .ensures);
 }
 
 abbrev map : tie.Else1 → Rung checks 7
@@ -39,8 +39,14 @@ dart c = up (mask (c .before .before)) (passes _ 7 (dart-test _ _ (c .before .li
 
 -- ---- the refusals, and what the callees ask
 
+marks-fit-requires : tie.Need-marks-fit-requires
+marks-fit-requires c κs = search needs
+
 opening-requires : tie.Need-opening-requires
 opening-requires c κs = search needs
+
+same-length : tie.Need-same-length
+same-length c = search needs
 
 returns : tie.Need-returns
 unfolding orbitChecks mapChecks
@@ -50,6 +56,9 @@ mask-fits-requires : tie.Need-mask-fits-requires
 unfolding orbitChecks mapChecks
 mask-fits-requires c κs = let p = map c .passed in search
 
+same-length-2 : tie.Need-same-length-2
+same-length-2 c = search needs
+
 returns-2 : tie.Need-returns-2
 unfolding orbitChecks mapChecks
 returns-2 c =
@@ -57,6 +66,9 @@ returns-2 c =
 
 live-requires : tie.Need-live-requires
 live-requires c κs = search needs
+
+same-length-3 : tie.Need-same-length-3
+same-length-3 c = search needs
 
 returns-3 : tie.Need-returns-3
 unfolding orbitChecks mapChecks
@@ -83,8 +95,8 @@ orbit-in-requires c κs =
     let h = all-pass (small .before) in
     (h, room-small 2048 _ (orbit-table _ _ _ _ _ h) (small .if4 .taken))
 
-same-length : tie.Need-same-length
-same-length c = search needs
+same-length-4 : tie.Need-same-length-4
+same-length-4 c = search needs
 
 returns-4 : tie.Need-returns-4
 returns-4 c = search needs
@@ -93,8 +105,8 @@ orbit-large-requires : tie.Need-orbit-large-requires
 unfolding orbitChecks mapChecks
 orbit-large-requires c κs = all-pass (c .before .before)
 
-same-length-2 : tie.Need-same-length-2
-same-length-2 c = search needs
+same-length-5 : tie.Need-same-length-5
+same-length-5 c = search needs
 
 returns-5 : tie.Need-returns-5
 returns-5 c = search needs
@@ -103,17 +115,21 @@ pub orbit-spec : {M : Type 1} → statement M
 orbit-spec =
     tie.close
     (tie.spec
+    marks-fit-requires
     opening-requires
+    same-length
     returns
     mask-fits-requires
+    same-length-2
     returns-2
     live-requires
+    same-length-3
     returns-3
     mul-if4
     slice-aggregate-orbit-in
     orbit-in-requires
-    same-length
+    same-length-4
     returns-4
     orbit-large-requires
-    same-length-2
+    same-length-5
     returns-5)

@@ -3,7 +3,6 @@ use mathlib.Core.Path.{_≡_}
 use mathlib.Core.List.{List}
 use borrow.Author.Needs.{needs}
 use Rattle.model.specs.Checks.{Check, pass, inOrder, layerChecks, mapChecks}
-use Rattle.answers.proofs.Verdicts.{marks-test}
 use Rattle.answers.proofs.Settled.{Opening, handed-on}
 use Rattle.answers.proofs.Given.{room-small}
 use Rattle.answers.proofs.Opened.{opened-layer}
@@ -18,16 +17,19 @@ checks p = layerChecks (p .args .n) (p .args .table .now) (p .args .marks .now) 
 abbrev opening : tie.After-struct-known → Opening checks 10
 unfolding layerChecks mapChecks
 opening c = record {
-  entry = c .before .before .before .before .before .before .before .before;
+  entry = c .before .before .before .before .before .before .before .before .before .before;
   answer = _;
   settles =
       let o = c .before in
-      opened-layer _ _ _ _ (marks-test _ _) _ _ (o .before .journal-fits .ensures) _ (o .opening-layer .ensures);
+      opened-layer _ _ _ _ (o .before .before .before .marks-fit .ensures) _ _ (o .before .journal-fits .ensures) _ (o .opening-layer .ensures);
 }
 
-passed : (c : tie.Else1) → inOrder (checks (c .before .before .before .before .before .before .before .before .before)) ≡ pass
+passed : (c : tie.Else1) → inOrder (checks (c .before .before .before .before .before .before .before .before .before .before .before)) ≡ pass
 unfolding layerChecks mapChecks
 passed c = opening (c .before) .settles .passes (c .if1 .left)
+
+marks-fit-requires : tie.Need-marks-fit-requires
+marks-fit-requires c κs = search needs
 
 journal-fits-requires : tie.Need-journal-fits-requires
 journal-fits-requires c κs = search needs
@@ -40,6 +42,9 @@ same-length c = search needs
 
 same-length-2 : tie.Need-same-length-2
 same-length-2 c = search needs
+
+same-length-3 : tie.Need-same-length-3
+same-length-3 c = search needs
 
 returns : tie.Need-returns
 unfolding layerChecks mapChecks
@@ -60,14 +65,14 @@ remove-in-requires c κs =
     let room = room-small 2048 _ (layered h .table) (small .if2 .taken) in
     (h, search needs)
 
-same-length-3 : tie.Need-same-length-3
-same-length-3 c = search needs
-
 same-length-4 : tie.Need-same-length-4
 same-length-4 c = search needs
 
 same-length-5 : tie.Need-same-length-5
 same-length-5 c = search needs
+
+same-length-6 : tie.Need-same-length-6
+same-length-6 c = search needs
 
 returns-2 : tie.Need-returns-2
 returns-2 c = search needs
@@ -75,14 +80,14 @@ returns-2 c = search needs
 remove-large-requires : tie.Need-remove-large-requires
 remove-large-requires c κs = passed (c .before .before .before .before)
 
-same-length-6 : tie.Need-same-length-6
-same-length-6 c = search needs
-
 same-length-7 : tie.Need-same-length-7
 same-length-7 c = search needs
 
 same-length-8 : tie.Need-same-length-8
 same-length-8 c = search needs
+
+same-length-9 : tie.Need-same-length-9
+same-length-9 c = search needs
 
 returns-3 : tie.Need-returns-3
 returns-3 c = search needs
@@ -91,20 +96,22 @@ pub remove-spec : {M : Type 1} → statement M
 remove-spec =
     tie.close
     (tie.spec
+    marks-fit-requires
     journal-fits-requires
     opening-layer-requires
     same-length
     same-length-2
+    same-length-3
     returns
     mul-if2
     slice-aggregate-remove-in
     remove-in-requires
-    same-length-3
     same-length-4
     same-length-5
+    same-length-6
     returns-2
     remove-large-requires
-    same-length-6
     same-length-7
     same-length-8
+    same-length-9
     returns-3)

@@ -3,7 +3,6 @@ use mathlib.Core.Path.{_≡_}
 use mathlib.Core.List.{List}
 use borrow.Author.Needs.{needs}
 use Rattle.model.specs.Checks.{Check, pass, inOrder, sheetChecks, mapChecks}
-use Rattle.answers.proofs.Verdicts.{marks-test}
 use Rattle.answers.proofs.Settled.{Opening, handed-on}
 use Rattle.answers.proofs.Opened.{opened-sheet}
 use Rattle.answers.proofs.Given.{room-small}
@@ -17,17 +16,23 @@ checks p = sheetChecks (p .args .n) (p .args .table .now) (p .args .marks .now) 
 abbrev opening : tie.After-struct-known → Opening checks 9
 unfolding sheetChecks mapChecks
 opening c = record {
-  entry = c .before .before .before .before;
+  entry = c .before .before .before .before .before .before;
   answer = _;
-  settles = opened-sheet _ _ _ _ (marks-test _ _) _ (c .before .opening-layer .ensures);
+  settles = opened-sheet _ _ _ _ (c .before .before .marks-fit .ensures) _ (c .before .opening-layer .ensures);
 }
 
-passed : (c : tie.Else1) → inOrder (checks (c .before .before .before .before .before)) ≡ pass
+passed : (c : tie.Else1) → inOrder (checks (c .before .before .before .before .before .before .before)) ≡ pass
 unfolding sheetChecks mapChecks
 passed c = opening (c .before) .settles .passes (c .if1 .left)
 
+marks-fit-requires : tie.Need-marks-fit-requires
+marks-fit-requires c κs = search needs
+
 opening-layer-requires : tie.Need-opening-layer-requires
 opening-layer-requires c κs = search needs
+
+same-length : tie.Need-same-length
+same-length c = search needs
 
 returns : tie.Need-returns
 unfolding sheetChecks mapChecks
@@ -48,8 +53,8 @@ sheet-in-requires c κs =
     let room = room-small 2048 _ (sheet-table _ _ _ _ h) (small .if2 .taken) in
     (h, search needs)
 
-same-length : tie.Need-same-length
-same-length c = search needs
+same-length-2 : tie.Need-same-length-2
+same-length-2 c = search needs
 
 returns-2 : tie.Need-returns-2
 returns-2 c = search needs
@@ -57,8 +62,8 @@ returns-2 c = search needs
 sheet-large-requires : tie.Need-sheet-large-requires
 sheet-large-requires c κs = passed (c .before .before)
 
-same-length-2 : tie.Need-same-length-2
-same-length-2 c = search needs
+same-length-3 : tie.Need-same-length-3
+same-length-3 c = search needs
 
 returns-3 : tie.Need-returns-3
 returns-3 c = search needs
@@ -67,13 +72,15 @@ pub sheet-spec : {M : Type 1} → statement M
 sheet-spec =
     tie.close
     (tie.spec
+    marks-fit-requires
     opening-layer-requires
+    same-length
     returns
     mul-if2
     slice-aggregate-sheet-in
     sheet-in-requires
-    same-length
+    same-length-2
     returns-2
     sheet-large-requires
-    same-length-2
+    same-length-3
     returns-3)

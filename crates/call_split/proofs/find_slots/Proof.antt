@@ -9,6 +9,7 @@ use borrow.Author.Needs.{needs}
 use borrow.Author.Tests.{eqb-true, eqb-false}
 use Rattle.model.specs.Table.{slots, unusedSlots}
 use Rattle.theorems.proofs.Lists.Scan.{clash}
+use Rattle.reading.proofs.Passed.{table-short}
 use Rattle.scans.specs.Lowest.{Lists}
 use Rattle.call_split.specs.Slots.{SlotsFound}
 use Rattle.call_split.proofs.find_slots.Statement.{statement}
@@ -29,7 +30,7 @@ mul-if1 : tie.Need-mul-if1
 mul-if1 c = search needs
 
 slots-requires : tie.Need-slots-requires
-slots-requires c κs = search needs
+slots-requires c κs = table-short _ (c .before .before .pre .0)
 
 returns : tie.Need-returns
 returns c =

@@ -4,7 +4,6 @@ use mathlib.Core.List.{List}
 use native.Mathlib.Omega.{arith}
 use borrow.Author.Needs.{needs}
 use Rattle.model.specs.Checks.{Check, pass, inOrder, layerChecks, mapChecks}
-use Rattle.answers.proofs.Verdicts.{marks-test}
 use Rattle.answers.proofs.Settled.{Opening, handed-on}
 use Rattle.answers.proofs.Given.{room-small}
 use Rattle.answers.proofs.Opened.{opened-layer}
@@ -19,16 +18,19 @@ checks p = layerChecks (p .args .n) (p .args .table .now) (p .args .marks .now) 
 abbrev opening : tie.After-struct-known → Opening checks 10
 unfolding layerChecks mapChecks
 opening c = record {
-  entry = c .before .before .before .before .before .before .before .before;
+  entry = c .before .before .before .before .before .before .before .before .before .before;
   answer = _;
   settles =
       let o = c .before in
-      opened-layer _ _ _ _ (marks-test _ _) _ _ (o .before .journal-fits .ensures) _ (o .opening-layer .ensures);
+      opened-layer _ _ _ _ (o .before .before .before .marks-fit .ensures) _ _ (o .before .journal-fits .ensures) _ (o .opening-layer .ensures);
 }
 
-passed : (c : tie.Else1) → inOrder (checks (c .before .before .before .before .before .before .before .before .before)) ≡ pass
+passed : (c : tie.Else1) → inOrder (checks (c .before .before .before .before .before .before .before .before .before .before .before)) ≡ pass
 unfolding layerChecks mapChecks
 passed c = opening (c .before) .settles .passes (c .if1 .left)
+
+marks-fit-requires : tie.Need-marks-fit-requires
+marks-fit-requires c κs = search needs
 
 journal-fits-requires : tie.Need-journal-fits-requires
 journal-fits-requires c κs = search needs
@@ -41,6 +43,9 @@ same-length c = search needs
 
 same-length-2 : tie.Need-same-length-2
 same-length-2 c = search needs
+
+same-length-3 : tie.Need-same-length-3
+same-length-3 c = search needs
 
 returns : tie.Need-returns
 unfolding layerChecks mapChecks
@@ -65,14 +70,14 @@ split-in-requires c κs =
     let room = room-small 2048 _ (layered p .table) (branch .if2 .taken) in
     (p, (omega arith, omega arith, room))
 
-same-length-3 : tie.Need-same-length-3
-same-length-3 c = search needs
-
 same-length-4 : tie.Need-same-length-4
 same-length-4 c = search needs
 
 same-length-5 : tie.Need-same-length-5
 same-length-5 c = search needs
+
+same-length-6 : tie.Need-same-length-6
+same-length-6 c = search needs
 
 returns-2 : tie.Need-returns-2
 returns-2 c = search needs
@@ -80,14 +85,14 @@ returns-2 c = search needs
 split-large-requires : tie.Need-split-large-requires
 split-large-requires c κs = passed (c .before .before .before .before)
 
-same-length-6 : tie.Need-same-length-6
-same-length-6 c = search needs
-
 same-length-7 : tie.Need-same-length-7
 same-length-7 c = search needs
 
 same-length-8 : tie.Need-same-length-8
 same-length-8 c = search needs
+
+same-length-9 : tie.Need-same-length-9
+same-length-9 c = search needs
 
 returns-3 : tie.Need-returns-3
 returns-3 c = search needs
@@ -96,22 +101,24 @@ pub split-spec : {M : Type 1} → statement M
 split-spec =
     tie.close
     (tie.spec
+    marks-fit-requires
     journal-fits-requires
     opening-layer-requires
     same-length
     same-length-2
+    same-length-3
     returns
     mul-if2
     slice-aggregate-split-in
     slice-aggregate-split-in-2
     slice-aggregate-split-in-3
     split-in-requires
-    same-length-3
     same-length-4
     same-length-5
+    same-length-6
     returns-2
     split-large-requires
-    same-length-6
     same-length-7
     same-length-8
+    same-length-9
     returns-3)

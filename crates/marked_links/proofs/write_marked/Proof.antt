@@ -19,10 +19,16 @@ abbrev μ-loop : tie.MeasureT-loop
 
 -- the function's entry, from where the loop stands
 abbrev start : tie.At-loop Inv-loop μ-loop → tie.Start Inv-loop μ-loop
-start l = l .before .before .before .before .before .before
+start l = l .before .before .before .before .before .before .before
+
+slots-requires : tie.Need-slots-requires Inv-loop μ-loop
+slots-requires c κs = let freed = c .before .before .before .pre .is .freed in omega (arith, freed .fits, freed .few)
+
+cast-end : tie.Need-cast-end Inv-loop μ-loop
+cast-end c = let few = c .before .before .before .before .pre .is .freed .few in omega (arith, c .slots .ensures)
 
 slice-read-w : tie.Need-slice-read-w Inv-loop μ-loop
-slice-read-w c = let long = c .before .before .before .before .pre .is .rule .long in omega arith
+slice-read-w c = let long = c .before .before .before .before .before .pre .is .rule .long in omega arith
 
 cast-w : tie.Need-cast-w Inv-loop μ-loop
 cast-w c = omega (arith, c .slice-known2 .given 0)
@@ -34,9 +40,9 @@ skip-blocks-requires : tie.Need-skip-blocks-requires Inv-loop μ-loop
 skip-blocks-requires c κs = omega arith
 
 loop-holds : tie.Need-loop-holds Inv-loop μ-loop
-unfolding cursor slots
+unfolding cursor
 loop-holds c =
-    (refl, λ v T. record { y = 0; inside = omega arith; skips = c .skip-blocks .ensures; met = marked-start T })
+    (c .before .before .slots .ensures, λ v T. record { y = 0; inside = omega arith; skips = c .skip-blocks .ensures; met = marked-start T })
 
 cast-write-one : tie.Need-cast-write-one Inv-loop μ-loop
 cast-write-one c =
@@ -112,6 +118,8 @@ write-marked-spec =
     (tie.spec
     Inv-loop
     μ-loop
+    slots-requires
+    cast-end
     slice-read-w
     cast-w
     add-w

@@ -1,7 +1,5 @@
 -- `printing::darts` meets its contract. The loop's invariant: with what is still to be written, the text is whole.
-use Rattle.model.specs.Table.{slots}
 use Prim.Native.Nat.{_-_}
-use mathlib.Core.Path.{refl}
 use native.Mathlib.Omega.{arith}
 use Rattle.printing.proofs.Rising.{Going, going-start, going-on, gone}
 use Rattle.printing.proofs.darts.Statement.{statement}
@@ -13,18 +11,17 @@ Inv-loop out₀ at table end place₀ d₀ out place d = Going out₀ at table e
 abbrev μ-loop : tie.MeasureT-loop
 μ-loop out₀ at table end place₀ d₀ out place d = end - d
 
-cast-end : tie.Need-cast-end Inv-loop μ-loop
-cast-end c = omega (arith, c .before .before .pre .1)
+slots-requires : tie.Need-slots-requires Inv-loop μ-loop
+slots-requires c κs = omega (arith, c .before .before .pre .1)
 
 loop-holds : tie.Need-loop-holds Inv-loop μ-loop
-unfolding slots
-loop-holds c = let p = c .before .before in going-start _ _ _ refl (p .pre .0)
+loop-holds c = going-start _ _ _ (c .slots .ensures) (c .before .before .before .pre .0)
 
 dart-requires : tie.Need-dart-requires Inv-loop μ-loop
 dart-requires c κs = let g = c .before .before .loop .inv in omega (arith, g .room, g .long, c .before .loop-test .taken)
 
 add-d : tie.Need-add-d Inv-loop μ-loop
-add-d c = omega (arith, c .before .before .before .before .before .before .before .before .pre .1)
+add-d c = omega (arith, c .before .before .before .before .before .before .before .before .before .pre .1)
 
 loop-less : tie.Need-loop-less Inv-loop μ-loop
 loop-less c = omega arith
@@ -48,7 +45,7 @@ darts-spec =
     (tie.spec
     Inv-loop
     μ-loop
-    cast-end
+    slots-requires
     loop-holds
     dart-requires
     add-d

@@ -1,9 +1,9 @@
 -- `printing::live_count` meets its contract. The loop's invariant: with what is still to be counted, the count is whole.
-use Prim.Native.Nat.{_+_, _-_, _/_, _≤_}
-use mathlib.Core.Path.{_≡_, refl, sym, _∙_}
+use Prim.Native.Nat.{_+_, _-_, _≤_}
+use mathlib.Core.Path.{_≡_, sym, _∙_}
 use mathlib.Core.Logic.{⊎-elim}
 use native.Mathlib.Omega.{arith}
-use lib.ListN.{length}
+use Rattle.model.specs.Table.{slots}
 use Rattle.model.specs.Meaning.Sizes.{liveCount}
 use Rattle.printing.proofs.Rising.{liveFrom, live-all, live-next, live-marked, dead-unmarked, live-end}
 use Rattle.printing.proofs.live_count.Statement.{statement}
@@ -11,25 +11,30 @@ use Rattle.printing.proofs.live_count.Tie as tie
 
 abbrev Inv-loop : tie.InvT-loop
 Inv-loop table end count₀ d₀ count d =
-    (end ≡ length table / 4) × (d ≤ end) × (count ≤ d) × (count + liveFrom table (end - d) d ≡ liveCount table)
+    (end ≡ slots table) × (d ≤ end) × (count ≤ d) × (count + liveFrom table (end - d) d ≡ liveCount table)
 
 abbrev μ-loop : tie.MeasureT-loop
 μ-loop table end count₀ d₀ count d = end - d
 
-cast-end : tie.Need-cast-end Inv-loop μ-loop
-cast-end c = omega (arith, c .before .pre)
+slots-requires : tie.Need-slots-requires Inv-loop μ-loop
+slots-requires c κs = omega (arith, c .before .pre)
 
 loop-holds : tie.Need-loop-holds Inv-loop μ-loop
-loop-holds c = (refl, omega arith, omega arith, live-all _)
+loop-holds c = (c .slots .ensures, omega arith, omega arith, rw (c .slots .ensures) (live-all _))
 
 live-requires : tie.Need-live-requires Inv-loop μ-loop
 live-requires c κs = tt
 
+-- the table has few slots
+few : (l : tie.At-loop Inv-loop μ-loop) → l .before .slots .result ≤ 960
+unfolding slots
+few l = omega (arith, l .before .slots .ensures, l .before .before .before .pre)
+
 add-count : tie.Need-add-count Inv-loop μ-loop
-add-count c = omega (arith, c .before .before .before .before .before .pre)
+add-count c = omega (arith, few (c .before .before .before))
 
 add-d : tie.Need-add-d Inv-loop μ-loop
-add-d c = omega (arith, c .before .before .before .before .before .pre)
+add-d c = omega (arith, few (c .before .before .before))
 
 loop-less : tie.Need-loop-less Inv-loop μ-loop
 loop-less c = omega arith
@@ -37,14 +42,14 @@ loop-less c = omega arith
 loop-again : tie.Need-loop-again Inv-loop μ-loop
 loop-again c =
     let l = c .before .before .before in
-    let t = l .before .before .args .table .now in
-    let next = live-next t (length t / 4) (l .loop .d) (omega arith) in
+    let t = l .before .before .before .args .table .now in
+    let next = live-next t (l .before .slots .result) (l .loop .d) (omega arith) in
     let found = c .before .live .ensures in
     ⊎-elim
     (λ w. let one = live-marked t (l .loop .d) (sym found ∙ w .0 .taken) in
-    (refl, omega arith, omega (arith, w .1), omega (arith, w .1, l .loop .inv .3)))
+    (l .loop .inv .0, omega arith, omega (arith, w .1), omega (arith, w .1, l .loop .inv .3)))
     (λ w. let dead = dead-unmarked t (l .loop .d) (sym found ∙ w .0 .left) in
-    (refl, omega arith, omega (arith, w .1), omega (arith, w .1, l .loop .inv .3)))
+    (l .loop .inv .0, omega arith, omega (arith, w .1), omega (arith, w .1, l .loop .inv .3)))
     (c .if1 .came)
 
 returns : tie.Need-returns Inv-loop μ-loop
@@ -56,7 +61,7 @@ live-count-spec =
     (tie.spec
     Inv-loop
     μ-loop
-    cast-end
+    slots-requires
     loop-holds
     live-requires
     add-count

@@ -7,7 +7,7 @@ use borrow.Author.Count.{below-none, below-more}
 use Rattle.model.specs.Table.{slots}
 use Rattle.model.specs.Map.{breaksRule, leastBreaking}
 use Rattle.theorems.proofs.Lists.Scan.{searched}
-use Rattle.reading.proofs.Passed.{table-passed}
+use Rattle.reading.proofs.Passed.{table-passed, table-short}
 use Rattle.reading.proofs.first_breaking.Statement.{statement}
 use Rattle.reading.proofs.first_breaking.Tie as tie
 
@@ -18,7 +18,7 @@ abbrev μ-loop : tie.MeasureT-loop
 μ-loop n table end d₀ d = end - d
 
 slots-requires : tie.Need-slots-requires Inv-loop μ-loop
-slots-requires c κs = c .before .pre .1
+slots-requires c κs = table-short _ (c .before .pre .1)
 
 loop-holds : tie.Need-loop-holds Inv-loop μ-loop
 loop-holds c = (omega arith, below-none _)

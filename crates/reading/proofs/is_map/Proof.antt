@@ -7,7 +7,7 @@ use borrow.Author.Count.{below-none, below-more}
 use borrow.Author.Tests.{not-true, not-false}
 use Rattle.reading.specs.Near.{keepsNear}
 use Rattle.theorems.proofs.Calls.Pass.{dim-pass}
-use Rattle.reading.proofs.Passed.{table-passed}
+use Rattle.reading.proofs.Passed.{table-passed, table-short}
 use Rattle.reading.proofs.Neighbours.{near-map, broken-map}
 use Rattle.reading.proofs.is_map.Statement.{statement}
 use Rattle.reading.proofs.is_map.Tie as tie
@@ -19,7 +19,7 @@ abbrev μ-loop : tie.MeasureT-loop
 μ-loop n table end d₀ d = end - d
 
 slots-requires : tie.Need-slots-requires Inv-loop μ-loop
-slots-requires c κs = c .before .pre .1
+slots-requires c κs = table-short _ (c .before .pre .1)
 
 loop-holds : tie.Need-loop-holds Inv-loop μ-loop
 loop-holds c = (omega arith, below-none _)

@@ -3,6 +3,7 @@ use mathlib.Core.Path.{sym, _∙_}
 use borrow.Author.Tests.{eqb-true}
 use borrow.Author.Needs.{needs}
 use Rattle.model.specs.Map.{isMap}
+use Rattle.reading.proofs.Passed.{table-short}
 use Rattle.reading.proofs.least_breaking.Statement.{statement}
 use Rattle.reading.proofs.least_breaking.Tie as tie
 
@@ -10,7 +11,7 @@ is-map-requires : tie.Need-is-map-requires
 is-map-requires c κs = search needs
 
 slots-requires : tie.Need-slots-requires
-slots-requires c κs = search needs
+slots-requires c κs = table-short _ (c .before .before .before .pre .1)
 
 returns : tie.Need-returns
 unfolding isMap

@@ -2,12 +2,11 @@
 use mathlib.Core.Path.{refl}
 use native.Mathlib.Omega.{arith}
 use Rattle.model.specs.Table.{slots}
-use Rattle.reading.proofs.Passed.{table-passed}
 use Rattle.reading.proofs.slots.Statement.{statement}
 use Rattle.reading.proofs.slots.Tie as tie
 
 cast-result : tie.Need-cast-result
-cast-result c = let z = table-passed (c .args .table .now) (c .pre) in omega arith
+cast-result c = omega (arith, c .pre)
 
 returns : tie.Need-returns
 unfolding slots

@@ -5,7 +5,7 @@ use mathlib.Core.Logic.{inl, inr, ⊎-elim}
 use native.Mathlib.Omega.{arith}
 use lib.Dec.{eqb}
 use Rattle.model.specs.Table.{unused, slots, unusedSlots}
-use Rattle.reading.proofs.Passed.{table-passed}
+use Rattle.reading.proofs.Passed.{table-passed, table-short}
 use Rattle.scans.proofs.Lowest.{Listing, listing-none, listing-more, listing-first, entered-few}
 use Rattle.scans.proofs.Lowest.{unusedMarks, unused-long, unused-mark, goes-on, stops}
 use Rattle.scans.proofs.list_unused.Statement.{statement}
@@ -22,7 +22,7 @@ abbrev start : tie.At-loop Inv-loop μ-loop → tie.Start Inv-loop μ-loop
 start l = l .before .before .before .before
 
 slots-requires : tie.Need-slots-requires Inv-loop μ-loop
-slots-requires c κs = c .before .before .pre .0 .0
+slots-requires c κs = table-short _ (c .before .before .pre .0 .0)
 
 loop-holds : tie.Need-loop-holds Inv-loop μ-loop
 loop-holds c =

@@ -7,6 +7,7 @@ use borrow.Author.Tests.{eq-eqb, ne-eqb}
 use Rattle.model.specs.Map.{links-live, links-return, pairs-commute, stays-flat, isMap}
 use Rattle.model.specs.Checks.{Check, mapChecks}
 use Rattle.theorems.proofs.Calls.Checks.{map-keeps}
+use Rattle.reading.proofs.Passed.{table-short}
 use Rattle.answers.specs.Openings.{openingChecks}
 use Rattle.answers.proofs.Ladder.{Rung, ground, up, out, all-passed}
 use Rattle.answers.proofs.Verdicts.{passes, refuses}
@@ -74,7 +75,7 @@ least-breaking-requires c κs = let p = journal c .passed in search
 
 slots-requires : tie.Need-slots-requires
 unfolding openingChecks
-slots-requires c κs = let p = journal (c .before) .passed in search
+slots-requires c κs = let p = journal (c .before) .passed in table-short _ (p .1 .0)
 
 broken-rule-requires : tie.Need-broken-rule-requires
 unfolding openingChecks isMap

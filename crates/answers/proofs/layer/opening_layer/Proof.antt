@@ -2,6 +2,7 @@
 use mathlib.Core.List.{List}
 use borrow.Author.Needs.{needs}
 use Rattle.model.specs.Checks.{Check, mapChecks}
+use Rattle.reading.proofs.Passed.{table-short}
 use Rattle.answers.specs.Openings.{openingChecks, layerChecks}
 use Rattle.answers.proofs.Ladder.{Rung, rise, up, out, all-passed}
 use Rattle.answers.proofs.Verdicts.{passes, refuses, least-passes, least-refuses, dart-test, block-test}
@@ -53,7 +54,7 @@ least-wrong-requires c κs =
 
 slots-requires : tie.Need-slots-requires
 unfolding layerChecks openingChecks mapChecks
-slots-requires c κs = let p = dart (c .before) .passed in search
+slots-requires c κs = let p = dart (c .before) .passed in table-short _ (p .1 .0)
 
 returns-3 : tie.Need-returns-3
 unfolding layerChecks openingChecks mapChecks
