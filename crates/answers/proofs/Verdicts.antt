@@ -1,7 +1,7 @@
 -- What a branch of the code says of a check, whether it is left (the check passes) or taken (it refuses): `passes`, `refuses`,
 -- `clear-passes`, `clear-refuses` for a test that is a Boolean, `equal-passes`, `equal-refuses`, `differ-passes`, `differ-refuses` for two numbers,
 -- `least-passes`, `least-refuses` for a least slot and the number of slots, `rule-passes`, `rule-refuses` for a rule of a map.
--- `marks-test` and the like say by which test a check goes.
+-- `dart-test` and the like say by which test a check goes.
 use Prim.Native.Nat.{ℕ, _≤_, _<_}
 use mathlib.Core.Path.{_≡_, refl, sym, ap, _∙_}
 use mathlib.Core.Logic.{_≢_}
