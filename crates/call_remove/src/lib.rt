@@ -53,7 +53,7 @@ fn count_layer(marks: &[u8]) -> Counts
 
 // A pass of the record comes to the slot x, which has a mark, with the next triple at the word w: at the edge link n becomes the first
 // dart outside, else the slot becomes unused. The word of the next triple.
-fn write_marked(n: u32, table: &[u32], journal: &mut [u32], marks: &[u8], w: usize, x: u32) -> usize
+fn write_one(n: u32, table: &[u32], journal: &mut [u32], marks: &[u8], w: usize, x: u32) -> usize
     requires { ⌜ ToClear n (now table) (now marks) x w (now journal) ⌝ }
     ensures { λ r. ⌜ ((j : List ℕ) → Clearing n (now (table .entry)) (now (marks .entry)) j x w (now (journal .entry))
         → Clearing n (now (table .entry)) (now (marks .entry)) j (x + 1) r (now (journal .exit))) ⌝ }
@@ -77,7 +77,7 @@ fn write_layer(n: u32, table: &[u32], journal: &mut [u32], marks: &[u8])
     let mut x = skip_blocks(marks, 0);
     while x < marks.len() {
         if marks[x] != 0 {
-            w = write_marked(n, table, journal, marks, w, x as u32);
+            w = write_one(n, table, journal, marks, w, x as u32);
         }
         x = skip_clear(marks, x + 1);
     }

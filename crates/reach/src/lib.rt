@@ -72,11 +72,7 @@ fn begin(marks: &mut [u8], queue: &mut [u16], d: u32)
     ensures { λ _. ⌜ (now (marks .exit) ≡ set (replicate (length (now (marks .entry))) 0) d 1)
         × (now (queue .exit) ≡ set (now (queue .entry)) 0 d) ⌝ }
 {
-    let mut i = 0;
-    while i < marks.len() {
-        marks[i] = 0;
-        i += 1;
-    }
+    scans::clear(marks);
     marks[d as usize] = 1;
     queue[0] = d as u16;
 }

@@ -1,8 +1,8 @@
-// Passes over all slots: marks of 0 passed over 32 at a time, and the lowest unused slots listed.
+// Passes over all slots: marks cleared, marks of 0 passed over 32 at a time, and the lowest unused slots listed.
 ghost use mathlib.Core.Path.{_≡_};
 ghost use mathlib.Core.Bool.{true};
 ghost use Prim.Native.Nat.{_+_, _<_, _≤_, min};
-ghost use lib.ListN.{length, take};
+ghost use lib.ListN.{length, take, replicate};
 ghost use Rattle.model.specs.Table.{slots, unusedSlots};
 ghost use Rattle.model.specs.Checks.{pass, tableOk};
 ghost use Rattle.reading.specs.Told.{Told};
@@ -13,6 +13,15 @@ use reading::link_in;
 use reading::slots;
 
 // ---- marks
+
+// All marks 0.
+pub fn clear(marks: &mut [u8])
+    ensures { λ _. ⌜ now (marks .exit) ≡ replicate (length (now (marks .entry))) 0 ⌝ }
+{
+    for i in 0..marks.len() {
+        marks[i] = 0;
+    }
+}
 
 // Whether the 32 marks from x on are 0.
 fn block_clear(marks: &[u8], x: usize) -> bool

@@ -156,15 +156,6 @@ fn spread(n: u32, table: &[u32], marks: &mut [u8], work: &mut [u16], size: usize
     }
 }
 
-// All marks 0.
-fn clear(marks: &mut [u8])
-    ensures { λ _. ⌜ now (marks .exit) ≡ replicate (length (now (marks .entry))) 0 ⌝ }
-{
-    for i in 0..marks.len() {
-        marks[i] = 0;
-    }
-}
-
 // The sheet of d where no mark is set: d waits first; a dart that waits is taken, and if it has not the mark 1, its cell is spread. Then
 // none of the cell's first places has it, so that with each cell the sheet grows by as many darts.
 fn flood(n: u32, table: &[u32], marks: &mut [u8], work: &mut [u16], d: u32) -> u32
@@ -194,6 +185,6 @@ pub fn sheet(n: u32, table: &[u32], marks: &mut [u8], work: &mut [u16], d: u32) 
     ensures { λ r. ⌜ (now (marks .exit) ≡ sheetMarks n (now (table .entry)) (sheet n (now (table .entry)) d))
         × (r ≡ count 1 (sheet n (now (table .entry)) d)) ⌝ }
 {
-    clear(marks);
+    scans::clear(marks);
     flood(n, table, marks, work, d)
 }

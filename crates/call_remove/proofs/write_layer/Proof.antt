@@ -48,15 +48,15 @@ loop-holds c =
 shared-slice-read-if1 : tie.Need-shared-slice-read-if1 Inv-loop μ-loop
 shared-slice-read-if1 c = search needs
 
-cast-write-marked : tie.Need-cast-write-marked Inv-loop μ-loop
-cast-write-marked c =
+cast-write-one : tie.Need-cast-write-one Inv-loop μ-loop
+cast-write-one c =
     let l = c .before .before .before .before in
     let few = l .loop .inv .0 .pass .few in
     let same = long (start l) in
     omega arith
 
-write-marked-requires : tie.Need-write-marked-requires Inv-loop μ-loop
-write-marked-requires c κs =
+write-one-requires : tie.Need-write-one-requires Inv-loop μ-loop
+write-one-requires c κs =
     let e = c .before in
     let l = e .before .before .before in
     let same = long (start l) in
@@ -115,8 +115,8 @@ write-layer-spec =
     skip-blocks-requires
     loop-holds
     shared-slice-read-if1
-    cast-write-marked
-    write-marked-requires
+    cast-write-one
+    write-one-requires
     add-skip-clear
     skip-clear-requires
     loop-less

@@ -1,6 +1,6 @@
 -- `marked_links::write_marked` meets its contract. The loop's invariant: the slots below x are met, or skipped.
 use Prim.Native.Nat.{ℕ, _+_, _-_}
-use mathlib.Core.Path.{_≡_, refl}
+use mathlib.Core.Path.{_≡_}
 use mathlib.Core.List.{List}
 use native.Mathlib.Omega.{arith}
 use Rattle.model.specs.Table.{slots}

@@ -4,7 +4,7 @@ use mathlib.Core.Path.{_≡_}
 use native.Mathlib.Omega.{arith}
 use borrow.Author.Tests.{eqb-true}
 use Rattle.scans.specs.Clear.{Clear}
-use Rattle.scans.proofs.Clear.{or-clear, clear-more}
+use Rattle.scans.proofs.Skips.{or-clear, clear-more}
 use Rattle.scans.proofs.block_clear.Statement.{statement}
 use Rattle.scans.proofs.block_clear.Tie as tie
 

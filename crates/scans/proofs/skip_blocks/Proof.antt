@@ -4,7 +4,7 @@ use native.Mathlib.Omega.{arith}
 use borrow.Author.Tests.{not-false}
 use lib.ListN.{length}
 use Rattle.scans.specs.Clear.{Skips}
-use Rattle.scans.proofs.Clear.{clear-on, skips-none}
+use Rattle.scans.proofs.Skips.{clear-on, skips-none}
 use Rattle.scans.proofs.skip_blocks.Statement.{statement}
 use Rattle.scans.proofs.skip_blocks.Tie as tie
 

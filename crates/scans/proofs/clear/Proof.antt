@@ -1,4 +1,4 @@
--- `sheets::clear` meets its contract. The loop's invariant: the marks below i are 0.
+-- `scans::clear` meets its contract. The loop's invariant: the marks below i are 0.
 use mathlib.Core.Path.{_≡_, refl, ap, _∙_}
 use mathlib.Core.List.{List, _++_, append-nil}
 use Prim.Native.Nat.{ℕ, _-_, _≤_, zero-le}
@@ -6,8 +6,8 @@ use native.Mathlib.Omega.{arith}
 use lib.ListN.{length, set, drop, replicate, length-set}
 use lib.Seq.{drop-length}
 use borrow.Author.Fill.{fill-more}
-use Rattle.sheets.proofs.clear.Statement.{statement}
-use Rattle.sheets.proofs.clear.Tie as tie
+use Rattle.scans.proofs.clear.Statement.{statement}
+use Rattle.scans.proofs.clear.Tie as tie
 
 abbrev Inv-loop : tie.InvT-loop
 Inv-loop marks₀ i₀ i-end marks i =

@@ -1,9 +1,9 @@
--- `call_remove::write_marked` meets its contract.
+-- `call_remove::write_one` meets its contract.
 use native.Mathlib.Omega.{arith}
 use borrow.Author.Needs.{needs}
 use Rattle.call_remove.proofs.Clearings.{of-layer, edge-out, edge-one, gone-four, clearing-word, clearing-more}
-use Rattle.call_remove.proofs.write_marked.Statement.{statement}
-use Rattle.call_remove.proofs.write_marked.Tie as tie
+use Rattle.call_remove.proofs.write_one.Statement.{statement}
+use Rattle.call_remove.proofs.write_one.Tie as tie
 
 -- the function's entry, from where the mark is 3, and from where it is not
 abbrev start : tie.Then1 → tie.Start
@@ -100,8 +100,8 @@ returns-2 c =
     λ j C. clearing-more C (w .write-slot .ensures _ _ _ (C .pass)
     (gone-four (C .sheet) _ (to .inside) (to .mark) (e .if1 .left) _ (l .links-in .ensures)))
 
-pub write-marked-spec : {M : Type 1} → statement M
-write-marked-spec =
+pub write-one-spec : {M : Type 1} → statement M
+write-one-spec =
     tie.close
     (tie.spec
     shared-slice-read-if1
