@@ -30,10 +30,6 @@ changes-append (x ∷ xs) (y ∷ ys) xs′ ys′ e l =
     changes-other e x y (xs ++ xs′) (ys ++ ys′) p
     ∙ ap (λ (r : List Change). record { entry = e; old = x; new = y } ∷ r) next ∙ sym (rw (changes-other e x y xs ys p)))
 
-pub no-changes : (cs : List Change) → length cs ≡ 0 → cs ≡ []
-no-changes [] h = refl
-no-changes (c ∷ cs) h = absurd (omega arith)
-
 module _ (t u : List ℕ) (long : length t ≡ length u) where
   pub below-none : changesBelow 0 t u ≡ []
   unfolding changesBelow changesFrom

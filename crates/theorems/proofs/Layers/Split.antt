@@ -27,12 +27,12 @@ use Rattle.theorems.proofs.Maps.Rules.{link-out}
 use Rattle.theorems.proofs.Maps.Tables.{mapTable, rule-at}
 use Rattle.theorems.proofs.Operations.Changes.{changedLinks, changed-one, changed-none}
 use Rattle.theorems.proofs.Operations.Frame.{split-frame}
-use Rattle.theorems.proofs.Operations.Slots.{Rising, ones-rising, rising-at, index-rising}
+use Rattle.theorems.proofs.Operations.Slots.{Rising, ones-rising}
 use Rattle.theorems.proofs.Operations.Slots.{Lowest, LowestUnused, Filled, lowest-slots, lowest-first}
 use Rattle.theorems.proofs.Operations.Slots.{filled-count, filled-changes}
 use Rattle.theorems.proofs.Layers.Sheet.{sheet-own, sheet-least, sheet-live}
 use Rattle.theorems.proofs.Layers.Splitting.{Splitting, IsNew, splits-splitting, split-slots, split-whole}
-use Rattle.theorems.proofs.Layers.Splitting.{slot-low, new-slot, new-in, new-one, slot-new}
+use Rattle.theorems.proofs.Layers.Splitting.{new-slot, new-in, new-one, slot-new}
 use Rattle.theorems.proofs.Layers.Role.{roleTo, roleWord, roleDart, role-link, role-plane}
 use Rattle.theorems.proofs.Layers.SplitMap.{Live, old, new, split-live, live-split}
 use Rattle.theorems.proofs.Layers.SplitBlock.{split-block}
@@ -121,23 +121,6 @@ module _ {n : ℕ} {t : List ℕ} {d : ℕ} (s : Splits n t d) where
   pub new-apart : (r q g h : ℕ) → r < n → q < n → Marked (sheet n t d) g → Marked (sheet n t d) h
       → newOf n t d r g ≡ newOf n t d q h → (r ≡ q) × (g ≡ h)
   new-apart r q g h br bq mg mh e = new-one given r q g h br bq (ones-in _ g mg) (ones-in _ h mh) e
-
-  -- the new darts of g rise, and those of a later dart of S are above them
-  pub new-rising : (r q g h : ℕ) → r < n → q < n → Marked (sheet n t d) g → Marked (sheet n t d) h
-      → (g < h) ⊎ ((g ≡ h) × (r < q)) → newOf n t d r g < newOf n t d q h
-  unfolding newDart
-  new-rising r q g h br bq mg mh order =
-      rising-at (split-lowest .rising) _ _ unused (before order) (new-slot given q h bq (ones-in _ h mh))
-    where
-      at : ℕ → ℕ
-      at g = indexOf g (sheetDarts n t d)
-
-      before : (g < h) ⊎ ((g ≡ h) × (r < q)) → n * at g + r < n * at h + q
-      before (inl l) =
-          let low = index-rising (darts-rising n t d) g h (ones-in _ g mg) (ones-in _ h mh) l in
-          let b = slot-low n (B .dim) (at g) (at h) r low br in
-          omega arith
-      before (inr (e, l)) = let same : n * at g ≡ n * at h = ap (λ (x : ℕ). n * at x) e in omega arith
 
   pub new-in-slot : (r g : ℕ) → r < n → Marked (sheet n t d) g → In (newOf n t d r g) (newSlots n t d)
   new-in-slot r g b m = new-in given r g b (ones-in _ g m)

@@ -1,7 +1,7 @@
 -- The lowest unused slots, which add and split fill (`Lowest`, `lowest-slots`), and once they are filled (`Filled`) the
 -- number of live slots (`filled-count`) and of entries changed (`filled-changes`, `filled-only`).
 use Prim.Native.Nat.{ℕ, zero, suc, _+_, _*_, _≤_, _<_}
-use mathlib.Core.Path.{_≡_, sym, ap, _∙_, subst}
+use mathlib.Core.Path.{_≡_, sym, _∙_, subst}
 use mathlib.Core.Logic.{_⊎_, inl, inr, _≢_, ⊎-elim}
 use mathlib.Core.Bool.{true, false}
 use mathlib.Core.List.{List, [], _∷_, _++_, List·Memᴰ as In, List·Memᴰ·not-nil as not-nil, List·Memᴰ·cases-cons as in-cons}
@@ -9,7 +9,7 @@ use mathlib.Core.List.{Memᴰ·append-left as in-left, Memᴰ·append-right as i
 use native.Mathlib.Omega.{arith}
 use lib.ListN.{length, getD, take, drop, take-append-drop, List·getD-eq-default}
 use borrow.Author.Tests.{eq-eqb, ne-eqb}
-use Rattle.model.specs.Lists.{tabulate, count, onesFrom, indexOf}
+use Rattle.model.specs.Lists.{tabulate, count, onesFrom}
 use Rattle.model.specs.Table.{slots, link, live, unusedSlots}
 use Rattle.model.specs.Journal.{changesFrom}
 use Rattle.model.specs.Meaning.Sizes.{member, liveCount}
@@ -17,7 +17,7 @@ use Rattle.model.specs.Meaning.Maps.{MapTable}
 use Rattle.model.specs.Meaning.Sets.{Bits}
 use Rattle.model.specs.Meaning.Sheets.{howMany}
 use Rattle.theorems.proofs.Lists.Scan.{test, if-eq, if-lt, clash, length-tab, getD-tab}
-use Rattle.theorems.proofs.Lists.Ones.{Vacant, vacant-frees, getD-in, getD-index, index-in, ones-in}
+use Rattle.theorems.proofs.Lists.Ones.{Vacant, vacant-frees, getD-in, ones-in}
 use Rattle.theorems.proofs.Lists.Ones.{in-or, member-in, in-member}
 use Rattle.theorems.proofs.Maps.Rules.{dead-link}
 use Rattle.theorems.proofs.Maps.Tables.{live-below, rule-at}
@@ -42,14 +42,6 @@ rising-at (next low p) (suc i) (suc j) d ij h = rising-at p i j d (omega arith) 
 first-below : {l : List ℕ} → Rising l → (y : ℕ) → In y l → getD l 0 0 ≤ y
 first-below end y i = absurd (not-nil i)
 first-below (next low p) y i = ⊎-elim (λ e. omega arith) (λ j. let b = low y j in omega arith) (in-cons i)
-
--- the entries stand in the order of their sizes
-pub index-rising : {l : List ℕ} → Rising l → (x y : ℕ) → In x l → In y l → x < y → indexOf x l < indexOf y l
-index-rising {l} p x y i j xy = if-lt (indexOf x l) (indexOf y l) (λ h. h) (λ h.
-    let at-x = getD-index l x 0 i in
-    let at-y = getD-index l y 0 j in
-    if-eq (indexOf y l) (indexOf x l) (λ e. let same = ap (λ (k : ℕ). getD l k 0) e in absurd (omega arith))
-    (λ e. let back = rising-at p (indexOf y l) (indexOf x l) 0 (omega arith) (index-in l x i) in absurd (omega arith)))
 
 module _ (a y : ℕ) (l : List ℕ) where
   ones-step : (P : List ℕ → Type 0) → P (a ∷ onesFrom (suc a) l) → P (onesFrom (suc a) l) → P (onesFrom a (y ∷ l))
