@@ -1,36 +1,126 @@
 /* phlernsap.h - a proved topology kernel for hexahedral blocking: ten calls over lent buffers.
+ * Version 1.0.
  *
- * Link with libphlernsap.a (`rt staticlib phlernsap` writes it). Every call gives back a number
- * (0: accepted, else why it is refused) and stores a place and a count. A call takes any content
- * of its buffers and any numbers, and ends.
+ * This file is the manual for programs in C and C++. docs/REFERENCE.md has the same with drawings,
+ * examples/c has programs: three_quads.c, and grid.c, which builds and cuts 2 x 2 x 2 hexahedra.
  *
- * Buffers. All are the caller's; the library allocates nothing and keeps nothing between calls.
  *
- *   table    table_len uint32_t entries, four to a slot: entry 4d+i is link i of dart d. A slot
- *            whose four entries are PHL_UNUSED is unused. At most 262,144 entries.
- *   marks    marks_len bytes, one to a slot: table_len / 4.
- *   journal  journal_len uint32_t words, 2 to 1,048,576. Word 0 is the cursor, word 1 the end.
- *            A fresh journal has 2 in both; from then on only the calls write it.
+ * 1. To build
+ *
+ *     rt staticlib phlernsap               proves the kernel, writes target/staticlib/libphlernsap.a
+ *     cc -I include program.c target/staticlib/libphlernsap.a -o program
+ *
+ * The library is x86-64 code for Linux. It needs no other library, allocates nothing, keeps nothing
+ * between calls and has no global state: calls on different buffers may run on different threads.
+ * A call takes at most 300,000 bytes of stack, and at most 16,384 on a table of up to 2,048 slots
+ * (bench/README.md has the figures measured). Every call reads the whole table, to see that it is a
+ * map: its time is linear in the length of the table, whatever it changes.
+ *
+ *
+ * 2. Words
+ *
+ *   dart      the smallest part of a blocking: a vertex of a cell, with an edge there and, for
+ *             n = 3, a face at that edge. A quad has 8 darts, a hexahedron 48.
+ *   slot      four entries of the table. Entry 4d+i is link i of dart d, written d.i. A slot whose
+ *             four entries are PHL_UNUSED is unused, any other is live and is a dart.
+ *   link      d.0 is the dart at the other end of the edge, d.1 the one at the other edge of the
+ *             same vertex and face, d.2 at the other face of the same edge and vertex (for n = 2: in
+ *             the quad across the edge), d.3 in the block across the face (for n = 2: d itself).
+ *   free      d is i-free if d.i = d: nothing is sewn there.
+ *   map       at each live slot d, every link is a live slot, d.i.i = d, going i, j, i, j comes back
+ *             to d for i + 2 <= j <= n, and d.3 = d for n = 2. An empty table is a map.
+ *   cell      a quad (n = 2) or a block (n = 3): all that is reached by the links 0 .. n-1.
+ *   side      of d for link i: all that is reached from d by the links j <= n that differ from i by
+ *             2 or more. For i = n it is an edge of a quad (2 darts), or a face of a block (8).
+ *   block map a map in which each cell is a quad (a hexahedron), and no side for link n is sewn onto
+ *             itself. phl_sheet, phl_remove and phl_split ask for one.
+ *   sheet     of d: the least set of darts that has d and with each dart g also g.0, the opposite
+ *             edge g.1.0.1, and g.2 .. g.n: all edges that are parallel to d's, from cell to cell.
+ *   layer     the cells that a sheet goes through: what phl_remove takes out and phl_split cuts.
+ *
+ *
+ * 3. The numbering of a new cell
+ *
+ * Vertex s of a cell has bit 1 for x, bit 2 for y, bit 4 for z. A dart stands at a vertex and has an
+ * order of the axes: the first is along its edge, for n = 3 the first two lie in its face and the
+ * last is across it.
+ *
+ *     n = 2   dart 4p + s, p = 0, 1 for the orders xy, yx
+ *     n = 3   dart 8p + s, p = 0 .. 5 for the orders xyz, xzy, yxz, yzx, zxy, zyx
+ *
+ * counted from the cell's first slot, where the slots that it was given are consecutive. Link 0
+ * flips the bit of the first axis in s, link 1 exchanges the first two axes, link 2 (n = 3) the last
+ * two; the other links lead to the dart itself. In a quad:
+ *
+ *     2 ----------------- 3       0> is dart 0, at vertex 0 along x,
+ *     | 2>             <3 |       4^ is dart 4, at vertex 0 along y
+ *     | 6v             7v |
+ *     |                   |       the edge towards +x has the darts 5 and 7, that towards -x 4 and 6,
+ *     | 4^             5^ |       that towards +y 2 and 3, that towards -y 0 and 1
+ *     | 0>             <1 |
+ *     0 ----------------- 1
+ *
+ * So to put the cell B behind A (first slots a, b) along an axis, face to face and not turned:
+ *
+ *     n = 2, link 2   x: phl_sew a+5, b+4     y: a+2, b+0
+ *     n = 3, link 3   x: phl_sew a+25, b+24   y: a+10, b+8     z: a+4, b+0
+ *
+ *
+ * 4. Buffers
+ *
+ *   table    table_len entries, four to a slot; at most PHL_MAX_ENTRIES. Fill it with PHL_UNUSED.
+ *   marks    marks_len bytes, one to a slot: marks_len = table_len / 4. What they hold is not read.
+ *   journal  journal_len words, 2 to PHL_MAX_JOURNAL. To begin: journal[0] = journal[1] = PHL_FRESH.
+ *            Word 0 is the cursor, word 1 the end; from then on only the calls write it.
  *   place, count   where the call stores place and count.
  *
- * Steps. phl_add, phl_sew, phl_unsew, phl_remove and phl_split are operations. An accepted one
- * writes a record of its changes, a step that can be undone and redone: k, the tag, k triples
- * (table entry, old value, new value) by rising entry, and k again, 3k+3 words at the cursor. The
- * tag is any number of the caller's, to name the step by; phl_undo and phl_redo give it back as
- * place. No operation needs more than 786,437 words in a fresh journal. Journals that were written
- * before records had a tag cannot be read: start a fresh one.
+ * What the caller owes: lengths are in elements, not in bytes, and are those of the buffers; each
+ * pointer is aligned to its elements; no two buffers of one call overlap, place and count included;
+ * no pointer is null, but that a buffer of length 0 may have a null pointer. Nothing else: a call
+ * takes any content of its buffers and any numbers, and ends in an answer.
  *
- * What the caller owes: lengths are in elements, not in bytes, and are those of the buffers. No
- * pointer is null, also where its length is 0; each is aligned to its elements; no two of the
- * buffers of one call overlap, place and count included.
  *
- * A refusal has place 0 but for 5, 24, 25, 26 and 8, and count 0 but for 5, 24, 25 and 26. It
- * changes no buffer, but that phl_remove and phl_split refused by 13, 14 or 15 leave the sheet's
- * marks.
+ * 5. Answers
  *
- * A call takes at most 300,000 bytes of stack, and at most 16,384 on a table of up to 2,048 slots
- * (bench/README.md has the measured figures). There is no global state: calls on different buffers
- * may run on different threads.
+ * Every call returns a number, 0 for accepted, else the reason why it is refused, and stores place
+ * and count. The numbers are those of enum phl_number below, in the order of the checks: the first
+ * that applies is given. A refusal leaves table and journal as they were. Its place is 0 but for 5,
+ * 24, 25, 26 and 8, its count 0 but for 5, 24, 25 and 26. It leaves the marks too, but that
+ * phl_remove and phl_split refused by 13, 14 or 15 leave the sheet's marks.
+ *
+ *
+ * 6. Steps, undo and redo
+ *
+ * phl_add, phl_sew, phl_unsew, phl_remove and phl_split are operations. An accepted one is a step: it
+ * writes a record of the k entries that it changed at the journal's cursor, PHL_RECORD_WORDS(k) =
+ * 3k+3 words: k, the tag, k triples (entry, old value, new value) by rising entry, k. Cursor and end
+ * go behind it, so what was undone before is gone. phl_undo and phl_redo put values back and move the
+ * cursor. The tag is any number of the caller's, to name the step by: undo and redo give it back as
+ * place. How many entries change:
+ *
+ *     phl_add      32 (n = 2), 192 (n = 3)
+ *     phl_sew      2 for each dart of the side: for i = n 4 (n = 2), 16 (n = 3)
+ *     phl_unsew    the same (for a side sewn onto itself, 1 for each)
+ *     phl_remove   4 for each dart removed, the marks 1 and 2, and 1 for each mark 3
+ *     phl_split    9 (n = 2) or 13 (n = 3) for each dart of the sheet
+ *
+ * From a map and a fresh journal, whatever calls follow, the table is what the steps that stand make
+ * of the first table; undo is refused (16) exactly if none stands, redo exactly if none is undone,
+ * and neither by 17. That is proved of buffers that only the calls write. What a program writes
+ * besides, as below to grow a buffer, is its own affair: undo and redo test a record, and that its
+ * result is a map, before they change anything (17).
+ *
+ * 14, too few unused slots: give the table more. Copy it to a longer buffer, fill the new entries
+ * with PHL_UNUSED, use longer marks, keep the journal: slots and records stay what they are.
+ *
+ * 15, no room in the journal: give it more words, up to PHL_MAX_JOURNAL, by copying it to a longer
+ * buffer; or forget the history: journal[0] = journal[1] = PHL_FRESH. The table stays, and nothing
+ * can be undone past that point. A fresh journal of PHL_ANY_STEP words has room for any one step.
+ * To forget only what is undone, so that redo is refused: journal[1] = journal[0].
+ *
+ * To save and load: the buffers are the state. Write the table's entries, and the journal's words
+ * up to journal[1] if undo is to work after loading; there is nothing else. A file may be damaged:
+ * phl_check says whether the table is a map, and no call takes that for granted.
  */
 #ifndef PHLERNSAP_H
 #define PHLERNSAP_H
@@ -42,10 +132,27 @@
 extern "C" {
 #endif
 
+/* The version: MAJOR changes where a program, a table or a journal of before may not fit any more. */
+#define PHL_VERSION_MAJOR 1
+#define PHL_VERSION_MINOR 0
+#define PHL_VERSION "1.0"
+
 /* Each entry of an unused slot. */
 #define PHL_UNUSED UINT32_C(4294967295)
 
-/* The numbers, in the order of the checks: the first that applies is given.
+/* The longest table, in slots and in entries, and the longest journal, in words. */
+#define PHL_MAX_SLOTS 65536
+#define PHL_MAX_ENTRIES 262144
+#define PHL_MAX_JOURNAL 1048576
+
+/* The first two words of a fresh journal. */
+#define PHL_FRESH UINT32_C(2)
+
+/* The words of a record of k changes, and of a fresh journal with room for any one step. */
+#define PHL_RECORD_WORDS(k) (3 * (k) + 3)
+#define PHL_ANY_STEP 786437
+
+/* The numbers, in the order of the checks.
  *
  * 5, 24, 25 and 26 say that the table is not a map. Place is the least slot that breaks a rule, and
  * the number is of the first rule that this slot breaks; count is the index of the least link that
@@ -53,9 +160,10 @@ extern "C" {
 enum phl_number {
     PHL_ACCEPTED = 0,
     PHL_WRONG_DIMENSION = 1,     /* n is not 2 or 3 */
-    PHL_WRONG_TABLE_LENGTH = 2,  /* table_len is no multiple of 4, or above 262,144 */
+    PHL_WRONG_TABLE_LENGTH = 2,  /* table_len is no multiple of 4, or above PHL_MAX_ENTRIES */
     PHL_WRONG_MARKS_LENGTH = 3,  /* marks_len differs from the number of slots */
-    PHL_WRONG_JOURNAL = 4,       /* the journal's length or its first two words are out of rule */
+    PHL_WRONG_JOURNAL = 4,       /* not 2 <= journal_len <= PHL_MAX_JOURNAL, or not
+                                    2 <= cursor <= end <= journal_len */
     PHL_LINK_NOT_LIVE = 5,       /* a link leads to no live slot; so does PHL_UNUSED in a slot that
                                     is half used */
     PHL_LINK_NOT_RETURNED = 24,  /* link i leads to a dart whose link i leads elsewhere */
@@ -69,59 +177,64 @@ enum phl_number {
     PHL_NOT_FREE = 10,           /* d or e is not i-free */
     PHL_FREE = 11,               /* d is i-free */
     PHL_NO_PAIRING = 12,         /* no pairing of the two sides exists */
-    PHL_CROSSES_ITSELF = 13,     /* the layer crosses itself */
+    PHL_CROSSES_ITSELF = 13,     /* the layer crosses itself: some g and g.1 are in the sheet */
     PHL_TOO_FEW_SLOTS = 14,      /* too few unused slots */
-    PHL_NO_ROOM = 15,            /* the record is longer than the words from cursor to length */
+    PHL_NO_ROOM = 15,            /* the record is longer than the words from cursor to journal_len */
     PHL_NO_RECORD = 16,          /* nothing to undo, or to redo */
     PHL_BROKEN_RECORD = 17       /* the record is broken, or its result is no map */
 };
 
-/* Whether the table is a map. Count: 1 for a map, 2 for a block map: each cell is a quad (n = 2) or
- * a hexahedron (n = 3), and no side of it is sewn onto itself. Numbers: 1 2 5 24 25 26. */
+/* Whether the table is a map. Count: 1 for a map, 2 for a block map. Numbers: 1 2 5 24 25 26. */
 uint32_t phl_check(uint32_t n, const uint32_t *table, size_t table_len,
                    uint32_t *place, uint32_t *count);
 
-/* What is reached from d by the links whose bit the mask has. Marks: 1 reached, 0 otherwise.
- * Count: darts reached. Place: 1 + the missing index if the mask has exactly n ones, else 0.
+/* What is reached from d by the links whose bit the mask has: bit i, of value 2^i, permits link i.
+ * Marks: 1 reached, 0 otherwise. Count: darts reached. Place: 1 + the missing index if the mask has
+ * exactly n ones, else 0. All links but i give the vertex, edge, face or block of d (i = 0, 1, 2, 3).
  * Numbers: 1 2 3 5 24 25 26 6 7. */
 uint32_t phl_orbit(uint32_t n, const uint32_t *table, size_t table_len,
                    uint8_t *marks, size_t marks_len, uint32_t mask, uint32_t d,
                    uint32_t *place, uint32_t *count);
 
-/* The sheet of d, the cells that it goes through, and what touches them. Marks: 1 in the sheet, 2
- * at the other darts of these cells, 3 at each dart outside them whose link n leads into them, 0
- * elsewhere. Count: size of the sheet. Numbers: 1 2 3 5 24 25 26 7 8. */
+/* The sheet of d, its layer, and what touches the layer. Marks: 1 in the sheet, 2 at the other darts
+ * of the layer, 3 at each dart outside it whose link n leads into it, 0 elsewhere. Count: darts of
+ * the sheet, 4 (n = 2) or 16 (n = 3) in each cell that it passes once.
+ * Numbers: 1 2 3 5 24 25 26 7 8. */
 uint32_t phl_sheet(uint32_t n, const uint32_t *table, size_t table_len,
                    uint8_t *marks, size_t marks_len, uint32_t d,
                    uint32_t *place, uint32_t *count);
 
-/* Adds one free cell in the lowest unused slots. Place: its first slot. Count: 8 or 48.
- * Numbers: 1 2 4 5 24 25 26 14 15. */
+/* Adds one free cell: its k-th dart in the k-th lowest unused slot. Place: its first slot. Count: 8
+ * or 48. Numbers: 1 2 4 5 24 25 26 14 15. */
 uint32_t phl_add(uint32_t n, uint32_t *table, size_t table_len,
                  uint32_t *journal, size_t journal_len, uint32_t tag,
                  uint32_t *place, uint32_t *count);
 
-/* Sews the side of d to the side of e by link i. Count: entries changed.
- * Numbers: 1 2 4 5 24 25 26 6 7 9 10 12 15. */
+/* Sews the side of d to the side of e by link i, d to e: every other dart of the one side to that of
+ * the other which the same links lead to. It is refused by 12 exactly if the sides do not fit so.
+ * Count: entries changed. Numbers: 1 2 4 5 24 25 26 6 7 9 10 12 15. */
 uint32_t phl_sew(uint32_t n, uint32_t *table, size_t table_len,
                  uint32_t *journal, size_t journal_len, uint32_t tag,
                  uint32_t i, uint32_t d, uint32_t e, uint32_t *place, uint32_t *count);
 
-/* Makes each dart of d's side and its partner i-free. Count: entries changed.
- * Numbers: 1 2 4 5 24 25 26 6 7 11 15. */
+/* Makes each dart of d's side for link i, and the dart that its link i leads to, i-free. Count:
+ * entries changed. Numbers: 1 2 4 5 24 25 26 6 7 11 15. */
 uint32_t phl_unsew(uint32_t n, uint32_t *table, size_t table_len,
                    uint32_t *journal, size_t journal_len, uint32_t tag,
                    uint32_t i, uint32_t d, uint32_t *place, uint32_t *count);
 
-/* Removes the layer of cells that the sheet of d goes through, and links what lay on either side
- * of it. Marks: as phl_sheet gives them before the change; the darts with 1 and 2 are removed, and
- * link n of each dart with 3 changes. Count: darts removed. Numbers: 1 2 3 4 5 24 25 26 7 8 15. */
+/* Removes the layer of d: its slots become unused, and what lay on either side of it is linked; a
+ * dart beyond which the layer was free becomes n-free. Marks: as phl_sheet gives them before the
+ * change; the darts with 1 and 2 are removed, and link n of each dart with 3 changes. A layer that
+ * crosses itself is removed like any other. Count: darts removed.
+ * Numbers: 1 2 3 4 5 24 25 26 7 8 15. */
 uint32_t phl_remove(uint32_t n, uint32_t *table, size_t table_len,
                     uint8_t *marks, size_t marks_len, uint32_t *journal, size_t journal_len,
                     uint32_t tag, uint32_t d, uint32_t *place, uint32_t *count);
 
-/* Splits each cell of the layer of d in two. Marks: as phl_sheet gives them before the change.
- * Place: the first new slot. Count: darts added. Numbers: 1 2 3 4 5 24 25 26 7 8 13 14 15. */
+/* Splits each cell of the layer of d in two, across d's edge. Each dart g of the sheet, rising, gets
+ * n new darts in the lowest unused slots. Marks: as phl_sheet gives them before the change. Place:
+ * the first new slot. Count: darts added. Numbers: 1 2 3 4 5 24 25 26 7 8 13 14 15. */
 uint32_t phl_split(uint32_t n, uint32_t *table, size_t table_len,
                    uint8_t *marks, size_t marks_len, uint32_t *journal, size_t journal_len,
                    uint32_t tag, uint32_t d, uint32_t *place, uint32_t *count);

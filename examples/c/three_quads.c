@@ -4,7 +4,7 @@
 #include <stdio.h>
 #include <stdlib.h>
 
-#include "../../include/phlernsap.h"
+#include "phlernsap.h"
 
 enum { SLOTS = 24, ENTRIES = 4 * SLOTS, WORDS = 1024 };
 
