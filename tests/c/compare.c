@@ -2,12 +2,12 @@
  *
  *   compare [SEED [ROUNDS]]
  *
- * A round is a table, a journal and a run of calls on them; some of the calls are given something bad.
- * Both are lent the same buffers: number, place, count and all words of table, marks and journal must
- * come out alike, and the words before and behind each buffer must stay. At the end each number that
- * the header lists for a call must have come up, so that no part of the comparison is empty; another
- * number must not. numbers.h is what the header's lines "Numbers:" say, as strings, in the calls' order;
- * the script `run` makes it. */
+ * A round is a table, a journal and a run of calls on them; some calls are given something bad.
+ * Both are lent the same buffers: number, place, count and all of table, marks and journal must
+ * come out alike, and what stands before and behind each buffer must stay. Each number that the
+ * header lists for a call must come up, so that no part of the comparison is empty, and no other
+ * may. numbers.h, which the script `run` makes, has the header's lines "Numbers:" as strings, with
+ * a blank before and behind each number. */
 #include <inttypes.h>
 #include <stdio.h>
 #include <stdlib.h>
@@ -89,16 +89,18 @@ static unsigned long calls;
 /* Tells where a difference was found; the caller tells what differs. */
 static void tell_call(const request *q)
 {
-    printf("DIFFERENT: seed %" PRIu64 ", round %" PRIu64 ", call %lu: %s n=%" PRIu32 " tag=%" PRIu32
-           " i=%" PRIu32 " mask=%" PRIu32 " d=%" PRIu32 " e=%" PRIu32 ", %zu entries, %zu marks, %zu"
-           " words", seed, round_now, calls, call_name[q->call], q->n, q->tag, q->i, q->mask, q->d, q->e,
-           q->table_len, q->marks_len, q->journal_len);
+    printf("DIFFERENT: seed %" PRIu64 ", round %" PRIu64 ", call %lu: ", seed, round_now, calls);
+    printf("%s n=%" PRIu32 " i=%" PRIu32 " mask=%" PRIu32 " d=%" PRIu32 " e=%" PRIu32,
+           call_name[q->call], q->n, q->i, q->mask, q->d, q->e);
+    printf(" tag=%" PRIu32 ", %zu entries, %zu marks, %zu words", q->tag, q->table_len,
+           q->marks_len, q->journal_len);
     if (q->journal_len >= 2)
         printf(", cursor %" PRIu32 ", end %" PRIu32, q->journal[0], q->journal[1]);
     printf("\n");
 }
 
-static void fail_word(const request *q, const char *what, size_t at, uint32_t yard, uint32_t library)
+static void fail_word(const request *q, const char *what, size_t at, uint32_t yard,
+                      uint32_t library)
 {
     tell_call(q);
     printf("%s (at %zu): yardstick %" PRIu32 ", library %" PRIu32 "\n", what, at, yard, library);
@@ -136,23 +138,17 @@ static unsigned long came_up[CALLS][PAST_NUMBERS];
 /* Whether the header lists the number for the call. */
 static int listed(enum call call, uint32_t number)
 {
-    const char *at = numbers[call];
-    char *end;
-    if (number == PHL_ACCEPTED)
-        return 1;
-    for (uint32_t x = (uint32_t)strtoul(at, &end, 10); end != at; x = (uint32_t)strtoul(at, &end, 10)) {
-        if (x == number)
-            return 1;
-        at = end;
-    }
-    return 0;
+    char word[16];
+    snprintf(word, sizeof word, " %" PRIu32 " ", number);
+    return number == PHL_ACCEPTED || strstr(numbers[call], word) != NULL;
 }
 
 /* What the header says of every refusal; c has the buffers as they were left. */
 static void must_be_a_refusal(const request *q, const request *c, answer a)
 {
     int not_a_map = a.no == PHL_LINK_NOT_LIVE || a.no >= PHL_LINK_NOT_RETURNED;
-    int leaves_marks = a.no == PHL_CROSSES_ITSELF || a.no == PHL_TOO_FEW_SLOTS || a.no == PHL_NO_ROOM;
+    int leaves_marks = a.no == PHL_CROSSES_ITSELF || a.no == PHL_TOO_FEW_SLOTS
+                    || a.no == PHL_NO_ROOM;
     if (a.place != 0 && !not_a_map && a.no != PHL_NO_BLOCK_MAP)
         fail_text(q, "both", "place", "is not 0");
     if (a.count != 0 && !not_a_map)
@@ -164,14 +160,14 @@ static void must_be_a_refusal(const request *q, const request *c, answer a)
     }
 }
 
-/* Runs the call on both, and fails if they differ. The yardstick's request, with what it left, goes to
- * *left. */
+/* Runs the call on both, and fails if they differ. *left is the yardstick's request, with the
+ * buffers as it left them. */
 static answer held(const request *q, const size_t shift[BUFFERS], request *left)
 {
     request c[BOTH];
     answer a[BOTH];
     for (int who = 0; who < BOTH; who++) {
-        uint32_t out[5] = {1, 2, 3, 4, 5};            /* place and count are the second and the fourth */
+        uint32_t out[5] = {1, 2, 3, 4, 5};          /* place is the second, count the fourth */
         c[who] = lent(q, who, shift);
         a[who].no = runs[who](&c[who], &out[1], &out[3]);
         a[who].place = out[1];
@@ -211,8 +207,8 @@ static void keep(const request *q, const request *left)
     memcpy(q->journal, left->journal, 4 * q->journal_len);
 }
 
-/* One call, good or bad. An accepted operation is now and then held again with a journal that has just
- * room for its record, or a word too few. */
+/* One call, good or bad. An accepted operation is now and then held again, with a journal that has
+ * just room for its record, or a word too few. */
 static void turn(const request *scene, rng *r)
 {
     request q = *scene, left;
@@ -241,7 +237,7 @@ static void turn(const request *scene, rng *r)
 /* Most tables are small. The library has buffers of its own of 2,048, 16,384 and 65,536 slots. */
 static uint32_t slots_of_round(uint64_t x)
 {
-    return x % 50 == 10 ? 2048 : x % 250 == 20 ? 16384 : x % 500 == 30 ? 65536 : 0;
+    return x % 50 == 10 ? 2048 : x % 250 == 20 ? 16384 : x % 400 == 30 ? 65536 : 0;
 }
 
 static void play(uint64_t round)
@@ -255,31 +251,39 @@ static void play(uint64_t round)
 
 /* ---------------------------------------------------------------- null pointers */
 
-/* Buffers of length 0: a null pointer answers as another one does. */
+/* The library is given these buffers, the yardstick the same without null pointers. */
+static void try_null(request q)
+{
+    static uint32_t no_word[1];
+    static uint8_t no_mark[1];
+    request plain = q;
+    answer a = {0, 0, 0}, b = {0, 0, 0};
+    plain.table = no_word;
+    plain.marks = no_mark;
+    plain.journal = q.journal != NULL ? q.journal : no_word;
+    a.no = run_library(&q, &a.place, &a.count);
+    b.no = run_yard(&plain, &b.place, &b.count);
+    calls++;
+    if (a.no != b.no || a.place != b.place || a.count != b.count)
+        fail_text(&plain, "library", "a null pointer", "gives another answer");
+    if (q.call == CHECK && (q.n == 2 || q.n == 3) && a.count != 2)
+        fail_text(&plain, "both", "no slot", "is no block map");
+    if (q.call >= ADD && (q.n == 2 || q.n == 3) && q.journal_len == 0 && a.no != PHL_WRONG_JOURNAL)
+        fail_text(&plain, "both", "a journal of no words", "is taken");
+}
+
+/* Null pointers for no slots and no marks, and for a journal of no words or not for a fresh one. */
 static void try_null_pointers(void)
 {
-    static uint32_t no_words[1], fresh[2] = {2, 2};
-    static uint8_t no_marks[1];
-    static const struct { uint32_t *at; size_t len; } journals[3] = {{NULL, 0}, {no_words, 0}, {fresh, 2}};
-    for (int x = 0; x < CALLS * 4 * 4 * 3; x++) {
-        request q = {(enum call)(x % CALLS), (uint32_t)(x / CALLS % 4), NULL, 0, NULL, 0, NULL, 0, 1, 1, 0, 0, 7};
-        int kind = x / CALLS / 4;
-        q.journal = journals[kind / 4].at;
-        q.journal_len = journals[kind / 4].len;
-        q.table = kind % 2 ? no_words : NULL;
-        q.marks = kind / 2 % 2 ? no_marks : NULL;
-        request plain = q;
-        plain.table = no_words;
-        plain.marks = no_marks;
-        plain.journal = q.journal ? q.journal : no_words;
-        answer a, b;
-        a.no = run_library(&q, &a.place, &a.count);
-        b.no = run_yard(&plain, &b.place, &b.count);
-        calls++;
-        if (a.no != b.no || a.place != b.place || a.count != b.count)
-            fail_word(&plain, "number, with a null pointer", 0, b.no, a.no);
-        if (q.call == CHECK && q.n > 1 && a.count != 2)
-            fail_text(&plain, "both", "no slot", "is no block map");
+    static uint32_t fresh[2] = {PHL_FRESH, PHL_FRESH};
+    for (int call = 0; call < CALLS; call++) {
+        for (uint32_t n = 0; n < 4; n++) {
+            request q = {(enum call)call, n, NULL, 0, NULL, 0, NULL, 0, 1, 1, 0, 0, 7};
+            try_null(q);
+            q.journal = fresh;
+            q.journal_len = 2;
+            try_null(q);
+        }
     }
 }
 
@@ -288,15 +292,17 @@ static void try_null_pointers(void)
 /* How often each call gave each number; 0 if some number never came up. */
 static int tell_numbers(void)
 {
-    static const uint32_t order[] = {0, 1, 2, 3, 4, 5, 24, 25, 26, 6, 7, 8, 9, 10, 11, 12, 13, 14, 15, 16, 17};
+    static const uint32_t order[] = {0, 1,  2,  3,  4,  5,  24, 25, 26, 6, 7,
+                                     8, 9, 10, 11, 12, 13, 14, 15, 16, 17};
+    const size_t len = sizeof order / sizeof *order;
     int complete = 1;
     printf("%-6s", "");
-    for (size_t x = 0; x < sizeof order / sizeof *order; x++)
+    for (size_t x = 0; x < len; x++)
         printf("%6" PRIu32, order[x]);
     printf("\n");
     for (int call = 0; call < CALLS; call++) {
         printf("%-6s", call_name[call]);
-        for (size_t x = 0; x < sizeof order / sizeof *order; x++) {
+        for (size_t x = 0; x < len; x++) {
             if (!listed((enum call)call, order[x])) {
                 printf("%6s", "-");
                 continue;

@@ -1,5 +1,5 @@
-/* header.c - includes the header, twice, and names all that it has. The script `run` compiles it as C and
- * as C++. */
+/* header.c - includes the header, twice, and names all that it has. The script `run` compiles it as
+ * C and as C++. */
 #include "phlernsap.h"
 #include "phlernsap.h"
 

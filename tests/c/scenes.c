@@ -6,6 +6,8 @@
 static uint32_t table[TABLE_ROOM], journal[JOURNAL_ROOM];
 static uint8_t marks[MARKS_ROOM];
 
+static uint32_t slots_of(const request *q) { return (uint32_t)(q->table_len / 4); }
+
 /* ---------------------------------------------------------------- drawing */
 
 int one_in(rng *r, uint32_t times) { return rng_below(r, times) == 0; }
@@ -31,18 +33,35 @@ static void make_grid(uint32_t n, uint32_t cells, uint32_t *to, uint32_t slots, 
     map_grid(n, size, to, slots);
 }
 
-/* Two rings or more, which two links make; some are cut, and are paths then. */
+/* Two rings or more, which two links make. The first two may be sewn, if they are faces; else some
+ * rings may be cut, and are paths then. */
 static void make_rings(uint32_t n, uint32_t *to, uint32_t slots, rng *r)
 {
-    uint32_t most = slots / 4, j = rng_below(r, n);
+    uint32_t most = slots / 4, j = n == 3 ? ONE_OF(r, 0, 0, 0, 1, 2) : rng_below(r, 2);
     uint32_t len = 2 * (one_in(r, 2) ? most : 1 + rng_below(r, most));
     map_rings(slots / len, len, j, j + 1, to);
-    for (uint32_t cuts = rng_below(r, 4); cuts > 0; cuts--) {
+    if (n == 3 && j == 0 && one_in(r, 2)) {
+        map_glue(3, to, 0, len);
+        return;
+    }
+    for (uint32_t cuts = ONE_OF(r, 0, 0, 1, 2); cuts > 0; cuts--) {
         uint32_t *link = to + j + rng_below(r, 2);
         uint32_t x = rng_below(r, slots / len * len), y = link[4 * x];
         link[4 * x] = x;
         link[4 * y] = y;
     }
+}
+
+/* In a map of cells a side is sewn onto itself, so that it is folded; or not even a map is left. */
+static void fold(uint32_t n, uint32_t cells, uint32_t *to, rng *r)
+{
+    uint32_t d = rng_below(r, cells * cell_darts(n)), e = d;
+    uint32_t steps = n == 2 ? 1 : 1 + rng_below(r, 7);
+    if (to[4 * d + n] != d)
+        return;
+    for (uint32_t t = 0; t < steps; t++)
+        e = to[4 * e + t % 2];
+    map_glue(n, to, d, e);
 }
 
 /* Each link leads there and back, but pairs need not commute. */
@@ -71,9 +90,9 @@ enum kind { EMPTY, RINGS, MATCHES, NUMBERS, GRID, RANDOM };
 static void make_table(uint32_t n, uint32_t cells, uint32_t *to, uint32_t slots, rng *r)
 {
     enum kind kind = cells == 0  ? ONE_OF(r, EMPTY, RINGS, MATCHES, NUMBERS)
-                   : slots < 500 ? ONE_OF(r, EMPTY, EMPTY, RINGS, MATCHES, NUMBERS, GRID, GRID, GRID,
-                                          RANDOM, RANDOM, RANDOM, RANDOM)
-                                 : ONE_OF(r, EMPTY, RINGS, RINGS, GRID, GRID, RANDOM, RANDOM);
+                   : slots < 500 ? ONE_OF(r, EMPTY, EMPTY, RINGS, MATCHES, NUMBERS, GRID, GRID,
+                                          GRID, RANDOM, RANDOM, RANDOM, RANDOM)
+                   : ONE_OF(r, EMPTY, RINGS, RINGS, RINGS, GRID, GRID, RANDOM, RANDOM);
     map_clear(to, slots);
     if (kind == RINGS && slots >= 4)
         make_rings(n, to, slots, r);
@@ -85,6 +104,8 @@ static void make_table(uint32_t n, uint32_t cells, uint32_t *to, uint32_t slots,
         make_grid(n, cells, to, slots, r);
     else if (kind == RANDOM)
         map_random(n, cells, ONE_OF(r, 0, 50, 80, 100), to, slots, r);
+    if ((kind == GRID || kind == RANDOM) && one_in(r, 8))
+        fold(n, cells, to, r);
     if (one_in(r, 3))
         map_shuffle(to, slots, r);
 }
@@ -93,33 +114,58 @@ static void make_table(uint32_t n, uint32_t cells, uint32_t *to, uint32_t slots,
 
 static void make_fresh_journal(request *q, uint32_t about, rng *r)
 {
-    q->journal_len = about > 0 ? ONE_OF(r, 4000, 786437, MAX_JOURNAL)
+    q->journal_len = about > 0 ? ONE_OF(r, 4000, PHL_ANY_STEP, PHL_MAX_JOURNAL)
                    : q->n == 2 ? ONE_OF(r, 2, 3, 100, 300, 1000, 3000)
                                : ONE_OF(r, 2, 600, 1200, 3000, 6000, 6000);
     memset(journal, 9, 4 * q->journal_len);
     for (uint32_t x = 2; x < 100; x++)
         journal[x] = rng_below(r, 4);
-    journal[0] = journal[1] = 2;
+    journal[0] = journal[1] = PHL_FRESH;
 }
 
-/* One record, from the table to another one of the same size: before the cursor or at it. */
+/* The table with a few links changed. */
+static void make_near(const request *q, uint32_t *to, rng *r)
+{
+    uint32_t slots = slots_of(q);
+    memcpy(to, table, 4 * q->table_len);
+    for (uint32_t changes = 1 + rng_below(r, 2); changes > 0 && slots > 0; changes--) {
+        uint32_t d = rng_below(r, slots), i = rng_below(r, q->n + 1), e = rng_below(r, slots);
+        uint32_t old = to[4 * d + i];
+        to[4 * d + i] = ONE_OF(r, d, d, e, NONE);
+        if (one_in(r, 2) && old < slots)
+            to[4 * old + i] = old;
+    }
+}
+
+static uint32_t *put(uint32_t *at, uint32_t entry, uint32_t old, uint32_t new)
+{
+    at[0] = entry;
+    at[1] = old;
+    at[2] = new;
+    return at + 3;
+}
+
+/* One record, from the table to another one: before the cursor or at it. At one entry it may have a
+ * triple too many: one that changes nothing, or the same again. */
 static void make_record(request *q, uint32_t cells, rng *r)
 {
     static uint32_t other[MAX_ENTRIES];
-    uint32_t k = 0, *at = journal + 4, slots = (uint32_t)(q->table_len / 4);
-    make_table(q->n, cells, other, slots, r);
+    uint32_t slots = slots_of(q), *at = journal + 4;
+    uint32_t odd = one_in(r, 2) ? rng_below(r, 4 * slots) : NONE;
+    if (one_in(r, 2))
+        make_near(q, other, r);
+    else
+        make_table(q->n, cells, other, slots, r);
     for (uint32_t x = 0; x < q->table_len; x++) {
-        if (table[x] == other[x])
-            continue;
-        *at++ = x;
-        *at++ = table[x];
-        *at++ = other[x];
-        k++;
+        if (table[x] != other[x])
+            at = put(at, x, table[x], other[x]);
+        if (x == odd)
+            at = put(at, x, table[x], other[x]);
     }
-    *at = journal[2] = k;
+    *at = journal[2] = (uint32_t)(at - (journal + 4)) / 3;
     journal[3] = any(r);
-    journal[0] = 2;
-    journal[1] = 5 + 3 * k;
+    journal[0] = PHL_FRESH;
+    journal[1] = (uint32_t)(at - journal) + 1;
     q->journal_len = journal[1] + rng_below(r, 100);
     if (one_in(r, 2)) {
         journal[0] = journal[1];
@@ -131,7 +177,7 @@ static void make_record(request *q, uint32_t cells, rng *r)
 
 request scene_new(rng *r, uint32_t about)
 {
-    uint32_t n = 2 + rng_below(r, 2), k = cell_darts(n), slots, cells;
+    uint32_t n = ONE_OF(r, 2, 3, about == 0 ? 2 : 3), k = cell_darts(n), slots, cells;
     if (about == 0) {
         cells = rng_below(r, n == 2 ? 7 : 5);
         slots = k * cells + rng_below(r, n == 2 ? 32 : 112);
@@ -150,8 +196,6 @@ request scene_new(rng *r, uint32_t about)
 }
 
 /* ---------------------------------------------------------------- arguments */
-
-static uint32_t slots_of(const request *q) { return (uint32_t)(q->table_len / 4); }
 
 /* A number that is no slot. */
 static uint32_t no_slot(const request *q, rng *r)
@@ -246,9 +290,9 @@ static void spoil_length(request *q, rng *r)
         if (!one_in(r, 100))
             break;
         if (one_in(r, 2))
-            q->table_len = MAX_ENTRIES + ONE_OF(r, 0, 1, 4);
+            q->table_len = PHL_MAX_ENTRIES + ONE_OF(r, 0, 1, 4);
         else
-            q->journal_len = MAX_JOURNAL + ONE_OF(r, 0, 1);
+            q->journal_len = PHL_MAX_JOURNAL + ONE_OF(r, 0, 1);
     }
 }
 
@@ -272,7 +316,8 @@ static void spoil_argument(request *q, rng *r)
 /* An entry leads elsewhere: to a slot, to none, or it is as in an unused slot. */
 static void spoil_entry(const request *q, rng *r)
 {
-    uint32_t *at = q->table + rng_below(r, (uint32_t)q->table_len), slot = rng_below(r, slots_of(q));
+    uint32_t *at = q->table + rng_below(r, (uint32_t)q->table_len);
+    uint32_t slot = rng_below(r, slots_of(q));
     spoil(at, ONE_OF(r, slot, slot, *at ^ 1, slots_of(q), NONE, any(r)));
 }
 
@@ -304,18 +349,25 @@ static void spoil_cursor_or_end(const request *q, rng *r)
                      rng_below(r, len + 1)));
 }
 
-/* A word of a record: one next to the cursor, or any. */
+/* A word of a record: one next to the cursor, or any. Or the counts next to the cursor are so large
+ * that 3k+3 does not fit in 32 bits. */
 static void spoil_record(const request *q, rng *r)
 {
     uint32_t cursor = journal[0], end = journal[1];
     if (end > q->journal_len || cursor > end || end < 4)
         return;
+    if (one_in(r, 10) && cursor >= 4) {
+        uint32_t k = ONE_OF(r, 1431655765, 1431655766, UINT32_C(2863311531), NONE);
+        for (uint32_t at = cursor - 2; at < cursor + 2; at++)
+            spoil(journal + at, k);
+        return;
+    }
     uint32_t at = one_in(r, 2) ? cursor - 3 + rng_below(r, 8) : 2 + rng_below(r, end - 2);
     if (at < 2 || at >= end)
         return;
     uint32_t word = journal[at], entries = (uint32_t)q->table_len, entry = rng_below(r, entries);
-    spoil(journal + at, ONE_OF(r, 0, 1, 2, word + 1, word - 1, word ^ 1, word + 4, entry, entries, NONE,
-                               any(r)));
+    spoil(journal + at, ONE_OF(r, 0, 1, 2, word + 1, word - 1, word ^ 1, word + 4, entry, entries,
+                               NONE, any(r)));
 }
 
 void scene_spoil(request *q, rng *r)

@@ -1,5 +1,5 @@
-/* scenes.h - what the calls are tried on: tables, journals and arguments, good ones and bad ones, all
- * drawn from one stream of numbers. */
+/* scenes.h - what the calls are tried on: tables, journals and arguments, good ones and bad ones,
+ * all drawn from one stream of numbers. */
 #ifndef SCENES_H
 #define SCENES_H
 
@@ -8,13 +8,13 @@
 
 /* Room also for lengths that the calls refuse. */
 enum {
-    TABLE_ROOM = MAX_ENTRIES + 8,
-    MARKS_ROOM = MAX_SLOTS + 8,
-    JOURNAL_ROOM = MAX_JOURNAL + 8
+    TABLE_ROOM = PHL_MAX_ENTRIES + 8,
+    MARKS_ROOM = PHL_MAX_SLOTS + 8,
+    JOURNAL_ROOM = PHL_MAX_JOURNAL + 8
 };
 
-/* A table and a journal, in buffers that the next scene takes over. `about` is the number of slots, up
- * to eight more or fewer; 0 is for a few. */
+/* A table and a journal, in buffers that the next scene takes over. `about` is the number of slots,
+ * up to eight more or fewer; 0 is for a few. */
 request scene_new(rng *r, uint32_t about);
 
 /* A call, with arguments that are good ones most often. */

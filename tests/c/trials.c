@@ -1,5 +1,5 @@
-/* trials.c - plays crates/trials/stdin with the yardstick's calls, and prints what crates/trials/stdout
- * has: standard input to standard output. The head of that script says what its lines do. */
+/* trials.c - plays crates/trials/stdin with the yardstick's calls, standard input to standard
+ * output: it works out crates/trials/stdout. The head of that script says what its lines do. */
 #include <stdio.h>
 #include <stdlib.h>
 #include <string.h>
@@ -100,7 +100,8 @@ static void play_tile(uint32_t first, uint32_t width)
 static int is(const char *line, const char *word, int count)
 {
     size_t len = strlen(word);
-    return numbers == count && strncmp(line, word, len) == 0 && (line[len] == 0 || line[len] == ' ');
+    return numbers == count && strncmp(line, word, len) == 0
+        && (line[len] == 0 || line[len] == ' ');
 }
 
 /* Whether the line is a call; its arguments go to q. */
