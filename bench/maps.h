@@ -1,4 +1,4 @@
-/* maps.h - building maps directly, for bench.c and stack.c. No kernel call is used here. */
+/* maps.h - building maps directly, for bench.c, stack.c and tests/c. No kernel call is used here. */
 #ifndef MAPS_H
 #define MAPS_H
 

@@ -1,0 +1,336 @@
+/* compare.c - holds the library (phl_) to the yardstick (yard_), call by call.
+ *
+ *   compare [SEED [ROUNDS]]
+ *
+ * A round is a table, a journal and a run of calls on them; some calls are given something bad.
+ * Both are lent the same buffers: number, place, count and all of table, marks and journal must
+ * come out alike, and what stands before and behind each buffer must stay. Each number that the
+ * header lists for a call must come up, so that no part of the comparison is empty, and no other
+ * may. numbers.h, which the script `run` makes, has the header's lines "Numbers:" as strings, with
+ * a blank before and behind each number. */
+#include <inttypes.h>
+#include <stdio.h>
+#include <stdlib.h>
+#include <string.h>
+
+#include "scenes.h"
+
+static const char *const numbers[] = {
+#include "numbers.h"
+};
+
+DEFINE_RUN(run_yard, yard_)
+DEFINE_RUN(run_library, phl_)
+
+enum { YARD, LIBRARY, BOTH };
+
+static run_fn *const runs[BOTH] = {run_yard, run_library};
+static const char *const run_name[BOTH] = {"yardstick", "library"};
+
+/* ---------------------------------------------------------------- buffers */
+
+enum { TABLE, MARKS, JOURNAL, BUFFERS };
+
+typedef struct {
+    const char *name;
+    void *at;
+    size_t bytes, unit;              /* all of it, and one element */
+} buffer;
+
+static buffer buffer_of(const request *q, int which)
+{
+    switch (which) {
+    case TABLE:
+        return (buffer){"table", q->table, 4 * q->table_len, 4};
+    case MARKS:
+        return (buffer){"marks", q->marks, q->marks_len, 1};
+    default:
+        return (buffer){"journal", q->journal, 4 * q->journal_len, 4};
+    }
+}
+
+/* Of each buffer, a copy for each implementation, with guards before and behind it. */
+enum { GUARD = 32, GUARD_BYTE = 0xA5, MOST_SHIFT = 7 };
+
+static uint32_t room[BOTH][BUFFERS][JOURNAL_ROOM + (2 * GUARD + MOST_SHIFT) / 4 + 1];
+
+/* A copy of b that begins `shift` elements further than the room's first guard ends. */
+static void *copied(uint32_t *to, buffer b, size_t shift)
+{
+    uint8_t *at = (uint8_t *)to + shift * b.unit + GUARD;
+    memset(at - GUARD, GUARD_BYTE, GUARD);
+    memcpy(at, b.at, b.bytes);
+    memset(at + b.bytes, GUARD_BYTE, GUARD);
+    return at;
+}
+
+static request lent(const request *q, int who, const size_t shift[BUFFERS])
+{
+    request c = *q;
+    c.table = copied(room[who][TABLE], buffer_of(q, TABLE), shift[TABLE]);
+    c.marks = copied(room[who][MARKS], buffer_of(q, MARKS), shift[MARKS]);
+    c.journal = copied(room[who][JOURNAL], buffer_of(q, JOURNAL), shift[JOURNAL]);
+    return c;
+}
+
+static int guards_stand(buffer b)
+{
+    static uint8_t guard[GUARD];
+    memset(guard, GUARD_BYTE, GUARD);
+    return memcmp((uint8_t *)b.at - GUARD, guard, GUARD) == 0
+        && memcmp((uint8_t *)b.at + b.bytes, guard, GUARD) == 0;
+}
+
+/* ---------------------------------------------------------------- differences */
+
+static uint64_t seed, round_now;
+static unsigned long calls;
+
+/* Tells where a difference was found; the caller tells what differs. */
+static void tell_call(const request *q)
+{
+    printf("DIFFERENT: seed %" PRIu64 ", round %" PRIu64 ", call %lu: ", seed, round_now, calls);
+    printf("%s n=%" PRIu32 " i=%" PRIu32 " mask=%" PRIu32 " d=%" PRIu32 " e=%" PRIu32,
+           call_name[q->call], q->n, q->i, q->mask, q->d, q->e);
+    printf(" tag=%" PRIu32 ", %zu entries, %zu marks, %zu words", q->tag, q->table_len,
+           q->marks_len, q->journal_len);
+    if (q->journal_len >= 2)
+        printf(", cursor %" PRIu32 ", end %" PRIu32, q->journal[0], q->journal[1]);
+    printf("\n");
+}
+
+static void fail_word(const request *q, const char *what, size_t at, uint32_t yard,
+                      uint32_t library)
+{
+    tell_call(q);
+    printf("%s (at %zu): yardstick %" PRIu32 ", library %" PRIu32 "\n", what, at, yard, library);
+    exit(1);
+}
+
+static void fail_text(const request *q, const char *who, const char *what, const char *text)
+{
+    tell_call(q);
+    printf("%s: %s %s\n", who, what, text);
+    exit(1);
+}
+
+static uint32_t element(buffer b, size_t k)
+{
+    return b.unit == 1 ? ((uint8_t *)b.at)[k] : ((uint32_t *)b.at)[k];
+}
+
+static void must_be_same(const request *q, buffer yard, buffer library)
+{
+    size_t k = 0;
+    if (memcmp(yard.at, library.at, yard.bytes) == 0)
+        return;
+    while (element(yard, k) == element(library, k))
+        k++;
+    fail_word(q, yard.name, k, element(yard, k), element(library, k));
+}
+
+/* ---------------------------------------------------------------- one call */
+
+enum { PAST_NUMBERS = 27 };
+
+static unsigned long came_up[CALLS][PAST_NUMBERS];
+
+/* Whether the header lists the number for the call. */
+static int listed(enum call call, uint32_t number)
+{
+    char word[16];
+    snprintf(word, sizeof word, " %" PRIu32 " ", number);
+    return number == PHL_ACCEPTED || strstr(numbers[call], word) != NULL;
+}
+
+/* What the header says of every refusal; c has the buffers as they were left. */
+static void must_be_a_refusal(const request *q, const request *c, answer a)
+{
+    int not_a_map = a.no == PHL_LINK_NOT_LIVE || a.no >= PHL_LINK_NOT_RETURNED;
+    int leaves_marks = a.no == PHL_CROSSES_ITSELF || a.no == PHL_TOO_FEW_SLOTS
+                    || a.no == PHL_NO_ROOM;
+    if (a.place != 0 && !not_a_map && a.no != PHL_NO_BLOCK_MAP)
+        fail_text(q, "both", "place", "is not 0");
+    if (a.count != 0 && !not_a_map)
+        fail_text(q, "both", "count", "is not 0");
+    for (int which = 0; which < BUFFERS; which++) {
+        buffer was = buffer_of(q, which), is = buffer_of(c, which);
+        if (memcmp(was.at, is.at, was.bytes) != 0 && !(which == MARKS && leaves_marks))
+            fail_text(q, "both", was.name, "is changed by a refusal");
+    }
+}
+
+/* Runs the call on both, and fails if they differ. *left is the yardstick's request, with the
+ * buffers as it left them. */
+static answer held(const request *q, const size_t shift[BUFFERS], request *left)
+{
+    request c[BOTH];
+    answer a[BOTH];
+    for (int who = 0; who < BOTH; who++) {
+        uint32_t out[5] = {1, 2, 3, 4, 5};          /* place is the second, count the fourth */
+        c[who] = lent(q, who, shift);
+        a[who].no = runs[who](&c[who], &out[1], &out[3]);
+        a[who].place = out[1];
+        a[who].count = out[3];
+        if (out[0] != 1 || out[2] != 3 || out[4] != 5)
+            fail_text(q, run_name[who], "a word beside place or count", "is written");
+        for (int which = 0; which < BUFFERS; which++)
+            if (!guards_stand(buffer_of(&c[who], which)))
+                fail_text(q, run_name[who], buffer_of(q, which).name, "is written past its ends");
+    }
+    calls++;
+    if (a[YARD].no != a[LIBRARY].no)
+        fail_word(q, "number", 0, a[YARD].no, a[LIBRARY].no);
+    if (a[YARD].place != a[LIBRARY].place)
+        fail_word(q, "place", 0, a[YARD].place, a[LIBRARY].place);
+    if (a[YARD].count != a[LIBRARY].count)
+        fail_word(q, "count", 0, a[YARD].count, a[LIBRARY].count);
+    for (int which = 0; which < BUFFERS; which++)
+        must_be_same(q, buffer_of(&c[YARD], which), buffer_of(&c[LIBRARY], which));
+    if (!listed(q->call, a[YARD].no))
+        fail_text(q, "both", "a number", "that the header does not list for this call");
+    if (a[YARD].no != PHL_ACCEPTED)
+        must_be_a_refusal(q, &c[YARD], a[YARD]);
+    came_up[q->call][a[YARD].no]++;
+    *left = c[YARD];
+    return a[YARD];
+}
+
+/* ---------------------------------------------------------------- rounds */
+
+static int is_operation(enum call call) { return ADD <= call && call <= SPLIT; }
+
+/* The buffers of q become what the call left. */
+static void keep(const request *q, const request *left)
+{
+    memcpy(q->table, left->table, 4 * q->table_len);
+    memcpy(q->journal, left->journal, 4 * q->journal_len);
+}
+
+/* One call, good or bad. An accepted operation is now and then held again, with a journal that has
+ * just room for its record, or a word too few. */
+static void turn(const request *scene, rng *r)
+{
+    request q = *scene, left;
+    size_t shift[BUFFERS];
+    for (int which = 0; which < BUFFERS; which++)
+        shift[which] = rng_below(r, MOST_SHIFT + 1);
+    scene_ask(&q, r);
+    if (one_in(r, 3)) {
+        do
+            scene_spoil(&q, r);
+        while (one_in(r, 3));
+    }
+    answer a = held(&q, shift, &left);
+    if (a.no == PHL_ACCEPTED && is_operation(q.call) && one_in(r, 4)) {
+        size_t tight = left.journal[1] - rng_below(r, 2);
+        if (tight >= q.journal[1]) {
+            q.journal_len = tight;
+            a = held(&q, shift, &left);
+        }
+    }
+    if (a.no == PHL_ACCEPTED)
+        keep(&q, &left);
+    scene_mend(a.no != PHL_ACCEPTED);
+}
+
+/* Most tables are small. The library has buffers of its own of 2,048, 16,384 and 65,536 slots. */
+static uint32_t slots_of_round(uint64_t x)
+{
+    return x % 50 == 10 ? 2048 : x % 250 == 20 ? 16384 : x % 400 == 30 ? 65536 : 0;
+}
+
+static void play(uint64_t round)
+{
+    rng r = rng_from(seed, round);
+    request scene = scene_new(&r, slots_of_round(round));
+    round_now = round;
+    for (uint32_t turns = 8 + rng_below(&r, 9); turns > 0; turns--)
+        turn(&scene, &r);
+}
+
+/* ---------------------------------------------------------------- null pointers */
+
+/* The library is given these buffers, the yardstick the same without null pointers. */
+static void try_null(request q)
+{
+    static uint32_t no_word[1];
+    static uint8_t no_mark[1];
+    request plain = q;
+    answer a = {0, 0, 0}, b = {0, 0, 0};
+    plain.table = no_word;
+    plain.marks = no_mark;
+    plain.journal = q.journal != NULL ? q.journal : no_word;
+    a.no = run_library(&q, &a.place, &a.count);
+    b.no = run_yard(&plain, &b.place, &b.count);
+    calls++;
+    if (a.no != b.no || a.place != b.place || a.count != b.count)
+        fail_text(&plain, "library", "a null pointer", "gives another answer");
+    if (q.call == CHECK && (q.n == 2 || q.n == 3) && a.count != 2)
+        fail_text(&plain, "both", "no slot", "is no block map");
+    if (q.call >= ADD && (q.n == 2 || q.n == 3) && q.journal_len == 0 && a.no != PHL_WRONG_JOURNAL)
+        fail_text(&plain, "both", "a journal of no words", "is taken");
+}
+
+/* Null pointers for no slots and no marks, and for a journal of no words or not for a fresh one. */
+static void try_null_pointers(void)
+{
+    static uint32_t fresh[2] = {PHL_FRESH, PHL_FRESH};
+    for (int call = 0; call < CALLS; call++) {
+        for (uint32_t n = 0; n < 4; n++) {
+            request q = {(enum call)call, n, NULL, 0, NULL, 0, NULL, 0, 1, 1, 0, 0, 7};
+            try_null(q);
+            q.journal = fresh;
+            q.journal_len = 2;
+            try_null(q);
+        }
+    }
+}
+
+/* ---------------------------------------------------------------- the report */
+
+/* How often each call gave each number; 0 if some number never came up. */
+static int tell_numbers(void)
+{
+    static const uint32_t order[] = {0, 1,  2,  3,  4,  5,  24, 25, 26, 6, 7,
+                                     8, 9, 10, 11, 12, 13, 14, 15, 16, 17};
+    const size_t len = sizeof order / sizeof *order;
+    int complete = 1;
+    printf("%-6s", "");
+    for (size_t x = 0; x < len; x++)
+        printf("%6" PRIu32, order[x]);
+    printf("\n");
+    for (int call = 0; call < CALLS; call++) {
+        printf("%-6s", call_name[call]);
+        for (size_t x = 0; x < len; x++) {
+            if (!listed((enum call)call, order[x])) {
+                printf("%6s", "-");
+                continue;
+            }
+            printf("%6lu", came_up[call][order[x]]);
+            complete = complete && came_up[call][order[x]] > 0;
+        }
+        printf("\n");
+    }
+    return complete;
+}
+
+int main(int argc, char **argv)
+{
+    uint64_t rounds = argc > 2 ? strtoull(argv[2], NULL, 10) : 16000;
+    seed = argc > 1 ? strtoull(argv[1], NULL, 10) : 1;
+    if (sizeof numbers / sizeof *numbers != CALLS) {
+        printf("the header has no line of numbers for each call\n");
+        return 1;
+    }
+    printf("seed %" PRIu64 ", %" PRIu64 " rounds\n", seed, rounds);
+    try_null_pointers();
+    for (uint64_t round = 0; round < rounds; round++)
+        play(round);
+    printf("%lu calls alike; how often each gave each number:\n", calls);
+    if (!tell_numbers()) {
+        printf("a number that the header lists never came up\n");
+        return 1;
+    }
+    return 0;
+}

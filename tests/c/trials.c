@@ -1,0 +1,199 @@
+/* trials.c - plays crates/trials/stdin with the yardstick's calls, standard input to standard
+ * output: it works out crates/trials/stdout. The head of that script says what its lines do. */
+#include <stdio.h>
+#include <stdlib.h>
+#include <string.h>
+
+#include "../../bench/impl.h"
+#include "../../bench/maps.h"
+
+DEFINE_RUN(run_yard, yard_)
+
+enum { SLOTS = MAX_SLOTS + 1, WORDS = 8192, LINE = 1000, MOST_NUMBERS = 3 };
+
+static uint32_t table[4 * SLOTS], journal[WORDS];
+static uint8_t marks[SLOTS];
+
+/* What the calls are given from here on. */
+static request given = {CHECK, 0, table, 0, marks, 0, journal, 0, 0, 0, 0, 0, 0};
+
+/* The numbers of the line, and how many it has. */
+static uint32_t number[MOST_NUMBERS];
+static int numbers;
+
+/* ---------------------------------------------------------------- what is printed */
+
+static void show_word(uint32_t word)
+{
+    if (word == NONE)
+        printf(" -");
+    else
+        printf(" %u", (unsigned)word);
+}
+
+static void show_words(const uint32_t *words, size_t from, size_t to)
+{
+    printf(":");
+    for (size_t k = from; k < to; k++)
+        show_word(words[k]);
+}
+
+/* 1, then for each word the value by 31 and the word more, modulo 65,521. */
+static unsigned digest(const uint32_t *words, size_t len)
+{
+    uint64_t value = 1;
+    for (size_t k = 0; k < len; k++)
+        value = (31 * value + words[k]) % 65521;
+    return (unsigned)value;
+}
+
+static void show_marks(const request *q)
+{
+    printf(", marks");
+    for (size_t d = 0; d < q->marks_len; d++)
+        printf("%s%u", d % 8 == 0 ? " " : "", (unsigned)marks[d]);
+}
+
+static int has_marks(enum call call)
+{
+    return call == ORBIT || call == SHEET || call == REMOVE || call == SPLIT;
+}
+
+/* ---------------------------------------------------------------- lines */
+
+/* A call, on marks that are 9. */
+static void play_call(request q)
+{
+    uint32_t no, place = 0, count = 0;
+    memset(marks, 9, sizeof marks);
+    no = run_yard(&q, &place, &count);
+    printf(": number %u, place %u, count %u", (unsigned)no, (unsigned)place, (unsigned)count);
+    if (q.call >= ADD) {
+        printf(", cursor %u, end %u, journal %u, table %u",
+               q.journal_len > 0 ? (unsigned)journal[0] : 0,
+               q.journal_len > 1 ? (unsigned)journal[1] : 0,
+               digest(journal, q.journal_len), digest(table, q.table_len));
+    }
+    if (has_marks(q.call) && q.marks_len < 100)
+        show_marks(&q);
+}
+
+static void play_scene(void)
+{
+    given.n = number[0];
+    given.marks_len = number[1];
+    given.table_len = 4 * given.marks_len;
+    given.journal_len = number[2];
+    given.tag = 0;
+    map_clear(table, number[1]);
+    for (uint32_t k = 0; k < number[2]; k++)
+        journal[k] = k < 2 ? PHL_FRESH : 9;
+}
+
+static void play_tile(uint32_t first, uint32_t width)
+{
+    for (size_t k = 4 * (size_t)(first + width); k < given.table_len; k++)
+        table[k] = table[k - 4 * (size_t)width] + width;
+}
+
+/* Whether the line has this first word and so many numbers. */
+static int is(const char *line, const char *word, int count)
+{
+    size_t len = strlen(word);
+    return numbers == count && strncmp(line, word, len) == 0
+        && (line[len] == 0 || line[len] == ' ');
+}
+
+/* Whether the line is a call; its arguments go to q. */
+static int is_call(const char *line, request *q)
+{
+    static const int arguments[CALLS] = {0, 2, 1, 0, 3, 2, 1, 1, 0, 0};
+    for (int call = 0; call < CALLS; call++) {
+        if (!is(line, call_name[call], arguments[call]))
+            continue;
+        q->call = (enum call)call;
+        q->i = q->mask = number[0];
+        q->d = number[arguments[call] > 1 ? 1 : 0];
+        q->e = number[2];
+        return 1;
+    }
+    return 0;
+}
+
+/* Undo or redo, with another word in the journal for this call. */
+static void play_with(enum call call, uint32_t at, uint32_t word)
+{
+    request q = given;
+    uint32_t kept = journal[at];
+    journal[at] = word;
+    q.call = call;
+    play_call(q);
+    journal[at] = kept;
+}
+
+static void play(const char *line)
+{
+    request q = given;
+    uint32_t a = number[0], b = number[1], c = number[2];
+    if (line[0] == 0 || line[0] == '#')
+        return;
+    if (is_call(line, &q))
+        play_call(q);
+    else if (is(line, "undo with", 2))
+        play_with(UNDO, a, b);
+    else if (is(line, "redo with", 2))
+        play_with(REDO, a, b);
+    else if (is(line, "scene", 3))
+        play_scene();
+    else if (is(line, "dim", 1))
+        given.n = a;
+    else if (is(line, "tag", 1))
+        given.tag = a;
+    else if (is(line, "lend", 3)) {
+        given.table_len = a;
+        given.marks_len = b;
+        given.journal_len = c;
+    } else if (is(line, "put", 3))
+        table[4 * a + b] = c;
+    else if (is(line, "write", 2))
+        journal[a] = b;
+    else if (is(line, "fill", 3)) {
+        for (uint32_t k = a; k < b; k++)
+            journal[k] = c;
+    } else if (is(line, "tile", 2))
+        play_tile(a, b);
+    else if (is(line, "links", 1))
+        show_words(table, 4 * a, 4 * a + 4);
+    else if (is(line, "table", 0))
+        show_words(table, 0, given.table_len);
+    else if (is(line, "words", 2))
+        show_words(journal, a, b);
+    else
+        printf(" ?");
+}
+
+/* Digits that stand together are a number. */
+static void find_numbers(const char *at)
+{
+    memset(number, 0, sizeof number);
+    for (numbers = 0; *(at += strcspn(at, "0123456789")) != 0; numbers++) {
+        char *end;
+        unsigned long long value = strtoull(at, &end, 10);
+        if (numbers < MOST_NUMBERS)
+            number[numbers] = (uint32_t)value;
+        at = end;
+    }
+}
+
+int main(void)
+{
+    static char line[LINE];
+    while (fgets(line, sizeof line, stdin)) {
+        line[strcspn(line, "\n")] = 0;
+        fputs(line, stdout);
+        find_numbers(line);
+        play(line);
+        putchar('\n');
+    }
+    return 0;
+}
