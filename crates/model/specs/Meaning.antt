@@ -9,6 +9,7 @@ pub mod Places
 pub mod Sheets
 pub mod Splits
 pub mod Ends
+pub mod Records
 pub mod Numbers
 pub mod Demand
 pub mod Worked

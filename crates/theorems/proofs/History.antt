@@ -1,5 +1,6 @@
 pub mod Record
 pub mod Sound
+pub mod Broken
 pub mod Log
 pub mod Ops
 pub mod Counts
