@@ -54,16 +54,15 @@ pub data Broken (redo : Bool) (t j : List ℕ) (a k : ℕ) : Type 0 where
 
 -- ---- written
 
--- "its record (every entry whose value changed)": the words r are the record, with this tag, of the k changes from the table t
--- to the table u
-pub record Recording (tag : ℕ) (t u r : List ℕ) (k : ℕ) : Type 0 where
-  pub long : length r ≡ 3 * k + 3
-  pub count : countAt r 0 ≡ k
-  pub tagged : getD r 1 0 ≡ tag
-  pub again : lastCountAt r 0 k ≡ k
-  pub rising : (x : ℕ) → suc x < k → entryAt r 0 x < entryAt r 0 (suc x)
-  pub within : (x : ℕ) → x < k → entryAt r 0 x < length t
-  pub old : (x : ℕ) → x < k → oldAt r 0 x ≡ getD t (entryAt r 0 x) 0
-  pub new : (x : ℕ) → x < k → newAt r 0 x ≡ getD u (entryAt r 0 x) 0
-  pub changed : (x : ℕ) → x < k → oldAt r 0 x ≢ newAt r 0 x
-  pub every : (e : ℕ) → getD t e 0 ≢ getD u e 0 → (x : ℕ) × (x < k) × (entryAt r 0 x ≡ e)
+-- "its record (every entry whose value changed)": the words of j from a on are the record, with this tag, of the k changes from
+-- the table t to the table u
+pub record Recording (tag : ℕ) (t u j : List ℕ) (a k : ℕ) : Type 0 where
+  pub count : countAt j a ≡ k
+  pub tagged : getD j (a + 1) 0 ≡ tag
+  pub again : lastCountAt j a k ≡ k
+  pub rising : (x : ℕ) → suc x < k → entryAt j a x < entryAt j a (suc x)
+  pub within : (x : ℕ) → x < k → entryAt j a x < length t
+  pub old : (x : ℕ) → x < k → oldAt j a x ≡ getD t (entryAt j a x) 0
+  pub new : (x : ℕ) → x < k → newAt j a x ≡ getD u (entryAt j a x) 0
+  pub changed : (x : ℕ) → x < k → oldAt j a x ≢ newAt j a x
+  pub every : (e : ℕ) → getD t e 0 ≢ getD u e 0 → (x : ℕ) × (x < k) × (entryAt j a x ≡ e)

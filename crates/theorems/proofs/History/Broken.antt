@@ -64,7 +64,7 @@ read-listed j a (suc k) = ap₂ (λ (c : Change) (cs : List Change). c ∷ cs) f
 
 -- ---- changes that are not sound
 
-data Unsound (redo : Bool) (t : List ℕ) (e k : ℕ) (f : ℕ → Change) : Type 0 where
+pub data Unsound (redo : Bool) (t : List ℕ) (e k : ℕ) (f : ℕ → Change) : Type 0 where
   starts-low : 0 < k → f 0 .entry < e → Unsound redo t e k f
   falls : (x : ℕ) → suc x < k → f (suc x) .entry ≤ f x .entry → Unsound redo t e k f
   past : (x : ℕ) → x < k → length t ≤ f x .entry → Unsound redo t e k f
@@ -103,7 +103,7 @@ module _ {redo : Bool} {t : List ℕ} where
       (λ q. differs 0 (omega arith) q)))
       (λ q. past 0 (omega arith) q))
 
-  sound-holds : (k : ℕ) (f : ℕ → Change) (e : ℕ) → sound redo t e (listed k f) ≡ true → Unsound redo t e k f → ⊥
+  pub sound-holds : (k : ℕ) (f : ℕ → Change) (e : ℕ) → sound redo t e (listed k f) ≡ true → Unsound redo t e k f → ⊥
   unfolding listed
   sound-holds zero f e h (starts-low l q) = omega arith
   sound-holds zero f e h (falls x l q) = omega arith
