@@ -2,6 +2,7 @@
 -- No call cites these.
 pub mod Sets
 pub mod Sizes
+pub mod Masks
 pub mod Maps
 pub mod Pairings
 pub mod Walks
