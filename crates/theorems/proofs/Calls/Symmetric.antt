@@ -1,7 +1,7 @@
 -- `sew-symmetric`: sew gives the same for (i, d, e) and (i, e, d), whatever it is given, refusals too.
 use Prim.Native.Nat.{ℕ}
 use mathlib.Core.Path.{_≡_, refl, sym, ap, _∙_}
-use mathlib.Core.Logic.{_≢_, ⊎-elim}
+use mathlib.Core.Logic.{⊎-elim}
 use mathlib.Core.Bool.{Bool, true, false, not, _&&_}
 use mathlib.Core.List.{List, [], _∷_, _++_}
 use lib.ListN.{length}
@@ -12,8 +12,7 @@ use Rattle.model.specs.Reach.{inSet}
 use Rattle.model.specs.Sew.{side, sewTable}
 use Rattle.model.specs.Checks.{Check, pass, refuse, andThen, must, inOrder, dimOk, tableOk, journalOk, mapChecks, indexOk, dartOk}
 use Rattle.model.specs.Checks.{apartOk, freeOk, pairingOk, sidesChecks, sewChecks}
-use Rattle.model.specs.Calls.{Outcome, commit, refused, sewCall}
-use Rattle.model.specs.Meaning.Maps.{MapTable}
+use Rattle.model.specs.Calls.{commit, refused, sewCall}
 use Rattle.model.specs.Meaning.Pairings.{OnSide}
 use Rattle.theorems.proofs.Lists.Scan.{test, clash}
 use Rattle.theorems.proofs.Sewing.Side.{side-own, sides-parted}
@@ -96,9 +95,9 @@ module _ (n : ℕ) (t j : List ℕ) (i : ℕ) where
   pub sew-symmetric : (tag d e : ℕ) → sewCall n t j tag i d e ≡ sewCall n t j tag i e d
   sew-symmetric tag d e = ⊎-elim
       (λ h.
-          let (passed, paired) = sew-passed n t j i d e h in
-          let table = sew-turned (sides-sewable passed paired) in
-          sew-pass tag d e h ∙ ap (λ (u : List ℕ). commit t u [] j tag 0 (λ cs. length cs)) table
-          ∙ sym (sew-pass tag e d (sym (checks-turned d e) ∙ h)))
+      let (passed, paired) = sew-passed n t j i d e h in
+      let table = sew-turned (sides-sewable passed paired) in
+      sew-pass tag d e h ∙ ap (λ (u : List ℕ). commit t u [] j tag 0 (λ cs. length cs)) table
+      ∙ sym (sew-pass tag e d (sym (checks-turned d e) ∙ h)))
       (λ r. sew-refuse tag d e (r .3) ∙ sym (sew-refuse tag e d (sym (checks-turned d e) ∙ r .3)))
       (passed-or-refused (inOrder (sewChecks n t j i d e)))

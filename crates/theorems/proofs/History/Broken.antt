@@ -197,7 +197,7 @@ module _ (redo : Bool) (t j : List ℕ) (a k : ℕ) where
       (λ low. if-lt (end j) (a + (3 * k + 3)) passes-end
       (λ fits. if-eq (countAt j a) (lastCountAt j a k)
       (λ counts. broken-change (sound-fails k (changeAt j a) 0 (rw (read-listed j a k) at (test (sound redo t 0 (changesAt j a k))
-      (λ sounds. absurd (clash (whole-unbroken (record { some = some; low = low; fits = fits; counts = counts; sounds = sounds; })) h))
+      (λ sounds. absurd (clash (whole-unbroken (record { some = some; low = low; fits = fits; counts = counts; sounds = sounds })) h))
       (λ q. q)))))
       counts-differ)))
 

@@ -3,23 +3,20 @@
 -- `op-changes-some`: an accepted operation changes an entry.
 use Prim.Native.Nat.{ℕ, zero, suc, _+_, _*_, _<_}
 use mathlib.Core.Path.{_≡_, refl, sym, ap, _∙_}
-use mathlib.Core.Bool.{Bool, true, false, not, _&&_}
+use mathlib.Core.Bool.{Bool, true, false}
 use mathlib.Core.List.{List}
 use native.Mathlib.Omega.{arith}
-use lib.ListN.{length, getD, drop}
-use lib.Dec.{eqb, leb}
-use borrow.Author.Tests.{eqb-false, not-true}
+use lib.ListN.{length, drop}
 use Rattle.model.specs.Lists.{count}
 use Rattle.model.specs.Cell.{cellSize, isBlock}
 use Rattle.model.specs.Orbit.{orbit}
 use Rattle.model.specs.Sheet.{sheet}
 use Rattle.model.specs.Remove.{countMarked}
-use Rattle.model.specs.Journal.{end, changesFrom, recordLength, changesAt, readChanges, put, sound, unbroken}
+use Rattle.model.specs.Journal.{changesFrom, changesAt, readChanges, put, unbroken}
 use Rattle.model.specs.Checks.{stepChecks, undoOk, redoOk}
 use Rattle.model.specs.Calls.{Outcome}
 use Rattle.model.specs.Runs.{Op, Call, doCall, effect}
 use Rattle.model.specs.Meaning.Ends.{Passed, done, CountsChanges, checksOf, doneOf}
-use Rattle.theorems.proofs.Lists.Scan.{and-l, and-r}
 use Rattle.theorems.proofs.Sets.Sizes.{length-ones}
 use Rattle.theorems.proofs.Calls.Checks.{passed-at, passed-append}
 use Rattle.theorems.proofs.Calls.Pass.{step-pass}

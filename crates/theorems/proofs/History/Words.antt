@@ -1,17 +1,17 @@
 -- `record-words`: what the words of the record of the changes from a table to another are, one by one; `op-words`: that these stand
 -- in the journal that an accepted operation leaves.
-use Prim.Native.Nat.{ℕ, zero, suc, _+_, _*_, _≤_, _<_}
+use Prim.Native.Nat.{ℕ, zero, suc, _+_, _*_, _<_}
 use mathlib.Core.Path.{_≡_, refl, sym, ap, _∙_}
 use mathlib.Core.Logic.{_≢_}
-use mathlib.Core.Bool.{Bool, true, false}
-use mathlib.Core.List.{List, [], _∷_, _++_}
+use mathlib.Core.Bool.{true, false}
+use mathlib.Core.List.{List, [], _∷_}
 use native.Mathlib.Omega.{arith}
-use lib.ListN.{length, getD, set, drop}
+use lib.ListN.{length, getD, set}
 use lib.Seq.{getD-set-other, getD-at}
-use Rattle.model.specs.Journal.{Change, changesFrom, triples, cursor, recordOf, readChanges, changesAt, putNew, sound}
+use Rattle.model.specs.Journal.{Change, changesFrom, triples, cursor, recordOf, changesAt, putNew}
 use Rattle.model.specs.Calls.{Outcome}
 use Rattle.model.specs.Runs.{Op, Call, doCall}
-use Rattle.model.specs.Meaning.Records.{entryAt, oldAt, newAt, Recording}
+use Rattle.model.specs.Meaning.Records.{entryAt, Recording}
 use Rattle.theorems.proofs.Lists.Scan.{if-eq, if-lt}
 use Rattle.theorems.proofs.Calls.Ends.{op-accepted}
 use Rattle.theorems.proofs.Calls.Written.{op-recorded}

@@ -4,17 +4,15 @@ use Prim.Native.Nat.{ℕ, zero, suc, _+_, _*_, _/_, _%_, _^_, _≤_, _<_}
 use mathlib.Core.Path.{_≡_, refl, sym, ap, ap₂, _∙_}
 use mathlib.Core.Logic.{_≢_, _↔_}
 use mathlib.Core.Bool.{Bool, true, false, not}
-use mathlib.Core.List.{List, [], _∷_}
 use native.Mathlib.Nat.{pow-suc, mod-one, mod-eq-of-lt, div-add-mod, div-div-eq-div-mul, mul-add, mul-assoc, suc-inj}
 use native.Mathlib.Omega.{arith}
 use lib.ListN.{length}
-use lib.Dec.{eqb}
 use borrow.Author.Tests.{eqb-true, eqb-false, eq-eqb, ne-eqb}
 use Rattle.model.specs.Lists.{least}
 use Rattle.model.specs.Reach.{linksFrom, links}
 use Rattle.model.specs.Orbit.{bit, orbitWords, orbitPlace}
 use Rattle.model.specs.Meaning.Masks.{powers, Lacks}
-use Rattle.theorems.proofs.Lists.Scan.{clash, test, if-eq, searched}
+use Rattle.theorems.proofs.Lists.Scan.{test, if-eq, searched}
 use Rattle.theorems.proofs.Sets.Links.{take-word, skip-word}
 
 -- ---- sums of powers
@@ -156,20 +154,24 @@ module _ (p : ℕ → Bool) where
       (λ x. let e = many-more k a x in
       let (i, b) = rec (omega arith) in
       let low = b .low in
-      let high = b .high in
-      (i, record {
-        low = omega arith;
-        high = omega arith;
-        fails = b .fails;
-        others = λ j l u o. if-eq j a (λ q. ap p q ∙ x) (λ q. b .others j (omega arith) (omega arith) o);
-      }))
-      (λ x. let e = many-stay k a x in
-      (a, record {
-        low = omega arith;
-        high = omega arith;
-        fails = x;
-        others = λ j l u o. many-all k (suc a) (omega arith) j (omega arith) (omega arith);
-      }))
+      let high = b .high in (
+        i,
+        record {
+          low = omega arith;
+          high = omega arith;
+          fails = b .fails;
+          others = λ j l u o. if-eq j a (λ q. ap p q ∙ x) (λ q. b .others j (omega arith) (omega arith) o);
+        },
+      ))
+      (λ x. let e = many-stay k a x in (
+        a,
+        record {
+          low = omega arith;
+          high = omega arith;
+          fails = x;
+          others = λ j l u o. many-all k (suc a) (omega arith) j (omega arith) (omega arith);
+        },
+      ))
 
   but-many : (k a i : ℕ) → But k a i → suc (many k a) ≡ k
   but-many zero a i b = let l = b .low in let h = b .high in absurd (omega arith)

@@ -1,7 +1,6 @@
 -- To sew e to d is to sew d to e. `sewable-turned`: one can be sewn if the other can; `sew-turned`: the tables are equal.
 use Prim.Native.Nat.{ℕ}
 use mathlib.Core.Path.{_≡_, refl, sym, ap, _∙_, fun-ext}
-use mathlib.Core.Bool.{Bool, true, false}
 use mathlib.Core.Option.{Option, none, some}
 use mathlib.Core.List.{List}
 use Rattle.model.specs.Table.{relink}
