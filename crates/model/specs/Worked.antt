@@ -1,5 +1,6 @@
 -- The small maps that document 01 has worked, 1 to 14, and some of 02's requests: each fact of them, as one table with one
--- statement. 3 to 5 have the figures of R-11. Where nothing is said of tags they are 0. 1204 is our own: a side of two darts unsewn.
+-- statement. 3 to 5 have the figures of R-11. Where nothing is said of tags they are 0. 1204 is our own, a side of two darts unsewn,
+-- and so are those from 20101 on.
 -- The lengths of case 14, too long to compute with, follow from the check.
 use Prim.Native.Nat.{ℕ, _+_, _*_}
 use mathlib.Core.Path.{_≡_, refl}
@@ -182,6 +183,16 @@ cases =
     ∷ rowOn 20310 3 (joined 3) 2 (Call.orbit 7 0) (gives 0 4 1 ∷ [])
     ∷ rowOn 20311 3 (joined 3) 2 (Call.orbit 15 0) (gives 0 0 2 ∷ [])
     ∷ rowOn 20312 3 (joined 3) 2 (Call.orbit 8 0) (gives 0 0 2 ∷ [])
+    ∷ rowOn 20401 1 (joined 0) 2 Call.check (gives 1 0 0 ∷ [])
+    ∷ rowOn 20402 4 (joined 0) 2 Call.check (gives 1 0 0 ∷ [])
+    ∷ rowOn 20403 2 (0 ∷ 0 ∷ 0 ∷ []) 2 Call.check (gives 2 0 0 ∷ [])
+    ∷ rowWith 20404 (joined 0) 1 2 [] Call.undo (gives 4 0 0 ∷ [])
+    ∷ rowWith 20405 (joined 0) 3 2 (0 ∷ []) Call.undo (gives 4 0 0 ∷ [])
+    ∷ rowWith 20406 (joined 0) 2 3 [] Call.undo (gives 4 0 0 ∷ [])
+    ∷ rowWith 20407 (joined 0) 2 2 [] (Call.op 0 (Op.unsew 3 0)) (gives 6 0 0 ∷ [])
+    ∷ rowWith 20408 (joined 0) 2 2 [] (Call.op 0 (Op.sew 1 2 0)) (gives 7 0 0 ∷ [])
+    ∷ rowWith 20409 (joined 0) 2 2 [] (Call.op 0 (Op.sew 1 0 2)) (gives 7 0 0 ∷ [])
+    ∷ rowWith 20410 (joined 0) 2 2 [] (Call.op 0 (Op.sew 0 0 1)) (gives 10 0 0 ∷ [])
     -- those of hexahedra stand last: they take the longest to compute
     ∷ row 1301 3 96 2000 quad (Call.sheet 0) (gives 0 0 16 ∷ marksAre (replicate 16 1 ++ replicate 32 2 ++ replicate 48 0) ∷ [])
     ∷ row 1302 3 96 2000 quad (Call.op 0 (Op.split 0)) (gives 0 48 48 ∷ changes 208 ∷ [])

@@ -27,7 +27,7 @@ pub data Seen : Type 0 where
 
 -- the label is a hundred times the case's number in 01, and counts its parts: 301 is the first part of 3; that of a request
 -- of 02 is ten thousand more: 10401 is the first of R-4. Our own are twenty thousand more: 201 the words of a record, 202 records
--- that are broken, 203 masks
+-- that are broken, 203 masks, 204 the first checks
 pub record Case : Type 0 where
   pub label : ℕ
   pub dim : ℕ
