@@ -10,7 +10,7 @@ use Rattle.model.specs.Table.{unused, slots, link}
 use Rattle.model.specs.Add.{addTable}
 use Rattle.model.specs.Remove.{removeTable}
 use Rattle.model.specs.Split.{splitTable}
-use Rattle.model.specs.Checks.{pass, refuse, tableOk, must}
+use Rattle.model.specs.Checks.{pass, refuse, tableOk, journalOk, must}
 use Rattle.model.specs.Runs.{Op, Call, doCall, keeping}
 use Rattle.model.specs.Everything.{everything}
 use Rattle.model.specs.Meaning.Ends.{lent}
@@ -193,6 +193,19 @@ cases =
     ∷ rowWith 20408 (joined 0) 2 2 [] (Call.op 0 (Op.sew 1 2 0)) (gives 7 0 0 ∷ [])
     ∷ rowWith 20409 (joined 0) 2 2 [] (Call.op 0 (Op.sew 1 0 2)) (gives 7 0 0 ∷ [])
     ∷ rowWith 20410 (joined 0) 2 2 [] (Call.op 0 (Op.sew 0 0 1)) (gives 10 0 0 ∷ [])
+    ∷ rowWith 20411 cut 2 2 [] (Call.op 0 (Op.sew 0 2 0)) (gives 10 0 0 ∷ [])
+    ∷ rowWith 20412 (joined 0) 2 2 [] (Call.op 0 (Op.sew 0 0 0)) (gives 9 0 0 ∷ [])
+    ∷ rowWith 20413 (joined 0) 2 2 [] (Call.op 0 (Op.unsew 3 2)) (gives 6 0 0 ∷ [])
+    ∷ rowWith 20414 (joined 0) 2 2 [] (Call.sheet 2) (gives 7 0 0 ∷ [])
+    ∷ rowWith 20415 (joined 0) 2 2 [] (Call.op 0 (Op.remove 2)) (gives 7 0 0 ∷ [])
+    ∷ record {
+      label = 20416;
+      dim = 2;
+      start = lent (joined 0) (replicate 3 0) (2 ∷ 2 ∷ []);
+      before = [];
+      call = Call.sheet 2;
+      seen = gives 3 0 0 ∷ [];
+    }
     -- those of hexahedra stand last: they take the longest to compute
     ∷ row 1301 3 96 2000 quad (Call.sheet 0) (gives 0 0 16 ∷ marksAre (replicate 16 1 ++ replicate 32 2 ++ replicate 48 0) ∷ [])
     ∷ row 1302 3 96 2000 quad (Call.op 0 (Op.split 0)) (gives 0 48 48 ∷ changes 208 ∷ [])
@@ -215,6 +228,11 @@ longest-passes t long = rw long
 pub longer-refused : (t : List ℕ) → length t ≡ 262148 → tableOk t ≡ refuse 2 0 0
 unfolding tableOk must
 longer-refused t long = rw long
+
+-- "lent u32 words, 2 to 1,048,576"
+pub longer-journal-refused : (j : List ℕ) → length j ≡ 1048577 → journalOk j ≡ refuse 4 0 0
+unfolding journalOk must
+longer-journal-refused j long = rw long
 
 -- our own, in 3D: the two hexahedra that split makes of one; and where the first is removed, the other's side there is free, as the
 -- walk goes on from a free side and comes back
