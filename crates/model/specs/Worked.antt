@@ -79,11 +79,11 @@ ring = tagged 0 (Op.add ∷ Op.sew 2 5 4 ∷ [])
 named : List Call
 named = Call.op 7 Op.add ∷ Call.op 4294967295 (Op.split 0) ∷ []
 
--- our own: Q, and Q with link 0 between 2 and 3 undone
+-- our own: Q with link 0 between 2 and 3 undone
 cut : List ℕ
 cut = damaged 2 0 2 (damaged 3 0 3 quadTable)
 
--- our own: the record of that, with the tag 7, before or behind the cursor
+-- our own: the record of that, with the tag 7
 cutRecord : List ℕ
 cutRecord = 2 ∷ 7 ∷ 8 ∷ 3 ∷ 2 ∷ 12 ∷ 2 ∷ 3 ∷ 2 ∷ []
 
@@ -99,7 +99,7 @@ row l n s w before c ss = record { label = l; dim = n; start = begin s w; before
 rowOn : ℕ → ℕ → List ℕ → ℕ → Call → List Seen → Case
 rowOn l n t w c ss = record { label = l; dim = n; start = beginOn t w; before = []; call = c; seen = ss }
 
--- the same of a table and a journal that are given: its cursor, its end, and the words behind
+-- the same in 2D, of a table and a journal that are given: its cursor, its end, and the words behind
 rowWith : ℕ → List ℕ → ℕ → ℕ → List ℕ → Call → List Seen → Case
 rowWith l t c e ws call ss =
     record { label = l; dim = 2; start = lent t (replicate (slots t) 0) (c ∷ e ∷ ws); before = []; call = call; seen = ss }
@@ -156,6 +156,8 @@ cases =
     (gives 0 0 4 ∷ wordsAre 101 (4 ∷ 9 ∷ 10 ∷ 2 ∷ 5 ∷ 14 ∷ 3 ∷ 7 ∷ 22 ∷ 5 ∷ 2 ∷ 30 ∷ 7 ∷ 3 ∷ 4 ∷ 0 ∷ []) ∷ cursorIs 116 ∷ endIs 116 ∷ [])
     ∷ row 20102 2 16 212 (named ++ (Call.undo ∷ Call.undo ∷ [])) (Call.op 9 Op.add)
     (wordsAre 0 (101 ∷ 101 ∷ 32 ∷ 9 ∷ 0 ∷ []) ∷ wordsAre 97 (31 ∷ unused ∷ 7 ∷ 32 ∷ 36 ∷ 4294967295 ∷ []) ∷ [])
+    -- a record put forth and back; then its counts differ, 3 and 4; k is 0, 5 and 6; it passes 2, 7, or the end, 8; an entry falls,
+    -- 9, stays, 10, or lies past the table, 11; old = new, 12; the value is not held, 13 and 14; the result is no map, 15
     ∷ rowWith 20201 quadTable 2 11 cutRecord Call.redo (gives 0 7 2 ∷ goes 2 0 2 ∷ goes 3 0 3 ∷ changes 2 ∷ cursorIs 11 ∷ [])
     ∷ rowWith 20202 cut 11 11 cutRecord Call.undo (gives 0 7 2 ∷ goes 2 0 3 ∷ goes 3 0 2 ∷ changes 2 ∷ cursorIs 2 ∷ endIs 11 ∷ [])
     ∷ rowWith 20203 quadTable 2 11 (set cutRecord 8 3) Call.redo (gives 17 0 0 ∷ changes 0 ∷ cursorIs 2 ∷ [])
