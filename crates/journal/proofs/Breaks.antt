@@ -1,6 +1,6 @@
 -- The tests by which a record is broken: of a change (`sound-low` to `sound-differs`), of the changes one after another
 -- (`sound-stops`, `sound-goes`), of a record (`broken-empty` to `unbroken-tested`), and what they say where all are passed
--- (`sound-parts`, `unbroken-parts`, `sound-within`).
+-- (`sound-parts`, `sound-within`).
 use Prim.Native.Nat.{ℕ, zero, suc, _+_, _*_, _-_, _≤_, _<_}
 use mathlib.Core.Path.{_≡_, refl, sym, _∙_}
 use mathlib.Core.Bool.{Bool, true, false, not, _&&_}
@@ -122,20 +122,6 @@ sound-parts redo t e c cs h =
     let (placed, differs) = both _ _ apart in
     let (rising, inside) = both _ _ placed in
     record { rising = leb-true _ _ rising; inside = ltb-true _ _ inside; held = eqb-true _ _ held; rest = rest }
-
--- an unbroken record ends within the words that stand, and is sound
-pub record Unbroken (redo : Bool) (t j : List ℕ) (a k : ℕ) : Type 0 where
-  pub fits : a + recordLength k ≤ end j
-  pub sounds : sound redo t 0 (changesAt j a k) ≡ true
-
-pub unbroken-parts : (redo : Bool) (t j : List ℕ) (a k : ℕ) → unbroken redo t j a k ≡ true → Unbroken redo t j a k
-unfolding unbroken
-unbroken-parts redo t j a k h =
-    let placed = not (eqb k 0) && leb 2 a in
-    let fits = leb (a + recordLength k) (end j) in
-    let counts = eqb (getD j a 0) (getD j (a + (3 * k + 2)) 0) in
-    let (tests, sounds) = both (placed && fits && counts) (sound redo t 0 (changesAt j a k)) h in
-    record { fits = leb-true _ _ (and-r placed fits (and-l (placed && fits) counts tests)); sounds = sounds }
 
 -- the entries of a sound record lie in the table
 pub sound-within : (redo : Bool) (t : List ℕ) (e : ℕ) (cs : List Change) → sound redo t e cs ≡ true → within (length t) cs ≡ true

@@ -10,9 +10,10 @@ use lib.Seq.{set-comm, set-set, set-getD}
 use Rattle.model.specs.Map.{isMap}
 use Rattle.model.specs.Journal.{Change, end, recordLength, changesAt, tagAt, put, sound, unbroken}
 use Rattle.model.specs.Calls.{stepOutcome, refused}
+use Rattle.theorems.proofs.History.Broken.{Whole, unbroken-whole}
 use Rattle.journal.specs.Records.{valuePut, within}
 use Rattle.journal.proofs.Puts.{put-none, put-next, put-length}
-use Rattle.journal.proofs.Breaks.{Unbroken, sound-parts, sound-within, unbroken-parts}
+use Rattle.journal.proofs.Breaks.{sound-parts, sound-within}
 
 module _ (redo : Bool) (t : List ℕ) where
   -- a value before the entries of a sound record can be set before or after
@@ -62,8 +63,8 @@ module _ (redo : Bool) (t j : List ℕ) (a k : ℕ) (r : Bool) (tested : r ≡ u
   step-broken h n c = rw (← tested, h, stepOutcome)
 
   module _ (whole : r ≡ true) where
-    parts : Unbroken redo t j a k
-    parts = unbroken-parts redo t j a k (sym tested ∙ whole)
+    parts : Whole redo t j a k
+    parts = unbroken-whole (sym tested ∙ whole)
 
     pub unbroken-fits : end j ≤ length j → (a + recordLength k ≤ length j) × (within (length t) (changesAt j a k) ≡ true)
     unbroken-fits h = let f = parts .fits in (omega arith, sound-within redo t 0 cs (parts .sounds))

@@ -2,6 +2,7 @@
 -- No call cites these.
 pub mod Sets
 pub mod Sizes
+pub mod Masks
 pub mod Maps
 pub mod Pairings
 pub mod Walks
@@ -9,6 +10,7 @@ pub mod Places
 pub mod Sheets
 pub mod Splits
 pub mod Ends
+pub mod Records
 pub mod Numbers
 pub mod Demand
 pub mod Worked

@@ -1,19 +1,21 @@
 -- The small maps that document 01 has worked, 1 to 14, and some of 02's requests: each fact of them, as one table with one
--- statement. 3 to 5 have the figures of R-11. Where nothing is said of tags they are 0. 1204 is our own: a side of two darts unsewn.
+-- statement. 3 to 5 have the figures of R-11. Where nothing is said of tags they are 0. 1204 is our own, a side of two darts unsewn,
+-- and so are those from 20101 on.
 -- The lengths of case 14, too long to compute with, follow from the check.
 use Prim.Native.Nat.{ℕ, _+_, _*_}
 use mathlib.Core.Path.{_≡_, refl}
 use mathlib.Core.List.{List, [], _∷_, _++_}
 use lib.ListN.{length, set, replicate}
-use Rattle.model.specs.Table.{unused, link}
+use Rattle.model.specs.Table.{unused, slots, link}
 use Rattle.model.specs.Add.{addTable}
 use Rattle.model.specs.Remove.{removeTable}
 use Rattle.model.specs.Split.{splitTable}
-use Rattle.model.specs.Checks.{pass, refuse, tableOk, must}
+use Rattle.model.specs.Checks.{pass, refuse, tableOk, journalOk, must}
 use Rattle.model.specs.Runs.{Op, Call, doCall, keeping}
 use Rattle.model.specs.Everything.{everything}
+use Rattle.model.specs.Meaning.Ends.{lent}
 use Rattle.model.specs.Meaning.Sizes.{liveCount}
-use Rattle.model.specs.Meaning.Worked.{Case, Seen, gives, goes, marksAre, markedAre, cursorIs, endIs, wordIs, frees}
+use Rattle.model.specs.Meaning.Worked.{Case, Seen, gives, goes, marksAre, markedAre, cursorIs, endIs, wordIs, wordsAre, frees}
 use Rattle.model.specs.Meaning.Worked.{changes, liveAre, begin, beginOn, doAll, equal, sees, seesAll, holdsFrom, holds}
 use Rattle.model.specs.Meaning.Worked.{failing}
 
@@ -77,6 +79,18 @@ ring = tagged 0 (Op.add ∷ Op.sew 2 5 4 ∷ [])
 named : List Call
 named = Call.op 7 Op.add ∷ Call.op 4294967295 (Op.split 0) ∷ []
 
+-- our own: Q with link 0 between 2 and 3 undone
+cut : List ℕ
+cut = damaged 2 0 2 (damaged 3 0 3 quadTable)
+
+-- our own: the record of that, with the tag 7
+cutRecord : List ℕ
+cutRecord = 2 ∷ 7 ∷ 8 ∷ 3 ∷ 2 ∷ 12 ∷ 2 ∷ 3 ∷ 2 ∷ []
+
+-- our own: two darts that link i joins, and no other link
+joined : ℕ → List ℕ
+joined i = damaged 0 i 1 (damaged 1 i 0 (replicate 4 0 ++ replicate 4 1))
+
 -- label, dimension, slots, words of the journal, the calls before, the call, what is seen
 row : ℕ → ℕ → ℕ → ℕ → List Call → Call → List Seen → Case
 row l n s w before c ss = record { label = l; dim = n; start = begin s w; before = before; call = c; seen = ss }
@@ -84,6 +98,11 @@ row l n s w before c ss = record { label = l; dim = n; start = begin s w; before
 -- the same of a table that is given, with no calls before
 rowOn : ℕ → ℕ → List ℕ → ℕ → Call → List Seen → Case
 rowOn l n t w c ss = record { label = l; dim = n; start = beginOn t w; before = []; call = c; seen = ss }
+
+-- the same in 2D, of a table and a journal that are given: its cursor, its end, and the words behind
+rowWith : ℕ → List ℕ → ℕ → ℕ → List ℕ → Call → List Seen → Case
+rowWith l t c e ws call ss =
+    record { label = l; dim = 2; start = lent t (replicate (slots t) 0) (c ∷ e ∷ ws); before = []; call = call; seen = ss }
 
 pub cases : List Case
 cases =
@@ -133,7 +152,63 @@ cases =
     ∷ row 11104 2 16 212 (named ++ (Call.undo ∷ Call.undo ∷ [])) Call.redo (gives 0 7 32 ∷ cursorIs 101 ∷ liveAre 8 ∷ [])
     ∷ row 11105 2 16 212 (named ++ (Call.undo ∷ [])) Call.redo (gives 0 4294967295 36 ∷ cursorIs 212 ∷ liveAre 16 ∷ [])
     ∷ row 11106 2 16 212 named Call.redo (gives 16 0 0 ∷ cursorIs 212 ∷ [])
-    -- those in 3D stand last: they take the longest to compute
+    ∷ row 20101 2 8 200 quad (Call.op 9 (Op.sew 2 5 2))
+    (gives 0 0 4 ∷ wordsAre 101 (4 ∷ 9 ∷ 10 ∷ 2 ∷ 5 ∷ 14 ∷ 3 ∷ 7 ∷ 22 ∷ 5 ∷ 2 ∷ 30 ∷ 7 ∷ 3 ∷ 4 ∷ 0 ∷ []) ∷ cursorIs 116 ∷ endIs 116 ∷ [])
+    ∷ row 20102 2 16 212 (named ++ (Call.undo ∷ Call.undo ∷ [])) (Call.op 9 Op.add)
+    (wordsAre 0 (101 ∷ 101 ∷ 32 ∷ 9 ∷ 0 ∷ []) ∷ wordsAre 97 (31 ∷ unused ∷ 7 ∷ 32 ∷ 36 ∷ 4294967295 ∷ []) ∷ [])
+    -- a record put forth and back; then its counts differ, 3 and 4; k is 0, 5 and 6; it passes 2, 7, or the end, 8; an entry falls,
+    -- 9, stays, 10, or lies past the table, 11; old = new, 12; the value is not held, 13 and 14; the result is no map, 15
+    ∷ rowWith 20201 quadTable 2 11 cutRecord Call.redo (gives 0 7 2 ∷ goes 2 0 2 ∷ goes 3 0 3 ∷ changes 2 ∷ cursorIs 11 ∷ [])
+    ∷ rowWith 20202 cut 11 11 cutRecord Call.undo (gives 0 7 2 ∷ goes 2 0 3 ∷ goes 3 0 2 ∷ changes 2 ∷ cursorIs 2 ∷ endIs 11 ∷ [])
+    ∷ rowWith 20203 quadTable 2 11 (set cutRecord 8 3) Call.redo (gives 17 0 0 ∷ changes 0 ∷ cursorIs 2 ∷ [])
+    ∷ rowWith 20204 cut 11 11 (set cutRecord 0 3) Call.undo (gives 17 0 0 ∷ changes 0 ∷ cursorIs 11 ∷ [])
+    ∷ rowWith 20205 quadTable 2 5 (0 ∷ 7 ∷ 0 ∷ []) Call.redo (gives 17 0 0 ∷ [])
+    ∷ rowWith 20206 cut 5 5 (0 ∷ 7 ∷ 0 ∷ []) Call.undo (gives 17 0 0 ∷ [])
+    ∷ rowWith 20207 cut 7 9 (8 ∷ 3 ∷ 2 ∷ 12 ∷ 2 ∷ 3 ∷ 7 ∷ []) Call.undo (gives 17 0 0 ∷ [])
+    ∷ rowWith 20208 quadTable 2 10 cutRecord Call.redo (gives 17 0 0 ∷ [])
+    ∷ rowWith 20209 quadTable 2 11 (2 ∷ 7 ∷ 12 ∷ 2 ∷ 3 ∷ 8 ∷ 3 ∷ 2 ∷ 2 ∷ []) Call.redo (gives 17 0 0 ∷ [])
+    ∷ rowWith 20210 quadTable 2 14 (3 ∷ 7 ∷ 8 ∷ 3 ∷ 2 ∷ 12 ∷ 2 ∷ 3 ∷ 12 ∷ 2 ∷ 3 ∷ 3 ∷ []) Call.redo (gives 17 0 0 ∷ [])
+    ∷ rowWith 20211 quadTable 2 14 (3 ∷ 7 ∷ 8 ∷ 3 ∷ 2 ∷ 12 ∷ 2 ∷ 3 ∷ 32 ∷ 0 ∷ 5 ∷ 3 ∷ []) Call.redo (gives 17 0 0 ∷ [])
+    ∷ rowWith 20212 quadTable 2 14 (3 ∷ 7 ∷ 8 ∷ 3 ∷ 2 ∷ 12 ∷ 2 ∷ 3 ∷ 16 ∷ 6 ∷ 6 ∷ 3 ∷ []) Call.redo (gives 17 0 0 ∷ [])
+    ∷ rowWith 20213 cut 2 11 cutRecord Call.redo (gives 17 0 0 ∷ [])
+    ∷ rowWith 20214 quadTable 11 11 cutRecord Call.undo (gives 17 0 0 ∷ [])
+    ∷ rowWith 20215 quadTable 2 8 (1 ∷ 7 ∷ 8 ∷ 3 ∷ 2 ∷ 1 ∷ []) Call.redo (gives 17 0 0 ∷ [])
+    ∷ rowOn 20301 2 (joined 0) 2 (Call.orbit 6 0) (gives 0 1 1 ∷ [])
+    ∷ rowOn 20302 2 (joined 1) 2 (Call.orbit 5 0) (gives 0 2 1 ∷ [])
+    ∷ rowOn 20303 2 (joined 2) 2 (Call.orbit 3 0) (gives 0 3 1 ∷ [])
+    ∷ rowOn 20304 2 (joined 2) 2 (Call.orbit 7 0) (gives 0 0 2 ∷ [])
+    ∷ rowOn 20305 2 (joined 1) 2 (Call.orbit 2 0) (gives 0 0 2 ∷ [])
+    ∷ rowOn 20306 2 (joined 2) 2 (Call.orbit 8 0) (gives 6 0 0 ∷ [])
+    ∷ rowOn 20307 3 (joined 0) 2 (Call.orbit 14 0) (gives 0 1 1 ∷ [])
+    ∷ rowOn 20308 3 (joined 1) 2 (Call.orbit 13 0) (gives 0 2 1 ∷ [])
+    ∷ rowOn 20309 3 (joined 2) 2 (Call.orbit 11 0) (gives 0 3 1 ∷ [])
+    ∷ rowOn 20310 3 (joined 3) 2 (Call.orbit 7 0) (gives 0 4 1 ∷ [])
+    ∷ rowOn 20311 3 (joined 3) 2 (Call.orbit 15 0) (gives 0 0 2 ∷ [])
+    ∷ rowOn 20312 3 (joined 3) 2 (Call.orbit 8 0) (gives 0 0 2 ∷ [])
+    ∷ rowOn 20401 1 (joined 0) 2 Call.check (gives 1 0 0 ∷ [])
+    ∷ rowOn 20402 4 (joined 0) 2 Call.check (gives 1 0 0 ∷ [])
+    ∷ rowOn 20403 2 (0 ∷ 0 ∷ 0 ∷ []) 2 Call.check (gives 2 0 0 ∷ [])
+    ∷ rowWith 20404 (joined 0) 1 2 [] Call.undo (gives 4 0 0 ∷ [])
+    ∷ rowWith 20405 (joined 0) 3 2 (0 ∷ []) Call.undo (gives 4 0 0 ∷ [])
+    ∷ rowWith 20406 (joined 0) 2 3 [] Call.undo (gives 4 0 0 ∷ [])
+    ∷ rowWith 20407 (joined 0) 2 2 [] (Call.op 0 (Op.unsew 3 0)) (gives 6 0 0 ∷ [])
+    ∷ rowWith 20408 (joined 0) 2 2 [] (Call.op 0 (Op.sew 1 2 0)) (gives 7 0 0 ∷ [])
+    ∷ rowWith 20409 (joined 0) 2 2 [] (Call.op 0 (Op.sew 1 0 2)) (gives 7 0 0 ∷ [])
+    ∷ rowWith 20410 (joined 0) 2 2 [] (Call.op 0 (Op.sew 0 0 1)) (gives 10 0 0 ∷ [])
+    ∷ rowWith 20411 cut 2 2 [] (Call.op 0 (Op.sew 0 2 0)) (gives 10 0 0 ∷ [])
+    ∷ rowWith 20412 (joined 0) 2 2 [] (Call.op 0 (Op.sew 0 0 0)) (gives 9 0 0 ∷ [])
+    ∷ rowWith 20413 (joined 0) 2 2 [] (Call.op 0 (Op.unsew 3 2)) (gives 6 0 0 ∷ [])
+    ∷ rowWith 20414 (joined 0) 2 2 [] (Call.sheet 2) (gives 7 0 0 ∷ [])
+    ∷ rowWith 20415 (joined 0) 2 2 [] (Call.op 0 (Op.remove 2)) (gives 7 0 0 ∷ [])
+    ∷ record {
+      label = 20416;
+      dim = 2;
+      start = lent (joined 0) (replicate 3 0) (2 ∷ 2 ∷ []);
+      before = [];
+      call = Call.sheet 2;
+      seen = gives 3 0 0 ∷ [];
+    }
+    -- those of hexahedra stand last: they take the longest to compute
     ∷ row 1301 3 96 2000 quad (Call.sheet 0) (gives 0 0 16 ∷ marksAre (replicate 16 1 ++ replicate 32 2 ++ replicate 48 0) ∷ [])
     ∷ row 1302 3 96 2000 quad (Call.op 0 (Op.split 0)) (gives 0 48 48 ∷ changes 208 ∷ [])
     ∷ rowOn 10306 3 (damaged 31 1 48 hexahedronTable) 200 Call.check (gives 5 31 1 ∷ [])
@@ -144,7 +219,7 @@ cases =
     ∷ []
 
 pub all-hold : failing cases ≡ []
-unfolding everything liveCount cases row rowOn tagged quad three halves bent unlinked quadTable hexahedronTable damaged foldedEdge foldedFace middle ring named failing holds holdsFrom seesAll sees begin beginOn doAll doCall keeping equal
+unfolding everything liveCount cases row rowOn rowWith tagged quad three halves bent unlinked quadTable hexahedronTable damaged foldedEdge foldedFace middle ring named cut cutRecord joined failing holds holdsFrom seesAll sees begin beginOn doAll doCall keeping equal
 all-hold = refl
 
 -- 14: "262,144 entries pass check 2, 262,148 don't"
@@ -155,6 +230,11 @@ longest-passes t long = rw long
 pub longer-refused : (t : List ℕ) → length t ≡ 262148 → tableOk t ≡ refuse 2 0 0
 unfolding tableOk must
 longer-refused t long = rw long
+
+-- "lent u32 words, 2 to 1,048,576"
+pub longer-journal-refused : (j : List ℕ) → length j ≡ 1048577 → journalOk j ≡ refuse 4 0 0
+unfolding journalOk must
+longer-journal-refused j long = rw long
 
 -- our own, in 3D: the two hexahedra that split makes of one; and where the first is removed, the other's side there is free, as the
 -- walk goes on from a free side and comes back

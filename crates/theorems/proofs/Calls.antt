@@ -8,4 +8,5 @@ pub mod Refusals
 pub mod Untouched
 pub mod Rules
 pub mod Written
+pub mod Symmetric
 pub mod Kept

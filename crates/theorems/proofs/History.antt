@@ -1,7 +1,9 @@
 pub mod Record
 pub mod Sound
+pub mod Broken
 pub mod Log
 pub mod Ops
+pub mod Words
 pub mod Counts
 pub mod Invariant
 pub mod Demand

@@ -1,4 +1,5 @@
 pub mod Links
+pub mod Masks
 pub mod Closure
 pub mod Pigeon
 pub mod Escape

@@ -3,6 +3,7 @@ pub mod Partners
 pub mod Walked
 pub mod Pairing
 pub mod Sew
+pub mod Turned
 pub mod Unsew
 pub mod Inverse
 pub mod Straight

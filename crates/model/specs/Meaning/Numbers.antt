@@ -15,12 +15,13 @@ use Rattle.model.specs.Add.{addTable}
 use Rattle.model.specs.Sew.{side, sewTable, unsewTable}
 use Rattle.model.specs.Remove.{removeTable}
 use Rattle.model.specs.Split.{splitTable}
-use Rattle.model.specs.Journal.{cursor, end, changesFrom, recordOf, changesAt, put, unbroken}
+use Rattle.model.specs.Journal.{cursor, end, changesFrom, recordOf, changesAt, put}
 use Rattle.model.specs.Checks.{ruleNumber}
 use Rattle.model.specs.Runs.{Op, Call}
 use Rattle.model.specs.Meaning.Ends.{undoCount, undoStart, redoCount}
 use Rattle.model.specs.Meaning.Maps.{Map, BreaksFirst, Block}
 use Rattle.model.specs.Meaning.Pairings.{Pairing}
+use Rattle.model.specs.Meaning.Records.{Broken}
 use Rattle.model.specs.Meaning.Sets.{Marked}
 
 pub record NumberRow : Type 1 where
@@ -117,7 +118,7 @@ redoRow j = record { number = 16; given = cursor j ≡ end j }
 
 -- "record broken, or result no map", of the record of k changes at the word a
 abbrev pub StepFails : Bool → ℕ → List ℕ → List ℕ → ℕ → ℕ → Type 0
-StepFails redo n t j a k = (unbroken redo t j a k ≡ false) ⊎ (Map n (put redo (changesAt j a k) t) → ⊥)
+StepFails redo n t j a k = Broken redo t j a k ⊎ (Map n (put redo (changesAt j a k) t) → ⊥)
 
 abbrev pub stepRow : Bool → ℕ → List ℕ → List ℕ → ℕ → ℕ → NumberRow
 stepRow redo n t j a k = record { number = 17; given = StepFails redo n t j a k }

@@ -2,7 +2,7 @@
 use Prim.Native.Nat.{ℕ, _*_, _-_}
 use mathlib.Core.Bool.{Bool, true, false, not, _&&_}
 use mathlib.Core.List.{List, [], _∷_}
-use lib.ListN.{length, getD, replicate}
+use lib.ListN.{length, getD, take, drop, replicate}
 use lib.Dec.{eqb}
 use Rattle.model.specs.Lists.{count}
 use Rattle.model.specs.Table.{unused, slots, link, live}
@@ -20,12 +20,14 @@ pub data Seen : Type 0 where
   markedAre : ℕ → Seen  -- so many marks are not 0
   cursorIs endIs : ℕ → Seen
   wordIs : ℕ → ℕ → Seen  -- word x of the journal is v: x, v
+  wordsAre : ℕ → List ℕ → Seen  -- those of the journal from x on are vs: x, vs
   frees : ℕ → Seen  -- the slot is unused, and was live
   changes : ℕ → Seen  -- so many entries
   liveAre : ℕ → Seen  -- so many slots
 
 -- the label is a hundred times the case's number in 01, and counts its parts: 301 is the first part of 3; that of a request
--- of 02 is ten thousand more: 10401 is the first of R-4
+-- of 02 is ten thousand more: 10401 is the first of R-4. Our own are twenty thousand more: 201 the words of a record, 202 records
+-- that are broken, 203 masks, 204 the first checks
 pub record Case : Type 0 where
   pub label : ℕ
   pub dim : ℕ
@@ -68,6 +70,7 @@ sees old new (markedAre k) = eqb (length (new .marks) - count 0 (new .marks)) k
 sees old new (cursorIs k) = eqb (cursor (new .journal)) k
 sees old new (endIs k) = eqb (end (new .journal)) k
 sees old new (wordIs x v) = eqb (getD (new .journal) x 0) v
+sees old new (wordsAre x vs) = equal (take (length vs) (drop x (new .journal))) vs
 sees old new (frees d) = live (old .table) d && not (live (new .table) d)
 sees old new (changes k) = eqb (length (changesFrom 0 (old .table) (new .table))) k
 sees old new (liveAre k) = eqb (liveCount (new .table)) k

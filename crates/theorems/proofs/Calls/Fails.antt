@@ -32,6 +32,7 @@ use Rattle.theorems.proofs.Maps.Broken.{broken-first, of-broken}
 use Rattle.theorems.proofs.Cells.Exact.{block-exactly}
 use Rattle.theorems.proofs.Sewing.Pairing.{paired-exactly}
 use Rattle.theorems.proofs.Layers.Sheet.{crosses-some}
+use Rattle.theorems.proofs.History.Broken.{unbroken-exactly}
 use Rattle.theorems.proofs.Calls.Tests.{not-fails, and-fails, or-fails, leb-fails, ltb-fails, eqb-fails, eqb-holds}
 use Rattle.theorems.proofs.Calls.Tests.{test-fails, one-of}
 use Rattle.theorems.proofs.Calls.Checks.{must-at-0, not-pass}
@@ -158,4 +159,4 @@ unfolding stepOk
 step-fails redo n t j a k dim =
     let u = put redo (changesAt j a k) t in
     must-fails _ 17 (Iff·trans (and-fails (unbroken redo t j a k) (isMap n u))
-    (one-of Iff·rfl (test-fails (isMap n u) (map-of n u (dim .1), of-map n u))))
+    (one-of (unbroken-exactly redo t j a k) (test-fails (isMap n u) (map-of n u (dim .1), of-map n u))))

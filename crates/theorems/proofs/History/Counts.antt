@@ -3,29 +3,27 @@
 -- `op-changes-some`: an accepted operation changes an entry.
 use Prim.Native.Nat.{ℕ, zero, suc, _+_, _*_, _<_}
 use mathlib.Core.Path.{_≡_, refl, sym, ap, _∙_}
-use mathlib.Core.Bool.{Bool, true, false, not, _&&_}
+use mathlib.Core.Bool.{Bool, true, false}
 use mathlib.Core.List.{List}
 use native.Mathlib.Omega.{arith}
-use lib.ListN.{length, getD, drop}
-use lib.Dec.{eqb, leb}
-use borrow.Author.Tests.{eqb-false, not-true}
+use lib.ListN.{length, drop}
 use Rattle.model.specs.Lists.{count}
 use Rattle.model.specs.Cell.{cellSize, isBlock}
 use Rattle.model.specs.Orbit.{orbit}
 use Rattle.model.specs.Sheet.{sheet}
 use Rattle.model.specs.Remove.{countMarked}
-use Rattle.model.specs.Journal.{end, changesFrom, recordLength, changesAt, readChanges, put, sound, unbroken}
+use Rattle.model.specs.Journal.{changesFrom, changesAt, readChanges, put, unbroken}
 use Rattle.model.specs.Checks.{stepChecks, undoOk, redoOk}
 use Rattle.model.specs.Calls.{Outcome}
 use Rattle.model.specs.Runs.{Op, Call, doCall, effect}
 use Rattle.model.specs.Meaning.Ends.{Passed, done, CountsChanges, checksOf, doneOf}
-use Rattle.theorems.proofs.Lists.Scan.{and-l, and-r}
 use Rattle.theorems.proofs.Sets.Sizes.{length-ones}
 use Rattle.theorems.proofs.Calls.Checks.{passed-at, passed-append}
 use Rattle.theorems.proofs.Calls.Pass.{step-pass}
 use Rattle.theorems.proofs.Calls.Ends.{call-passed, call-done, op-accepted}
 use Rattle.theorems.proofs.History.Record.{changes-some}
 use Rattle.theorems.proofs.History.Sound.{sound-changes}
+use Rattle.theorems.proofs.History.Broken.{unbroken-whole}
 use Rattle.theorems.proofs.History.Ops.{effect-length, op-changes}
 
 -- ---- operations
@@ -68,38 +66,13 @@ length-read zero ws = refl
 length-read (suc k) ws = ap suc (length-read k (drop 3 ws))
 
 -- an unbroken record has a change, and its changes are sound
-module _ (redo : Bool) (t j : List ℕ) (a k : ℕ) (whole : unbroken redo t j a k ≡ true) where
-  abbrev some-change : Bool
-  some-change = not (eqb k 0)
-
-  abbrev behind-2 : Bool
-  behind-2 = leb 2 a
-
-  abbrev before-end : Bool
-  before-end = leb (a + recordLength k) (end j)
-
-  abbrev counts-agree : Bool
-  counts-agree = eqb (getD j a 0) (getD j (a + (3 * k + 2)) 0)
-
-  unbroken-sound : sound redo t 0 (changesAt j a k) ≡ true
-  unfolding unbroken
-  unbroken-sound = and-r (some-change && behind-2 && before-end && counts-agree) _ whole
-
-  unbroken-some : 0 < k
-  unfolding unbroken
-  unbroken-some =
-      let four = and-l (some-change && behind-2 && before-end && counts-agree) _ whole in
-      let three = and-l (some-change && behind-2 && before-end) _ four in
-      let two = and-l (some-change && behind-2) _ three in
-      let not-0 = eqb-false k 0 (not-true _ (and-l some-change behind-2 two)) in
-      omega arith
-
+module _ (redo : Bool) (t j : List ℕ) (a k : ℕ) (holds : unbroken redo t j a k ≡ true) where
   unbroken-counts : CountsChanges t (put redo (changesAt j a k) t) k
   unfolding changesAt
-  unbroken-counts = record {
-    size = sym (sound-changes redo t (changesAt j a k) unbroken-sound ∙ length-read k _);
-    some = unbroken-some;
-  }
+  unbroken-counts =
+      let whole = unbroken-whole holds in
+      let some = whole .some in
+      record { size = sym (sound-changes redo t (changesAt j a k) (whole .sounds) ∙ length-read k _); some = omega arith }
 
 module _ (n : ℕ) (o : Outcome) where
   pub undo-count : Counted n o Call.undo

@@ -24,15 +24,15 @@ replaced redo c = elim redo [ true ↦ c .old | false ↦ c .new ]
 abbrev pub put-in : Bool → Change → ℕ
 put-in redo c = elim redo [ true ↦ c .new | false ↦ c .old ]
 
-record FirstSound (redo : Bool) (t : List ℕ) (e : ℕ) (c : Change) (cs : List Change) : Type 0 where
-  rising : e ≤ c .entry
-  within : c .entry < length t
-  differs : eqb (c .old) (c .new) ≡ false
-  held : getD t (c .entry) 0 ≡ replaced redo c
-  rest : sound redo t (suc (c .entry)) cs ≡ true
+pub record FirstSound (redo : Bool) (t : List ℕ) (e : ℕ) (c : Change) (cs : List Change) : Type 0 where
+  pub rising : e ≤ c .entry
+  pub within : c .entry < length t
+  pub differs : eqb (c .old) (c .new) ≡ false
+  pub held : getD t (c .entry) 0 ≡ replaced redo c
+  pub rest : sound redo t (suc (c .entry)) cs ≡ true
 
 module _ (redo : Bool) (t : List ℕ) (e : ℕ) (c : Change) (cs : List Change) where
-  first-sound : sound redo t e (c ∷ cs) ≡ true → FirstSound redo t e c cs
+  pub first-sound : sound redo t e (c ∷ cs) ≡ true → FirstSound redo t e c cs
   unfolding sound
   first-sound h =
       let rising = leb e (c .entry) in
@@ -50,7 +50,7 @@ module _ (redo : Bool) (t : List ℕ) (e : ℕ) (c : Change) (cs : List Change) 
         rest = and-r (rising && within && differs && held) _ h;
       }
 
-  sound-first : FirstSound redo t e c cs → sound redo t e (c ∷ cs) ≡ true
+  pub sound-first : FirstSound redo t e c cs → sound redo t e (c ∷ cs) ≡ true
   unfolding sound
   sound-first f =
       let low = le-leb e (c .entry) (f .rising) in

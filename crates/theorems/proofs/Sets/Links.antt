@@ -38,11 +38,11 @@ steps-same t u x (w ∷ ws) h = ap₂ (λ (y : ℕ) (ys : List ℕ). y ∷ ys) (
 -- ---- words of one link
 
 module _ (p : ℕ → Bool) where
-  take-word : (k a : ℕ) → p a ≡ true → linksFrom (suc k) a p ≡ (a ∷ []) ∷ linksFrom k (suc a) p
+  pub take-word : (k a : ℕ) → p a ≡ true → linksFrom (suc k) a p ≡ (a ∷ []) ∷ linksFrom k (suc a) p
   unfolding linksFrom
   take-word k a h = rw (h, linksFrom)
 
-  skip-word : (k a : ℕ) → p a ≡ false → linksFrom (suc k) a p ≡ linksFrom k (suc a) p
+  pub skip-word : (k a : ℕ) → p a ≡ false → linksFrom (suc k) a p ≡ linksFrom k (suc a) p
   unfolding linksFrom
   skip-word k a h = rw (h, linksFrom)
 

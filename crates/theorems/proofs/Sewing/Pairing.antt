@@ -51,7 +51,7 @@ unfolding both-pairing
 pairing-is both f = pairing-one (both .there .left) (both-pairing both) f
 
 -- the test, of what the two walks give
-bothSome : Option (List ℕ) → Option (List ℕ) → Bool
+unfoldable pub bothSome : Option (List ℕ) → Option (List ℕ) → Bool
 bothSome a b = elim a [ none ↦ false | some p ↦ (elim b [ none ↦ false | some q ↦ true ]) ]
 
 module _ {n : ℕ} {t : List ℕ} {i d e : ℕ} (left : OnSide n t i d) (right : OnSide n t i e) where

@@ -26,17 +26,17 @@ use Rattle.theorems.proofs.Sewing.Pairing.{Found, paired-found, pairing
 -- ---- the links that are made
 
 module _ {n : ℕ} {t : List ℕ} {i d e : ℕ} {p q : List ℕ} (able : Sewable n t i d e) (both : Both n t i d e p q) where
-  own-link : (x : ℕ) → Marked (side n t i d) x → sewnLink t i p q x ≡ getD p x unused
+  pub own-link : (x : ℕ) → Marked (side n t i d) x → sewnLink t i p q x ≡ getD p x unused
   unfolding sewnLink
   own-link x h = rw (ne-eqb (getD p x unused) unused (partners-real (both .there) x h), sewnLink)
 
-  other-link : (x : ℕ) → Marked (side n t i e) x → sewnLink t i p q x ≡ getD q x unused
+  pub other-link : (x : ℕ) → Marked (side n t i e) x → sewnLink t i p q x ≡ getD q x unused
   unfolding sewnLink
   other-link x h =
       let lone = partners-none (both .there) x (λ m. sides-parted (able .left) (able .right) (able .apart) x m h) in
       rw (eq-eqb (getD p x unused) unused lone, ne-eqb (getD q x unused) unused (partners-real (both .back) x h), sewnLink)
 
-  outside-link : (x : ℕ) → (Marked (side n t i d) x → ⊥) → (Marked (side n t i e) x → ⊥) → sewnLink t i p q x ≡ link t i x
+  pub outside-link : (x : ℕ) → (Marked (side n t i d) x → ⊥) → (Marked (side n t i e) x → ⊥) → sewnLink t i p q x ≡ link t i x
   unfolding sewnLink
   outside-link x a b =
       let no-p = partners-none (both .there) x a in
@@ -86,7 +86,7 @@ module _ {n : ℕ} {t : List ℕ} {i d e : ℕ} {p q : List ℕ} (able : Sewable
 -- ---- the table
 
 module _ {n : ℕ} {t : List ℕ} {i d e : ℕ} (able : Sewable n t i d e) where
-  found : Found n t i d e
+  pub found : Found n t i d e
   found = paired-found (able .left) (able .right) (able .paired)
 
   new : ℕ → ℕ
