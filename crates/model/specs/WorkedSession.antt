@@ -5,14 +5,14 @@ use mathlib.Core.Path.{_≡_, refl}
 use mathlib.Core.Bool.{true, false}
 use mathlib.Core.List.{List, [], _∷_}
 use lib.ListN.{length, take}
+use Rattle.model.specs.Lists.{equal}
+use Rattle.model.specs.Table.{liveCount}
 use Rattle.model.specs.Text.{bytes, begins, isDigit, digits, number, upTo, lastDigits, decimal, said}
-use Rattle.model.specs.Runs.{doCall, keeping}
+use Rattle.model.specs.Runs.{doCall, keeping, begin}
 use Rattle.model.specs.Session.{Due, dimDue, slotsDue, opDue, iDue, dDue, eDue}
 use Rattle.model.specs.Session.{names, calls, callOf, placeFrom, behind, reads, left, taken, answered, printed, dartLines}
 use Rattle.model.specs.Session.{dartsFrom, ending, bad, closing, talk, session}
 use Rattle.model.specs.Everything.{everything}
-use Rattle.model.specs.Meaning.Sizes.{liveCount}
-use Rattle.model.specs.Meaning.Worked.{begin, equal}
 
 -- an input, and what is printed for it
 pub record Talk : Type 0 where
