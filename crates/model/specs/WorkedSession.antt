@@ -80,6 +80,8 @@ talks =
     ∷ row "dim=2\nslots=8\nop=add\ni=0\nd=0\ne=0\nop=sew\ni=2\nd=5\ne=3\nop=unsew\ni=2\nd=7\ne=9\nop=sew\ni=2\nd=5\ne=3\n" "no=0\nat=0\nn=8\nno=0\nat=0\nn=4\nno=0\nat=0\nn=4\nno=0\nat=0\nn=4\nlive=8\ndart=0\nto=1,4,0,0\ndart=1\nto=0,5,1,1\ndart=2\nto=3,6,7,2\ndart=3\nto=2,7,5,3\ndart=4\nto=6,0,4,4\ndart=5\nto=7,1,3,5\ndart=6\nto=4,2,6,6\ndart=7\nto=5,3,2,7\n"
     -- a quad split, and one half removed: live slots behind unused ones
     ∷ row "dim=2\nslots=16\nop=add\ni=0\nd=0\ne=0\nop=split\ni=9\nd=1\ne=9\nop=remove\ni=9\nd=0\ne=9\n" "no=0\nat=0\nn=8\nno=0\nat=8\nn=8\nno=0\nat=0\nn=8\nlive=8\ndart=1\nto=10,5,1,1\ndart=3\nto=14,7,3,3\ndart=5\nto=7,1,5,5\ndart=7\nto=5,3,7,7\ndart=10\nto=1,11,10,10\ndart=11\nto=15,10,11,11\ndart=14\nto=3,15,14,14\ndart=15\nto=11,14,15,15\n"
+    -- a hexahedron, and back
+    ∷ row "dim=3\nslots=48\nop=add\ni=0\nd=0\ne=0\nop=undo\ni=0\nd=0\ne=0\n" "no=0\nat=0\nn=48\nno=0\nat=0\nn=192\nlive=0\n"
     ∷ []
 
 unfoldable openText : Unit {0}
@@ -94,7 +96,7 @@ pub all-printed : failing talks ≡ []
 unfolding everything liveCount begin equal doCall keeping openText openLines talk session failing talks row
 all-printed = refl
 
--- ---- what would be too long to tell by a session, or takes tables that none has
+-- ---- what would take too long a session, or a table that none has
 
 -- the journal where a request is due
 pub journalAt : Due → List ℕ
