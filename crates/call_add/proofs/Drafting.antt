@@ -10,13 +10,14 @@ use Rattle.model.specs.Table.{unused, slots, link}
 use Rattle.model.specs.Numbering.{cellLink}
 use Rattle.model.specs.Journal.{cursor, changesFrom}
 use Rattle.model.specs.Add.{addSlots, addTable}
+use Rattle.model.specs.Meaning.Slots.{newAt}
 use Rattle.theorems.proofs.Lists.Scan.{if-eq, if-lt, below-four}
 use Rattle.theorems.proofs.Lists.Ones.{getD-in, getD-index, index-in}
 use Rattle.theorems.proofs.Sets.Closure.{getD-any}
 use Rattle.theorems.proofs.Maps.Rules.{dead-link}
 use Rattle.theorems.proofs.Cells.Rows.{row-goes}
 use Rattle.theorems.proofs.Operations.Slots.{rising-at}
-use Rattle.theorems.proofs.Operations.Added.{newAt, add-lowest, add-links, add-stays, add-length}
+use Rattle.theorems.proofs.Operations.Added.{add-lowest, add-links, add-stays, add-length}
 use Rattle.drafts.specs.Drafts.{drafted}
 use Rattle.drafts.specs.Passes.{Pass, FourLinks}
 use Rattle.drafts.proofs.Passes.{pass-start, pass-over, pass-end}

@@ -13,17 +13,18 @@ use Rattle.model.specs.Table.{slots, link, live, walk}
 use Rattle.model.specs.Cell.{cellOf}
 use Rattle.model.specs.Sheet.{sheet}
 use Rattle.model.specs.Split.{splitSlots}
+use Rattle.model.specs.Meaning.Lists.{Distinct, more}
 use Rattle.model.specs.Meaning.Maps.{BlockTable, Rule}
-use Rattle.model.specs.Meaning.Splits.{Splits}
+use Rattle.model.specs.Meaning.Splits.{Splits, Splitting}
 use Rattle.theorems.proofs.Lists.Scan.{clash, length-tab, getD-tab, length-tabFrom, in-tab}
 use Rattle.theorems.proofs.Lists.Ones.{getD-in}
-use Rattle.theorems.proofs.Sets.Pigeon.{Distinct, more, distinct-le, distinct-tab}
+use Rattle.theorems.proofs.Sets.Pigeon.{distinct-le, distinct-tab}
 use Rattle.theorems.proofs.Sets.Sizes.{length-ones, ones-few}
 use Rattle.theorems.proofs.Maps.Dim.{dim-cases}
 use Rattle.theorems.proofs.Maps.Tables.{mapTable, live-below, rule-at}
 use Rattle.theorems.proofs.Operations.Slots.{rising-at}
 use Rattle.theorems.proofs.Cells.Cell.{good-cell, cell-own}
-use Rattle.theorems.proofs.Layers.Splitting.{Splitting, splits-splitting}
+use Rattle.theorems.proofs.Layers.Splitting.{splits-splitting}
 use Rattle.theorems.proofs.Layers.Split.{darts-rising}
 
 distinct-append : (k l : List ℕ) → Distinct k → Distinct l → ((x : ℕ) → In x k → In x l → ⊥) → Distinct (k ++ l)

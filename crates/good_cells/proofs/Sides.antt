@@ -18,7 +18,6 @@ use Rattle.model.specs.Numbering.{corners, cellLink}
 use Rattle.model.specs.Sew.{side}
 use Rattle.model.specs.Meaning.Maps.{Dim, Straight}
 use Rattle.model.specs.Meaning.Sets.{Marked}
-use Rattle.model.specs.Meaning.Sizes.{member}
 use Rattle.model.specs.Meaning.Pairings.{OnSide}
 use Rattle.model.specs.Meaning.Places.{place, Follows, Chart}
 use Rattle.theorems.proofs.Lists.Scan.{if-eq, clash, and-l, and-r, or-i, below-at, below-of, below-not}
@@ -27,6 +26,7 @@ use Rattle.theorems.proofs.Maps.Dim.{two-cases}
 use Rattle.theorems.proofs.Sewing.Side.{on-side, side-own, side-far, side-within, straight-side}
 use Rattle.theorems.proofs.Cells.Chart.{chart-one}
 use Rattle.model.specs.Everything.{everything}
+use Rattle.model.specs.Meaning.Lists.{member}
 use Rattle.numbering.specs.Orders.{orders, nextOrder, nextVertex, placeOf}
 use Rattle.numbering.proofs.Orders.{order-low, vertex-low, place-low, next-place}
 use Rattle.cells.specs.Listing.{MapDart, places}

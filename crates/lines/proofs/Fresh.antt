@@ -8,7 +8,7 @@ use lib.ListN.{length, take, drop, set, replicate, length-replicate, replicate-a
 use lib.Seq.{take-at, take-all, take-suc-set, length-take-le}
 use Rattle.model.specs.Table.{slots}
 use Rattle.model.specs.Calls.{Outcome}
-use Rattle.model.specs.Meaning.Worked.{begin}
+use Rattle.model.specs.Runs.{begin}
 use Rattle.answers.specs.declared.Answer.{Answer}
 use Rattle.answers.specs.Answers.{outcome}
 use Rattle.lines.specs.Held.{lent}

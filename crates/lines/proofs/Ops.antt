@@ -9,8 +9,7 @@ use lib.ListN.{getD, take, drop}
 use lib.Seq.{drop-cons}
 use lib.Dec.{leb, eqb}
 use borrow.Author.Tests.{leb-true, eqb-true}
-use Rattle.model.specs.Lists.{allFrom, allBelow}
-use Rattle.model.specs.Meaning.Worked.{equal}
+use Rattle.model.specs.Lists.{allFrom, allBelow, equal}
 use Rattle.model.specs.Session.{names, placeFrom}
 use Rattle.theorems.proofs.Lists.Scan.{test, clash, and-l, and-r, below-at}
 use Rattle.lines.specs.Names.{allNames, nameStart}

@@ -12,8 +12,7 @@ use lib.Seq.{take-suc-set, length-take-le}
 use lib.Dec.{leb}
 use borrow.Author.Tests.{lt-ltb, le-ltb, leb-true, ne-eqb}
 use Rattle.model.specs.Calls.{Outcome}
-use Rattle.model.specs.Runs.{doCall}
-use Rattle.model.specs.Meaning.Worked.{begin}
+use Rattle.model.specs.Runs.{doCall, begin}
 use Rattle.model.specs.Text.{bytes, newline, begins, number, upTo, said}
 use Rattle.model.specs.Session.{callOf, sessionTag, behind, reads, left, taken, answered, printed, ending, bad, closing}
 use Rattle.theorems.proofs.Lists.Scan.{test, clash}

@@ -5,7 +5,7 @@ ghost use Prim.Native.Nat.{ℕ, _-_, _<_, _≤_};
 ghost use lib.ListN.{length, getD, take, drop};
 ghost use Rattle.model.specs.Calls.{Outcome};
 ghost use Rattle.model.specs.Text.{number, upTo};
-ghost use Rattle.model.specs.Meaning.Worked.{equal};
+ghost use Rattle.model.specs.Lists.{equal};
 ghost use Rattle.model.specs.Session.{names, placeFrom, behind, reads};
 ghost use Rattle.texts.specs.Texts.{givenBy};
 ghost use Rattle.lines.specs.Held.{dueAt};

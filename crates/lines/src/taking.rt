@@ -3,7 +3,7 @@ ghost use mathlib.Core.Path.{_≡_};
 ghost use Prim.Native.Nat.{_+_, _*_, _<_, _≤_};
 ghost use lib.ListN.{length, take, replicate};
 ghost use Rattle.model.specs.Runs.{doCall};
-ghost use Rattle.model.specs.Meaning.Worked.{begin};
+ghost use Rattle.model.specs.Runs.{begin};
 ghost use Rattle.model.specs.Session.{callOf, sessionTag};
 ghost use Rattle.answers.specs.Answers.{outcome};
 ghost use Rattle.lines.specs.Held.{lent, due, notedAt, Fits, Noted};

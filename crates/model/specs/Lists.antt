@@ -1,5 +1,5 @@
 -- Lists of numbers: what the definitions of the calls are said with.
--- A list by its rule, counting, the places of the ones, the least number that passes a test.
+-- A list by its rule, counting, the places of the ones, the least number that passes a test, two lists compared.
 use Prim.Native.Nat.{ℕ, zero, suc}
 use mathlib.Core.Bool.{Bool, true, false}
 use mathlib.Core.List.{List, [], _∷_}
@@ -46,3 +46,10 @@ allFrom (suc k) a p = elim (p a) [ true ↦ allFrom k (suc a) p | false ↦ fals
 
 unfoldable pub allBelow : ℕ → (ℕ → Bool) → Bool
 allBelow k p = allFrom k 0 p
+
+-- the two lists have the same entries, in the same order
+unfoldable pub equal : List ℕ → List ℕ → Bool
+equal [] [] = true
+equal [] (y ∷ ys) = false
+equal (x ∷ xs) [] = false
+equal (x ∷ xs) (y ∷ ys) = elim (eqb x y) [ true ↦ equal xs ys | false ↦ false ]

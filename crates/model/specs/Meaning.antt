@@ -1,7 +1,8 @@
 -- The words of the theorems: what they say of tables, sets of darts, pairings and runs, as properties and not as tests.
--- No call cites these.
+-- No call cites these, and the session does not.
+pub mod Lists
+pub mod Slots
 pub mod Sets
-pub mod Sizes
 pub mod Masks
 pub mod Maps
 pub mod Pairings

@@ -1,7 +1,9 @@
 -- Demand 3: runs of calls over one table and one journal, and the operations that stand after them.
 -- "An accepted add, sew, unsew, remove or split .. is an operation in demand 3, and no other is."
-use Prim.Native.Nat.{ℕ, zero, suc}
+use Prim.Native.Nat.{ℕ, zero, suc, _*_, _-_}
 use mathlib.Core.List.{List, [], _∷_}
+use lib.ListN.{replicate}
+use Rattle.model.specs.Table.{unused}
 use Rattle.model.specs.Add.{addTable}
 use Rattle.model.specs.Sew.{sewTable, unsewTable}
 use Rattle.model.specs.Remove.{removeTable}
@@ -24,6 +26,17 @@ pub data Call : Type 0 where
   orbit : ℕ → ℕ → Call
   sheet : ℕ → Call
   op : ℕ → Op → Call
+
+-- a table with no live slot, marks that are 0, and a fresh journal of so many words, for a first call
+unfoldable pub begin : ℕ → ℕ → Outcome
+begin slots words = record {
+  number = 0;
+  place = 0;
+  count = 0;
+  table = replicate (4 * slots) unused;
+  marks = replicate slots 0;
+  journal = 2 ∷ 2 ∷ replicate (words - 2) 0;
+}
 
 -- an outcome with these marks and this journal
 unfoldable pub keeping : Outcome → List ℕ → List ℕ → Outcome

@@ -6,12 +6,11 @@ use mathlib.Core.List.{List, [], _∷_, _++_}
 use mathlib.Core.Option.{Option, none, some}
 use lib.ListN.{length, getD, drop}
 use lib.Dec.{eqb}
-use Rattle.model.specs.Table.{slots, link, live}
+use Rattle.model.specs.Lists.{equal}
+use Rattle.model.specs.Table.{slots, link, live, liveCount}
 use Rattle.model.specs.Calls.{Outcome}
-use Rattle.model.specs.Runs.{Op, Call, doCall}
+use Rattle.model.specs.Runs.{Op, Call, doCall, begin}
 use Rattle.model.specs.Text.{bytes, newline, begins, number, upTo, decimal, said}
-use Rattle.model.specs.Meaning.Sizes.{liveCount}
-use Rattle.model.specs.Meaning.Worked.{begin, equal}
 
 -- ---- requests
 

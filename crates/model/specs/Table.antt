@@ -5,7 +5,7 @@ use mathlib.Core.Bool.{Bool, true, false, not, _&&_}
 use mathlib.Core.List.{List, [], _∷_}
 use lib.ListN.{length, getD}
 use lib.Dec.{eqb}
-use Rattle.model.specs.Lists.{tabulate, ones}
+use Rattle.model.specs.Lists.{tabulate, count, ones}
 
 -- the entry of an unused slot
 abbrev pub unused : ℕ
@@ -30,6 +30,10 @@ walk t (i ∷ w) d = walk t w (link t i d)
 -- the unused slots, rising
 unfoldable pub unusedSlots : List ℕ → List ℕ
 unusedSlots t = ones (tabulate (slots t) (λ d. elim (live t d) [ true ↦ 0 | false ↦ 1 ]))
+
+-- the number of live slots
+unfoldable pub liveCount : List ℕ → ℕ
+liveCount t = count 1 (tabulate (slots t) (λ d. elim (live t d) [ true ↦ 1 | false ↦ 0 ]))
 
 -- a table as long as t, in which link i of d is f d i
 unfoldable pub retable : List ℕ → (ℕ → ℕ → ℕ) → List ℕ

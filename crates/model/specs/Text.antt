@@ -7,7 +7,7 @@ use mathlib.Core.List.{List, [], _∷_, _++_}
 use mathlib.Core.Option.{Option, none, some}
 use lib.ListN.{length, take}
 use lib.Dec.{eqb, leb, ltb}
-use Rattle.model.specs.Meaning.Worked.{equal}
+use Rattle.model.specs.Lists.{equal}
 
 -- a text's bytes
 abbrev pub bytes : String → List ℕ

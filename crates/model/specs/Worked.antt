@@ -6,17 +6,17 @@ use Prim.Native.Nat.{ℕ, _+_, _*_}
 use mathlib.Core.Path.{_≡_, refl}
 use mathlib.Core.List.{List, [], _∷_, _++_}
 use lib.ListN.{length, set, replicate}
-use Rattle.model.specs.Table.{unused, slots, link}
+use Rattle.model.specs.Lists.{equal}
+use Rattle.model.specs.Table.{unused, slots, link, liveCount}
 use Rattle.model.specs.Add.{addTable}
 use Rattle.model.specs.Remove.{removeTable}
 use Rattle.model.specs.Split.{splitTable}
 use Rattle.model.specs.Checks.{pass, refuse, tableOk, journalOk, must}
-use Rattle.model.specs.Runs.{Op, Call, doCall, keeping}
+use Rattle.model.specs.Runs.{Op, Call, doCall, keeping, begin}
 use Rattle.model.specs.Everything.{everything}
 use Rattle.model.specs.Meaning.Ends.{lent}
-use Rattle.model.specs.Meaning.Sizes.{liveCount}
 use Rattle.model.specs.Meaning.Worked.{Case, Seen, gives, goes, marksAre, markedAre, cursorIs, endIs, wordIs, wordsAre, frees}
-use Rattle.model.specs.Meaning.Worked.{changes, liveAre, begin, beginOn, doAll, equal, sees, seesAll, holdsFrom, holds}
+use Rattle.model.specs.Meaning.Worked.{changes, liveAre, beginOn, doAll, sees, seesAll, holdsFrom, holds}
 use Rattle.model.specs.Meaning.Worked.{failing}
 
 -- operations that all have one tag

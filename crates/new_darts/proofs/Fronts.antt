@@ -7,9 +7,10 @@ use native.Mathlib.Omega.{arith}
 use lib.ListN.{length, getD, take}
 use lib.Seq.{getD-take, length-take-le}
 use Rattle.model.specs.Lists.{indexOf}
+use Rattle.model.specs.Meaning.Lists.{Rising}
 use Rattle.theorems.proofs.Lists.Ones.{getD-in, getD-index, index-in}
 use Rattle.theorems.proofs.Sets.Closure.{getD-any}
-use Rattle.theorems.proofs.Operations.Slots.{Rising, rising-at}
+use Rattle.theorems.proofs.Operations.Slots.{rising-at}
 
 pub record Front (size : ℕ) (words l : List ℕ) : Type 0 where
   pub front : take size words ≡ l

@@ -6,8 +6,7 @@ use mathlib.Core.List.{List, [], _++_, append-nil, append-assoc}
 use native.Mathlib.Omega.{arith}
 use lib.ListN.{length, take, length-append}
 use Rattle.model.specs.Lists.{tabulateFrom, tabulate, count}
-use Rattle.model.specs.Table.{slots, link, live}
-use Rattle.model.specs.Meaning.Sizes.{liveCount}
+use Rattle.model.specs.Table.{slots, link, live, liveCount}
 use Rattle.model.specs.Text.{bytes, decimal, said}
 use Rattle.model.specs.Session.{dartLines, dartsFrom}
 use Rattle.theorems.proofs.Lists.Scan.{test}

@@ -4,7 +4,7 @@ ghost use mathlib.Core.List.{[], _++_};
 ghost use Prim.Native.Nat.{_+_, _*_, _<_, _≤_};
 ghost use lib.ListN.{length};
 ghost use Rattle.model.specs.Table.{slots, link};
-ghost use Rattle.model.specs.Meaning.Sizes.{liveCount};
+ghost use Rattle.model.specs.Table.{liveCount};
 ghost use Rattle.model.specs.Text.{bytes, decimal};
 ghost use Rattle.model.specs.Session.{answered, dartLines, dartsFrom, ending};
 ghost use Rattle.answers.specs.Answers.{outcome};

@@ -8,9 +8,10 @@ use lib.ListN.{length, getD, set, replicate, length-replicate, getD-replicate, L
 use lib.Seq.{getD-set-same, getD-set-other}
 use borrow.Author.Tests.{eq-eqb, ne-eqb}
 use Rattle.model.specs.Lists.{count}
+use Rattle.model.specs.Meaning.Lists.{more, none}
 use Rattle.model.specs.Meaning.Sets.{Bits, Marked}
 use Rattle.theorems.proofs.Lists.Scan.{if-eq, if-lt}
-use Rattle.theorems.proofs.Sets.Pigeon.{cover, distinct-le, more, none}
+use Rattle.theorems.proofs.Sets.Pigeon.{cover, distinct-le}
 
 -- x has a mark
 abbrev pub Found : List ℕ → ℕ → Type 0

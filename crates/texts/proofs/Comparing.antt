@@ -10,7 +10,7 @@ use lib.ListN.{length, getD, drop}
 use lib.Seq.{drop-cons, take-all}
 use lib.Dec.{eqb}
 use borrow.Author.Tests.{eq-eqb, ne-eqb}
-use Rattle.model.specs.Meaning.Worked.{equal}
+use Rattle.model.specs.Lists.{equal}
 use Rattle.model.specs.Text.{begins}
 use Rattle.theorems.proofs.Lists.Scan.{test}
 

@@ -3,7 +3,7 @@ ghost use mathlib.Core.Path.{_≡_};
 ghost use mathlib.Core.List.{[], _∷_};
 ghost use Prim.Native.Nat.{_+_, _<_, _≤_};
 ghost use lib.ListN.{length};
-ghost use Rattle.model.specs.Meaning.Worked.{equal};
+ghost use Rattle.model.specs.Lists.{equal};
 ghost use Rattle.model.specs.Text.{begins, digits, number, upTo, decimal, said};
 ghost use Rattle.texts.specs.Texts.{givenBy, Appended};
 

@@ -8,7 +8,7 @@ use lib.ListN.{length}
 use Rattle.model.specs.Map.{MapRule, isMap}
 use Rattle.model.specs.Journal.{cursor, end}
 use Rattle.model.specs.Checks.{ruleNumber}
-use Rattle.model.specs.Runs.{Call, Tagged, replay, History, Step, State, answer, stepped}
+use Rattle.model.specs.Runs.{Call, Tagged, replay, History, Step, State, start, answer, stepped, run}
 use Rattle.model.specs.Meaning.Maps.{Dim}
 
 -- where a run begins: a table that is a map, and a fresh journal, of lengths that are allowed
@@ -21,6 +21,10 @@ pub record FreshStart (n : ℕ) (t j : List ℕ) : Type 0 where
   pub high : length j ≤ 1048576
   pub at-cursor : cursor j ≡ 2
   pub at-end : end j ≡ 2
+
+-- the state after the run cs, which began with the table t and the journal j
+abbrev pub reached : ℕ → List ℕ → List ℕ → List Step → State
+reached n t j cs = run n (start t j) cs
 
 -- a call, with these marks lent
 abbrev pub calling : Call → List ℕ → Step

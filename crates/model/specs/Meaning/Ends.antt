@@ -8,7 +8,7 @@ use mathlib.Core.List.{List, [], _∷_, _++_}
 use lib.ListN.{length, getD, set}
 use lib.Dec.{leb, eqb}
 use Rattle.model.specs.Lists.{count, ones}
-use Rattle.model.specs.Map.{breakingLink, leastBreaking, isMap}
+use Rattle.model.specs.Map.{MapRule, breakingLink, leastBreaking, isMap}
 use Rattle.model.specs.Cell.{cellSize, isBlock, leastWrong}
 use Rattle.model.specs.Orbit.{orbit, orbitPlace}
 use Rattle.model.specs.Sheet.{sheet, sheetMarks}
@@ -17,14 +17,14 @@ use Rattle.model.specs.Sew.{sewTable, unsewTable}
 use Rattle.model.specs.Remove.{countMarked, removeTable}
 use Rattle.model.specs.Split.{splitSlots, splitTable}
 use Rattle.model.specs.Journal.{cursor, end, changesFrom, recordOf, recordLength, written, changesAt, tagAt, put, unbroken}
-use Rattle.model.specs.Checks.{Check, pass, refuse, must, inOrder}
+use Rattle.model.specs.Checks.{Check, pass, refuse, must, inOrder, ruleNumber}
 use Rattle.model.specs.Checks.{dimOk, tableOk, marksOk, journalOk, pairingOk, undoOk, redoOk}
 use Rattle.model.specs.Checks.{checkChecks, orbitChecks, sheetChecks}
 use Rattle.model.specs.Checks.{addChecks, sidesChecks, sewChecks, unsewChecks, layerChecks, splitChecks, stepChecks}
 use Rattle.model.specs.Calls.{Outcome, refused}
 use Rattle.model.specs.Runs.{Op, Call, doCall, effect}
+use Rattle.model.specs.Meaning.Lists.{member}
 use Rattle.model.specs.Meaning.Maps.{byRule}
-use Rattle.model.specs.Meaning.Sizes.{member}
 
 -- a table, marks and a journal that are lent to a call
 abbrev pub lent : List ℕ → List ℕ → List ℕ → Outcome
@@ -119,6 +119,10 @@ refusalPlace n t k = byRule (λ r. leastBreaking n t) (elim (eqb k 8) [ true ↦
 -- "count is 0" but for 5 and 24 to 26: "count then gives the link index"
 unfoldable pub refusalCount : ℕ → List ℕ → ℕ → ℕ
 refusalCount n t k = byRule (breakingLink n t (leastBreaking n t)) 0 k
+
+-- the call gives the number of the rule r, the place d and the count i
+abbrev pub Answers : ℕ → Outcome → Call → MapRule → ℕ → ℕ → Type 0
+Answers n o c r d i = (doCall n o c .number ≡ ruleNumber r) × (doCall n o c .place ≡ d) × (doCall n o c .count ≡ i)
 
 -- of remove and split: the numbers of the checks that come after the sheet is marked
 abbrev pub lateNumbers : List ℕ
@@ -229,6 +233,10 @@ pub record OpAccepted (n : ℕ) (o : Outcome) (tag : ℕ) (p : Op) (r : Outcome)
   pub room : length (recordOf tag (changesFrom 0 (o .table) (effect n (o .table) p)))
       ≤ length (o .journal) - cursor (o .journal)
 
+-- the record of the operation p on o, with its tag: "every entry whose value changed"
+abbrev pub recordMade : ℕ → Outcome → ℕ → Op → List ℕ
+recordMade n o tag p = recordOf tag (changesFrom 0 (o .table) (doCall n o (Call.op tag p) .table))
+
 -- "writes its record .. at the cursor; cursor and end go behind it .. Other journal words stay": of the journal j and the
 -- journal k after it, where r is the record
 pub record Recorded (r j k : List ℕ) : Type 0 where
@@ -248,3 +256,7 @@ pub record CursorMoved (j k : List ℕ) : Type 0 where
 pub record CountsChanges (t u : List ℕ) (k : ℕ) : Type 0 where
   pub size : k ≡ length (changesFrom 0 t u)
   pub some : 0 < k
+
+-- the same of a call that is accepted, and its count
+abbrev pub Counted : ℕ → Outcome → Call → Type 0
+Counted n o c = doCall n o c .number ≡ 0 → CountsChanges (o .table) (doCall n o c .table) (doCall n o c .count)

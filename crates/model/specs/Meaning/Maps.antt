@@ -5,7 +5,7 @@ use Prim.Native.Nat.{ℕ, _+_, _*_, _≤_, _<_}
 use mathlib.Core.Path.{_≡_}
 use mathlib.Core.Logic.{_≢_}
 use mathlib.Core.Bool.{true, false}
-use mathlib.Core.List.{List, [], _∷_}
+use mathlib.Core.List.{List, [], _∷_, List·Memᴰ as In}
 use lib.ListN.{length}
 use lib.Dec.{eqb}
 use Rattle.model.specs.Lists.{count}
@@ -47,6 +47,10 @@ byRule f z k = elim (eqb k 5) [
   ])
 ]
 
+-- k is the number of no rule
+abbrev pub NoRule : ℕ → Type 0
+NoRule k = (r : MapRule) → k ≢ ruleNumber r
+
 pub record Map (n : ℕ) (t : List ℕ) : Type 0 where
   pub rule : (d : ℕ) → d < slots t → live t d ≡ true → Rule n t d
 
@@ -54,6 +58,10 @@ pub record Map (n : ℕ) (t : List ℕ) : Type 0 where
 abbrev pub Meets : List ℕ → List ℕ → ℕ → Type 0
 Meets t [] d = live t d ≡ true
 Meets t (i ∷ w) d = (live t d ≡ true) × Meets t w (link t i d)
+
+-- the links of the word are links of a slot, 0 to 3
+abbrev pub Low : List ℕ → Type 0
+Low w = (i : ℕ) → In i w → i < 4
 
 -- "going 0, 1 four times"
 abbrev pub squareWord : List ℕ

@@ -1,14 +1,15 @@
 -- Sheets: the dart that one begins with, its cells, where it crosses itself, and how many darts of a cell it holds.
-use Prim.Native.Nat.{ℕ}
+use Prim.Native.Nat.{ℕ, _≤_}
 use mathlib.Core.Path.{_≡_}
 use mathlib.Core.Bool.{Bool, true, false, _&&_}
-use mathlib.Core.List.{List}
+use mathlib.Core.List.{List, [], _∷_, List·Memᴰ as In}
 use lib.Dec.{eqb}
 use Rattle.model.specs.Lists.{count, tabulate}
-use Rattle.model.specs.Table.{slots, link, live}
+use Rattle.model.specs.Table.{slots, link, walk, live}
 use Rattle.model.specs.Reach.{inSet}
 use Rattle.model.specs.Cell.{cellOf}
 use Rattle.model.specs.Sheet.{sheet, sheetMarks}
+use Rattle.model.specs.Meaning.Lists.{Distinct}
 use Rattle.model.specs.Meaning.Maps.{BlockTable}
 use Rattle.model.specs.Meaning.Sets.{Marked}
 
@@ -16,6 +17,14 @@ use Rattle.model.specs.Meaning.Sets.{Marked}
 pub record BlockDart (n : ℕ) (t : List ℕ) (d : ℕ) : Type 0 where
   pub table : BlockTable n t
   pub lives : live t d ≡ true
+
+-- distinct live darts, "closed under link 0, the opposite edge 1.0.1, and links 2..n"
+pub record Sheet (n : ℕ) (t gs : List ℕ) : Type 0 where
+  pub once : Distinct gs
+  pub lives : (x : ℕ) → In x gs → live t x ≡ true
+  pub along : (x : ℕ) → In x gs → In (link t 0 x) gs
+  pub over : (x : ℕ) → In x gs → In (walk t (1 ∷ 0 ∷ 1 ∷ []) x) gs
+  pub far : (x j : ℕ) → 2 ≤ j → j ≤ n → In x gs → In (link t j x) gs
 
 -- the marks that sheet d leaves
 abbrev pub marksOf : ℕ → List ℕ → ℕ → List ℕ

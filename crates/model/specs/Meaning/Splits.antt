@@ -1,23 +1,42 @@
 -- split d where no check but 15 refuses it (`Splits`): its new darts, its links in 01's words (`SplitLinks`), and its cells.
-use Prim.Native.Nat.{ℕ, _*_}
+use Prim.Native.Nat.{ℕ, _*_, _<_}
 use mathlib.Core.Path.{_≡_}
 use mathlib.Core.Logic.{_⊎_}
 use mathlib.Core.Bool.{true, false}
-use mathlib.Core.List.{List, [], _∷_}
+use mathlib.Core.List.{List, [], _∷_, List·Memᴰ as In}
 use lib.ListN.{length}
 use Rattle.model.specs.Lists.{ones}
 use Rattle.model.specs.Table.{link, live, walk}
 use Rattle.model.specs.Cell.{cellOf, goodCell}
 use Rattle.model.specs.Sheet.{sheet}
 use Rattle.model.specs.Split.{crosses, newDart, splitSlots}
+use Rattle.model.specs.Meaning.Slots.{Vacant}
 use Rattle.model.specs.Meaning.Sets.{Marked}
-use Rattle.model.specs.Meaning.Sheets.{BlockDart}
+use Rattle.model.specs.Meaning.Maps.{BlockTable}
+use Rattle.model.specs.Meaning.Sheets.{BlockDart, Sheet}
 
 -- split of d passes its checks but 15: a live dart of a block map, not 13, not 14
 pub record Splits (n : ℕ) (t : List ℕ) (d : ℕ) : Type 0 where
   pub dart : BlockDart n t d
   pub uncrossed : crosses t (sheet n t d) (ones (sheet n t d)) ≡ false
   pub room : length (splitSlots n t (ones (sheet n t d))) ≡ n * length (ones (sheet n t d))
+
+-- what split takes, by its darts and its slots: a block map, darts gs closed as a sheet is, of which none has its link 1 among
+-- them, and n unused slots fs for each
+pub record Splitting (n : ℕ) (t gs fs : List ℕ) : Type 0 where
+  pub table : BlockTable n t
+  pub sheet : Sheet n t gs
+  pub uncrossed : (x : ℕ) → In x gs → In (link t 1 x) gs → ⊥
+  pub vacant : Vacant t fs
+  pub enough : length fs ≡ n * length gs
+
+-- x is the new dart of a role (0 for a, 1 for b, 2 for c) of a dart of gs, where the new slots are fs
+pub record IsNew (n : ℕ) (gs fs : List ℕ) (x : ℕ) : Type 0 where
+  pub role : ℕ
+  pub of : ℕ
+  pub low : role < n
+  pub member : In of gs
+  pub is : x ≡ newDart n gs fs role of
 
 module _ (n : ℕ) (t : List ℕ) (d : ℕ) where
   -- "each g in S, rising"

@@ -1,16 +1,15 @@
 -- Worked cases: some calls on a table and a fresh journal, one more call, and what is then seen.
-use Prim.Native.Nat.{ℕ, _*_, _-_}
+use Prim.Native.Nat.{ℕ, _-_}
 use mathlib.Core.Bool.{Bool, true, false, not, _&&_}
 use mathlib.Core.List.{List, [], _∷_}
-use lib.ListN.{length, getD, take, drop, replicate}
+use lib.ListN.{length, getD, take, drop}
 use lib.Dec.{eqb}
-use Rattle.model.specs.Lists.{count}
-use Rattle.model.specs.Table.{unused, slots, link, live}
+use Rattle.model.specs.Lists.{count, equal}
+use Rattle.model.specs.Table.{slots, link, live, liveCount}
 use Rattle.model.specs.Journal.{cursor, end, changesFrom}
 use Rattle.model.specs.Calls.{Outcome}
-use Rattle.model.specs.Runs.{Call, doCall}
+use Rattle.model.specs.Runs.{Call, begin, doCall}
 use Rattle.model.specs.Meaning.Ends.{lent}
-use Rattle.model.specs.Meaning.Sizes.{liveCount}
 
 -- what is seen after the last call
 pub data Seen : Type 0 where
@@ -36,17 +35,6 @@ pub record Case : Type 0 where
   pub call : Call
   pub seen : List Seen
 
--- a table with no live slot, a fresh journal
-unfoldable pub begin : ℕ → ℕ → Outcome
-begin slots words = record {
-  number = 0;
-  place = 0;
-  count = 0;
-  table = replicate (4 * slots) unused;
-  marks = replicate slots 0;
-  journal = 2 ∷ 2 ∷ replicate (words - 2) 0;
-}
-
 -- a table that is given, a fresh journal
 unfoldable pub beginOn : List ℕ → ℕ → Outcome
 beginOn t words = let o = begin (slots t) words in lent t (o .marks) (o .journal)
@@ -54,12 +42,6 @@ beginOn t words = let o = begin (slots t) words in lent t (o .marks) (o .journal
 unfoldable pub doAll : ℕ → Outcome → List Call → Outcome
 doAll n o [] = o
 doAll n o (c ∷ cs) = doAll n (doCall n o c) cs
-
-unfoldable pub equal : List ℕ → List ℕ → Bool
-equal [] [] = true
-equal [] (y ∷ ys) = false
-equal (x ∷ xs) [] = false
-equal (x ∷ xs) (y ∷ ys) = elim (eqb x y) [ true ↦ equal xs ys | false ↦ false ]
 
 -- old is what stood before the last call, new what it left
 unfoldable pub sees : Outcome → Outcome → Seen → Bool

@@ -3,8 +3,7 @@ use Prim.Native.Nat.{_+_, _-_, _≤_}
 use mathlib.Core.Path.{_≡_, sym, _∙_}
 use mathlib.Core.Logic.{⊎-elim}
 use native.Mathlib.Omega.{arith}
-use Rattle.model.specs.Table.{slots}
-use Rattle.model.specs.Meaning.Sizes.{liveCount}
+use Rattle.model.specs.Table.{slots, liveCount}
 use Rattle.printing.proofs.Rising.{liveFrom, live-all, live-next, live-marked, dead-unmarked, live-end}
 use Rattle.printing.proofs.live_count.Statement.{statement}
 use Rattle.printing.proofs.live_count.Tie as tie

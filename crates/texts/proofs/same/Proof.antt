@@ -3,7 +3,7 @@ use Prim.Native.Nat.{_≤_, _-_}
 use mathlib.Core.Path.{_≡_, refl, sym, _∙_}
 use native.Mathlib.Omega.{arith}
 use lib.ListN.{length, drop, length-drop}
-use Rattle.model.specs.Meaning.Worked.{equal}
+use Rattle.model.specs.Lists.{equal}
 use Rattle.texts.proofs.Comparing.{equal-lengths, equal-step, equal-stop, equal-end}
 use Rattle.texts.proofs.same.Statement.{statement}
 use Rattle.texts.proofs.same.Tie as tie

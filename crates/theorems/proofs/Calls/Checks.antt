@@ -19,8 +19,8 @@ use Rattle.model.specs.Checks.{checkChecks, orbitChecks, sheetChecks, addChecks
 use Rattle.model.specs.Checks.{layerChecks, splitChecks, stepChecks}
 use Rattle.model.specs.Calls.{Outcome}
 use Rattle.model.specs.Runs.{Op, Call}
-use Rattle.model.specs.Meaning.Maps.{byRule}
-use Rattle.model.specs.Meaning.Sizes.{member}
+use Rattle.model.specs.Meaning.Lists.{member}
+use Rattle.model.specs.Meaning.Maps.{byRule, NoRule}
 use Rattle.model.specs.Meaning.Ends.{recordOk, stepOk, checks, numbers, refusalPlace, refusalCount, checksOf}
 use Rattle.theorems.proofs.Lists.Ones.{in-member}
 use Rattle.theorems.proofs.Lists.Scan.{clash, test, or-false}
@@ -119,10 +119,6 @@ must-is : (b : Bool) {z : ℕ} → Is z 0 0 (must b z)
 must-is b {z} k p q e = mustAt-is b k p q (sym (must-at-0 b z) ∙ e)
 
 -- ---- the numbers of the rules of a map
-
--- k is none of them
-abbrev pub NoRule : ℕ → Type 0
-NoRule k = (r : MapRule) → k ≢ ruleNumber r
 
 by-none : (f : MapRule → ℕ) (z k : ℕ) → NoRule k → byRule f z k ≡ z
 unfolding byRule ruleNumber

@@ -14,7 +14,7 @@ use Rattle.model.specs.Checks.{mapChecks, addChecks, sidesChecks, sewChecks, un
 use Rattle.model.specs.Calls.{Outcome, refused, commit, checkCall, orbitCall, sheetCall, addCall, sewCall, unsewCall}
 use Rattle.model.specs.Calls.{removeCall, splitCall, stepOutcome, undoCall, redoCall}
 use Rattle.model.specs.Runs.{Op, Call, doCall, keeping, effect}
-use Rattle.model.specs.Meaning.Sizes.{member}
+use Rattle.model.specs.Meaning.Lists.{member}
 use Rattle.model.specs.Meaning.Ends.{recordOk, stepOk, checksOf, checks, numbers, lateNumbers, layerMarks, refusalMarks, refusedBy}
 use Rattle.model.specs.Meaning.Ends.{doneOf, done, Behind, Ends, Passed, OpAccepted}
 use Rattle.theorems.proofs.Lists.Scan.{test, clash}

@@ -15,7 +15,7 @@ use Rattle.model.specs.Checks.{Check, pass, refuse, andThen, inOrder, undoOk, r
 use Rattle.model.specs.Checks.{mapChecks, sidesChecks, layerChecks, splitChecks, stepChecks}
 use Rattle.model.specs.Calls.{Outcome, refused, sewCall, splitCall, undoCall, redoCall}
 use Rattle.model.specs.Runs.{Op, Call, doCall, keeping}
-use Rattle.model.specs.Meaning.Sizes.{member}
+use Rattle.model.specs.Meaning.Lists.{member}
 use Rattle.model.specs.Meaning.Ends.{lent, checksOf, checks, numbers, undoCount, undoStart, redoCount}
 use Rattle.model.specs.Meaning.Numbers.{StepFails}
 use Rattle.model.specs.Meaning.Pairings.{Pairing}

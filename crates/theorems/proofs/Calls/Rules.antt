@@ -16,8 +16,8 @@ use Rattle.model.specs.Checks.{checkChecks, orbitChecks, sheetChecks, addChecks
 use Rattle.model.specs.Checks.{layerChecks, stepChecks}
 use Rattle.model.specs.Calls.{Outcome, refused}
 use Rattle.model.specs.Runs.{Op, Call, doCall}
-use Rattle.model.specs.Meaning.Sizes.{member}
-use Rattle.model.specs.Meaning.Ends.{checksOf, checks, firstChecks, numbers}
+use Rattle.model.specs.Meaning.Lists.{member}
+use Rattle.model.specs.Meaning.Ends.{checksOf, checks, firstChecks, numbers, Answers}
 use Rattle.model.specs.Meaning.Maps.{Map, BreaksFirst}
 use Rattle.theorems.proofs.Lists.Scan.{test, clash}
 use Rattle.theorems.proofs.Maps.Rules.{map-of, of-map}
@@ -105,14 +105,10 @@ module _ (n : ℕ) (o : Outcome) where
   begins Call.redo = record { behind = _; is = refl; dim = refl; clear = refl }
 
   module _ (c : Call) where
-    -- the call gives the number of the rule, the place d and the count i
-    abbrev Answers : MapRule → ℕ → ℕ → Type 0
-    Answers r d i = (doCall n o c .number ≡ ruleNumber r) × (doCall n o c .place ≡ d) × (doCall n o c .count ≡ i)
-
     first-dim : inOrder (firstChecks n o c) ≡ pass → n ≤ 3
     first-dim h = dim-pass n (sym (begins c .dim) ∙ passed-at (firstChecks n o c) h 0) .1
 
-    answers : {r : MapRule} {d i : ℕ} → inOrder (firstChecks n o c) ≡ pass → BreaksFirst n t r d i → Answers r d i
+    answers : {r : MapRule} {d i : ℕ} → inOrder (firstChecks n o c) ≡ pass → BreaksFirst n t r d i → Answers n o c r d i
     unfolding refused
     answers {r} {d} {i} first f =
         let w = begins c in
@@ -132,10 +128,11 @@ module _ (n : ℕ) (o : Outcome) where
         absurd (not-in _ (ruleNumber r) (rule-not-in _ (w .clear) r) k i (sym (ap (λ (x : Outcome). x .number) is) ∙ h)))
         (passed-or-refused (inOrder (firstChecks n o c)))
 
-    pub rule-exactly : (r : MapRule) (d i : ℕ) → Answers r d i ↔ ((inOrder (firstChecks n o c) ≡ pass) × BreaksFirst n t r d i)
+    pub rule-exactly : (r : MapRule) (d i : ℕ)
+        → Answers n o c r d i ↔ ((inOrder (firstChecks n o c) ≡ pass) × BreaksFirst n (o .table) r d i)
     rule-exactly r d i = (λ a. (first-passed r (a .0), found a), λ w. answers (w .0) (w .1))
       where
-        found : Answers r d i → BreaksFirst n t r d i
+        found : Answers n o c r d i → BreaksFirst n t r d i
         found a =
             let (p, q, e, _) = call-refused n o c (λ z. rule-not-0 r (sym (a .0) ∙ z)) in
             let first = first-passed r (a .0) in

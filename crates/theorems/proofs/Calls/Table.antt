@@ -200,7 +200,7 @@ module _ (n : ℕ) (o : Outcome) where
       go pass e = ap (λ (r : Outcome). r .number) (call-ends n o c .passes e) ∙ done-number n o c
       go (refuse k p q) e = ap (λ (r : Outcome). r .number) (call-ends n o c .refuses k p q e)
 
-  pub number-table : (c : Call) (z : ℕ) → (doCall n o c .number ≡ z) ↔ First (numberRows n t m j c) z
+  pub number-table : (c : Call) (z : ℕ) → (doCall n o c .number ≡ z) ↔ First (numberRows n (o .table) (o .marks) (o .journal) c) z
   unfolding inOrder
   number-table c z =
       let w = rw (rows-numbers c) at (call-numbers n o c) in

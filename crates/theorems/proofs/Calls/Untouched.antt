@@ -12,10 +12,10 @@ use Rattle.model.specs.Calls.{Outcome, refused}
 use Rattle.model.specs.Runs.{Op, Call, doCall}
 use Rattle.model.specs.Meaning.Ends.{Untouched, done, refusalPlace, Sheeted, layerMarks, refusalMarks, doneOf}
 use Rattle.model.specs.Meaning.Ends.{Reading, reads-check, reads-orbit, reads-sheet}
-use Rattle.model.specs.Meaning.Maps.{byRule}
+use Rattle.model.specs.Meaning.Maps.{byRule, NoRule}
 use Rattle.model.specs.Meaning.Sheets.{marksOf}
 use Rattle.theorems.proofs.Lists.Scan.{if-eq}
-use Rattle.theorems.proofs.Calls.Checks.{NoRule, place-other, count-other}
+use Rattle.theorems.proofs.Calls.Checks.{place-other, count-other}
 use Rattle.theorems.proofs.Calls.Ends.{late-marks, call-says, call-done, call-refused}
 
 module _ (n : ℕ) (o : Outcome) (c : Call) where

@@ -8,11 +8,11 @@ use native.Mathlib.Omega.{arith}
 use lib.ListN.{length, getD, set, take, drop, length-append, length-drop, length-set, List·getD-append}
 use lib.Seq.{length-take-le, getD-append-add, getD-take, getD-drop, getD-set-same, getD-set-other}
 use Rattle.model.specs.Lists.{indexOf}
-use Rattle.model.specs.Journal.{cursor, end, changesFrom, recordOf, recordLength, written, tagAt}
+use Rattle.model.specs.Journal.{cursor, end, recordLength, written, tagAt}
 use Rattle.model.specs.Checks.{pass, journalOk, inOrder, addChecks, sidesChecks, unsewChecks, layerChecks, stepChecks}
 use Rattle.model.specs.Calls.{Outcome}
 use Rattle.model.specs.Runs.{Op, Call, doCall}
-use Rattle.model.specs.Meaning.Ends.{checks, opNumbers, numbers, undoStart, done, Recorded, CursorMoved, checksOf, doneOf}
+use Rattle.model.specs.Meaning.Ends.{checks, opNumbers, numbers, undoStart, done, recordMade, Recorded, CursorMoved, checksOf, doneOf}
 use Rattle.model.specs.Meaning.Numbers.{JournalRule}
 use Rattle.theorems.proofs.Lists.Scan.{if-eq}
 use Rattle.theorems.proofs.Calls.Checks.{passed-number}
@@ -107,14 +107,10 @@ op-journal n o tag p h = journal p (passed-number (opNumbers p) (checks n o (Cal
     journal (Op.split d) q = q
 
 module _ (n : ℕ) (o : Outcome) (tag : ℕ) (p : Op) (accepted : doCall n o (Call.op tag p) .number ≡ 0) where
-  -- the record of the changes that the operation made, with its tag
-  abbrev record-of : List ℕ
-  record-of = recordOf tag (changesFrom 0 (o .table) (doCall n o (Call.op tag p) .table))
-
-  pub op-written : doCall n o (Call.op tag p) .journal ≡ written (o .journal) record-of
+  pub op-written : doCall n o (Call.op tag p) .journal ≡ written (o .journal) (recordMade n o tag p)
   op-written = let r = op-accepted n o tag p accepted in rw (r .table) (r .journal)
 
-  pub op-recorded : Recorded record-of (o .journal) (doCall n o (Call.op tag p) .journal)
+  pub op-recorded : Recorded (recordMade n o tag p) (o .journal) (doCall n o (Call.op tag p) .journal)
   op-recorded =
       let r = op-accepted n o tag p accepted in
       let rule = journal-pass (o .journal) (op-journal n o tag p (call-passed n o (Call.op tag p) accepted)) in

@@ -14,10 +14,11 @@ use Rattle.model.specs.Table.{unused, slots, link, live}
 use Rattle.model.specs.Cell.{cellSize}
 use Rattle.model.specs.Add.{addedLink, added}
 use Rattle.model.specs.Numbering.{cellLink}
+use Rattle.model.specs.Meaning.Slots.{Vacant}
 use Rattle.model.specs.Meaning.Maps.{Map, MapTable, Straight, BlockTable}
 use Rattle.model.specs.Meaning.Places.{place, Chart}
 use Rattle.theorems.proofs.Lists.Scan.{test, clash}
-use Rattle.theorems.proofs.Lists.Ones.{Vacant, getD-in, index-getD, index-out, index-in, getD-index, in-or}
+use Rattle.theorems.proofs.Lists.Ones.{getD-in, index-getD, index-out, index-in, getD-index, in-or}
 use Rattle.theorems.proofs.Maps.Dim.{size-some}
 use Rattle.theorems.proofs.Maps.Rules.{link-retable, slots-retable, length-retable}
 use Rattle.theorems.proofs.Maps.Tables.{mapTable, live-below, rule-at}

@@ -16,7 +16,7 @@ use Rattle.model.specs.Journal.{changesFrom, changesAt, readChanges, put, unbro
 use Rattle.model.specs.Checks.{stepChecks, undoOk, redoOk}
 use Rattle.model.specs.Calls.{Outcome}
 use Rattle.model.specs.Runs.{Op, Call, doCall, effect}
-use Rattle.model.specs.Meaning.Ends.{Passed, done, CountsChanges, checksOf, doneOf}
+use Rattle.model.specs.Meaning.Ends.{Passed, done, CountsChanges, Counted, checksOf, doneOf}
 use Rattle.theorems.proofs.Sets.Sizes.{length-ones}
 use Rattle.theorems.proofs.Calls.Checks.{passed-at, passed-append}
 use Rattle.theorems.proofs.Calls.Pass.{step-pass}
@@ -38,23 +38,20 @@ module _ (n : ℕ) (o : Outcome) where
       let r = op-accepted n o tag p h in
       rw (r .table) (effect-changes-some n (o .table) (o .marks) (o .journal) p (r .passed))
 
-  abbrev Counted : Call → Type 0
-  Counted c = doCall n o c .number ≡ 0 → CountsChanges (o .table) (doCall n o c .table) (doCall n o c .count)
-
   op-counted : (tag : ℕ) (p : Op)
       → done n o (Call.op tag p) .count ≡ length (changesFrom 0 (o .table) (done n o (Call.op tag p) .table))
-      → Counted (Call.op tag p)
+      → Counted n o (Call.op tag p)
   op-counted tag p e h =
       let is = call-done n o (Call.op tag p) h in
       let changes : Outcome → ℕ = λ r. length (changesFrom 0 (o .table) (r .table)) in
       let size = ap (λ (r : Outcome). r .count) is ∙ e ∙ sym (ap changes is) in
       record { size = size; some = rw size (op-changes-some tag p h) }
 
-  pub sew-count : (tag i d e : ℕ) → Counted (Call.op tag (Op.sew i d e))
+  pub sew-count : (tag i d e : ℕ) → Counted n o (Call.op tag (Op.sew i d e))
   unfolding doneOf
   sew-count tag i d e = op-counted tag (Op.sew i d e) refl
 
-  pub unsew-count : (tag i d : ℕ) → Counted (Call.op tag (Op.unsew i d))
+  pub unsew-count : (tag i d : ℕ) → Counted n o (Call.op tag (Op.unsew i d))
   unfolding doneOf
   unsew-count tag i d = op-counted tag (Op.unsew i d) refl
 

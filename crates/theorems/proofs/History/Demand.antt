@@ -18,11 +18,11 @@ use Rattle.model.specs.Checks.{pass, must, dimOk, tableOk}
 use Rattle.model.specs.Calls.{Outcome}
 use Rattle.model.specs.Runs.{Op, Call, doCall, keeping, Tagged, replay, History, afterUndo, afterRedo, afterOp, accepted}
 use Rattle.model.specs.Runs.{answered, Step, State, answer, stepped, run, start}
-use Rattle.model.specs.Meaning.Demand.{FreshStart, calling, numberOf, placeOf, InHistory, Called, Stands, GivesBack, Alike}
-use Rattle.model.specs.Meaning.Maps.{Dim}
+use Rattle.model.specs.Meaning.Demand.{FreshStart, reached, calling, numberOf, placeOf, InHistory, Called, Stands, GivesBack, Alike}
+use Rattle.model.specs.Meaning.Maps.{Dim, NoRule}
 use Rattle.theorems.proofs.Maps.Dim.{two-cases}
 use Rattle.theorems.proofs.Lists.Scan.{clash}
-use Rattle.theorems.proofs.Calls.Checks.{Says, NoRule, rule-not-0}
+use Rattle.theorems.proofs.Calls.Checks.{Says, rule-not-0}
 use Rattle.theorems.proofs.Calls.Ends.{call-says, call-refused}
 use Rattle.theorems.proofs.Calls.Untouched.{call-untouched}
 use Rattle.theorems.proofs.History.Log.{journalOf, stepsTo}
@@ -282,50 +282,50 @@ refused-alike n s c h =
     record { table = r .table; journal = r .journal; history = refused-history _ (c .call) (s .history) h }
 
 module _ (n : ℕ) (t j : List ℕ) (fresh : FreshStart n t j) (cs : List Step) where
-  -- the state after the run cs
-  abbrev reached : State
-  reached = run n (start t j) cs
-
-  reached-invariant : InvariantAt n t reached
+  reached-invariant : InvariantAt n t (reached n t j cs)
   reached-invariant = run-invariant cs (start t j) (start-invariant n t j fresh)
 
-  pub demand-3 : Stands n t reached
-  demand-3 = invariant-stands reached reached-invariant
+  pub demand-3 : Stands n t (reached n t j cs)
+  demand-3 = invariant-stands _ reached-invariant
 
   -- what stands or was undone was called in the run with the tag that it has
-  pub history-called : (p : Tagged) → InHistory p (reached .history) → Called n (start t j) cs p
+  pub history-called : (p : Tagged) → InHistory p (reached n t j cs .history) → Called n (start t j) cs p
   unfolding start
   history-called p r =
       ⊎-elim (λ called. called) (λ none. absurd (⊎-elim not-nil not-nil none)) (run-called n cs (start t j) p r)
 
   -- an operation that is accepted has its tag given back, by undo and then by redo
-  pub op-tag : (tag : ℕ) (p : Op) (m : List ℕ) → numberOf n reached (Call.op tag p) m ≡ 0
-      → GivesBack n (stepped n reached (calling (Call.op tag p) m)) tag
+  pub op-tag : (tag : ℕ) (p : Op) (m : List ℕ) → numberOf n (reached n t j cs) (Call.op tag p) m ≡ 0
+      → GivesBack n (stepped n (reached n t j cs) (calling (Call.op tag p) m)) tag
   unfolding afterOp
   op-tag tag p m h =
-      let inv = step-invariant reached reached-invariant (calling (Call.op tag p) m) in
-      gives-back _ inv (record { tag = tag; op = p }) (reached .history .standing) [] (op-history n reached tag p m h)
+      let s = reached n t j cs in
+      let inv = step-invariant s reached-invariant (calling (Call.op tag p) m) in
+      gives-back _ inv (record { tag = tag; op = p }) (s .history .standing) [] (op-history n s tag p m h)
 
   -- k undos take the k newest operations back ..
   pub undo-newest : (m : List ℕ) (k : ℕ)
-      → run n reached (replicate k (calling Call.undo m)) .outcome .table ≡ replay n t (drop k (reached .history .standing))
+      → run n (reached n t j cs) (replicate k (calling Call.undo m)) .outcome .table
+      ≡ replay n t (drop k (reached n t j cs .history .standing))
   undo-newest m k =
-      run-invariant (replicate k (calling Call.undo m)) reached reached-invariant .table
-      ∙ ap (replay n t) (undos-standing m k reached reached-invariant)
+      run-invariant (replicate k (calling Call.undo m)) (reached n t j cs) reached-invariant .table
+      ∙ ap (replay n t) (undos-standing m k (reached n t j cs) reached-invariant)
 
   -- .. as many as stand, or more, give the first table back ..
-  pub undo-everything : (m : List ℕ) (k : ℕ) → length (reached .history .standing) ≤ k
-      → run n reached (replicate k (calling Call.undo m)) .outcome .table ≡ t
+  pub undo-everything : (m : List ℕ) (k : ℕ) → length (reached n t j cs .history .standing) ≤ k
+      → run n (reached n t j cs) (replicate k (calling Call.undo m)) .outcome .table ≡ t
   unfolding replay
   undo-everything m k h = undo-newest m k ∙ ap (replay n t) (drop-of-length-le _ h)
 
   -- .. and so do as many as there were calls
-  pub undo-run : (m : List ℕ) (k : ℕ) → length cs ≤ k → run n reached (replicate k (calling Call.undo m)) .outcome .table ≡ t
+  pub undo-run : (m : List ℕ) (k : ℕ) → length cs ≤ k
+      → run n (reached n t j cs) (replicate k (calling Call.undo m)) .outcome .table ≡ t
   unfolding start
   undo-run m k h = undo-everything m k (let a = run-grows n cs (start t j) in omega arith)
 
   -- a redo after an undo that was accepted gives table, journal and history back
-  pub redo-after-undo : (m m′ : List ℕ) → numberOf n reached Call.undo m ≡ 0
-      → Alike (run n reached (calling Call.undo m ∷ calling Call.redo m′ ∷ [])) reached
+  pub redo-after-undo : (m m′ : List ℕ) → numberOf n (reached n t j cs) Call.undo m ≡ 0
+      → Alike (run n (reached n t j cs) (calling Call.undo m ∷ calling Call.redo m′ ∷ [])) (reached n t j cs)
   redo-after-undo m m′ e =
-      undo-redo (reached .outcome) (reached .history .standing) (reached .history .undone) m m′ reached-invariant e
+      let s = reached n t j cs in
+      undo-redo (s .outcome) (s .history .standing) (s .history .undone) m m′ reached-invariant e

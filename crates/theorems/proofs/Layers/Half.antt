@@ -15,12 +15,11 @@ use Rattle.model.specs.Numbering.{cellLink}
 use Rattle.model.specs.Everything.{everything}
 use Rattle.model.specs.Meaning.Maps.{BlockTable, Dim}
 use Rattle.model.specs.Meaning.Places.{path, place}
-use Rattle.model.specs.Meaning.Sheets.{half}
+use Rattle.model.specs.Meaning.Sheets.{half, Sheet}
 use Rattle.theorems.proofs.Lists.Scan.{clash, and-l, and-r, below-at, or-cases}
 use Rattle.theorems.proofs.Maps.Dim.{two-cases}
 use Rattle.theorems.proofs.Cells.Rows.{rows-in}
 use Rattle.theorems.proofs.Cells.Chart.{place-chart}
-use Rattle.theorems.proofs.Layers.Sheet.{Sheet}
 use Rattle.theorems.proofs.Layers.Role.{keepsSheet, sheet-walk}
 
 -- ---- the places below `half n`, computed

@@ -10,10 +10,9 @@ use lib.ListN.{length, getD}
 use lib.Dec.{eqb}
 use borrow.Author.Tests.{eq-eqb, ne-eqb}
 use Rattle.model.specs.Lists.{count}
-use Rattle.model.specs.Table.{slots, link, live}
+use Rattle.model.specs.Table.{slots, link, live, liveCount}
 use Rattle.model.specs.Journal.{changesFrom}
 use Rattle.model.specs.Remove.{cellMark, marked, countMarked, removeTable}
-use Rattle.model.specs.Meaning.Sizes.{liveCount}
 use Rattle.model.specs.Meaning.Maps.{Dim}
 use Rattle.model.specs.Meaning.Sheets.{BlockDart, marksOf, howMany}
 use Rattle.model.specs.Meaning.Walks.{Layer, Removes, borders}

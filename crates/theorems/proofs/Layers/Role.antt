@@ -12,11 +12,12 @@ use borrow.Author.Tests.{eqb-false, eq-eqb, ne-eqb, ltb-true, not-true}
 use Rattle.model.specs.Table.{link, walk}
 use Rattle.model.specs.Split.{newDart, newDartLink, splitBy}
 use Rattle.model.specs.Meaning.Maps.{BlockTable, Rule}
+use Rattle.model.specs.Meaning.Sheets.{Sheet}
+use Rattle.model.specs.Meaning.Splits.{Splitting}
 use Rattle.theorems.proofs.Lists.Scan.{and-l, and-r, or-cases, if-eq, below-three, below-four}
 use Rattle.theorems.proofs.Maps.Tables.{mapTable, rule-at}
 use Rattle.theorems.proofs.Cells.Places.{same, same-eq}
-use Rattle.theorems.proofs.Layers.Sheet.{Sheet}
-use Rattle.theorems.proofs.Layers.Splitting.{Splitting, split-dart-link, new-link, split-kept}
+use Rattle.theorems.proofs.Layers.Splitting.{split-dart-link, new-link, split-kept}
 
 -- the opposite edge
 abbrev pub opposed : List ℕ

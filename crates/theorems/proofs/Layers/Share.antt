@@ -16,13 +16,14 @@ use Rattle.model.specs.Numbering.{cellLink}
 use Rattle.model.specs.Sheet.{sheet}
 use Rattle.model.specs.Split.{crosses}
 use Rattle.model.specs.Everything.{everything}
+use Rattle.model.specs.Meaning.Lists.{Distinct, more}
 use Rattle.model.specs.Meaning.Maps.{Dim, MapTable, BlockTable}
 use Rattle.model.specs.Meaning.Places.{place, Chart}
 use Rattle.model.specs.Meaning.Sets.{Marked}
 use Rattle.model.specs.Meaning.Sheets.{BlockDart, shared, half}
 use Rattle.theorems.proofs.Lists.Scan.{test, if-lt, and-l, and-r, and-i, length-tabFrom, tab-in, in-tab}
 use Rattle.theorems.proofs.Lists.Ones.{ones-of, ones-in}
-use Rattle.theorems.proofs.Sets.Pigeon.{Distinct, more, distinct-tab}
+use Rattle.theorems.proofs.Sets.Pigeon.{distinct-tab}
 use Rattle.theorems.proofs.Maps.Tables.{mapTable, live-below}
 use Rattle.theorems.proofs.Maps.Dim.{two-cases, size-some}
 use Rattle.theorems.proofs.Cells.Rows.{rows-in}

@@ -16,21 +16,12 @@ use Rattle.model.specs.Reach.{steps, links, inSet}
 use Rattle.model.specs.Sheet.{sheetWords, sheet}
 use Rattle.model.specs.Split.{crosses}
 use Rattle.model.specs.Meaning.Sets.{Least, Marked}
-use Rattle.model.specs.Meaning.Sheets.{BlockDart, Crossing}
+use Rattle.model.specs.Meaning.Sheets.{BlockDart, Sheet, Crossing}
 use Rattle.theorems.proofs.Lists.Scan.{test, clash}
 use Rattle.theorems.proofs.Lists.Ones.{ones-of, ones-in, ones-distinct}
 use Rattle.theorems.proofs.Sets.Closure.{closure-least}
-use Rattle.theorems.proofs.Sets.Pigeon.{Distinct}
 use Rattle.theorems.proofs.Sets.Links.{step-in, step-of}
 use Rattle.theorems.proofs.Maps.Tables.{mapTable, live-below, rule-at}
-
--- distinct live darts, closed as a sheet is
-pub record Sheet (n : ℕ) (t gs : List ℕ) : Type 0 where
-  pub once : Distinct gs
-  pub lives : (x : ℕ) → In x gs → live t x ≡ true
-  pub along : (x : ℕ) → In x gs → In (link t 0 x) gs
-  pub over : (x : ℕ) → In x gs → In (walk t (1 ∷ 0 ∷ 1 ∷ []) x) gs
-  pub far : (x j : ℕ) → 2 ≤ j → j ≤ n → In x gs → In (link t j x) gs
 
 module _ {n : ℕ} {t : List ℕ} {d : ℕ} (D : BlockDart n t d) where
   abbrev S : List ℕ

@@ -10,15 +10,16 @@ use native.Mathlib.Omega.{arith}
 use lib.ListN.{length, getD}
 use lib.Seq.{getD-take}
 use Rattle.model.specs.Lists.{count, indexOf, ones}
-use Rattle.model.specs.Table.{unused, slots, link, live, walk, unusedSlots}
+use Rattle.model.specs.Table.{unused, slots, link, live, walk, unusedSlots, liveCount}
 use Rattle.model.specs.Cell.{cellOf}
 use Rattle.model.specs.Journal.{changesFrom}
 use Rattle.model.specs.Sheet.{sheet}
 use Rattle.model.specs.Split.{newDart, splitSlots, splitTable}
-use Rattle.model.specs.Meaning.Sizes.{liveCount}
+use Rattle.model.specs.Meaning.Lists.{Rising}
+use Rattle.model.specs.Meaning.Slots.{Lowest, LowestUnused}
 use Rattle.model.specs.Meaning.Maps.{BlockTable}
 use Rattle.model.specs.Meaning.Sets.{Marked}
-use Rattle.model.specs.Meaning.Splits.{Splits, sheetDarts, newSlots, newOf, Unsplit, SplitLinks, TwoCells}
+use Rattle.model.specs.Meaning.Splits.{Splits, sheetDarts, newSlots, newOf, Unsplit, SplitLinks, TwoCells, Splitting, IsNew}
 use Rattle.theorems.proofs.Lists.Scan.{if-lt, clash}
 use Rattle.theorems.proofs.Lists.Ones.{index-in, ones-in, ones-of}
 use Rattle.theorems.proofs.Sets.Sizes.{length-ones}
@@ -27,11 +28,11 @@ use Rattle.theorems.proofs.Maps.Rules.{link-out}
 use Rattle.theorems.proofs.Maps.Tables.{mapTable, rule-at}
 use Rattle.theorems.proofs.Operations.Changes.{changedLinks, changed-one, changed-none}
 use Rattle.theorems.proofs.Operations.Frame.{split-frame}
-use Rattle.theorems.proofs.Operations.Slots.{Rising, ones-rising}
-use Rattle.theorems.proofs.Operations.Slots.{Lowest, LowestUnused, Filled, lowest-slots, lowest-first}
+use Rattle.theorems.proofs.Operations.Slots.{ones-rising}
+use Rattle.theorems.proofs.Operations.Slots.{Filled, lowest-slots, lowest-first}
 use Rattle.theorems.proofs.Operations.Slots.{filled-count, filled-changes}
 use Rattle.theorems.proofs.Layers.Sheet.{sheet-own, sheet-least, sheet-live}
-use Rattle.theorems.proofs.Layers.Splitting.{Splitting, IsNew, splits-splitting, split-slots, split-whole}
+use Rattle.theorems.proofs.Layers.Splitting.{splits-splitting, split-slots, split-whole}
 use Rattle.theorems.proofs.Layers.Splitting.{new-slot, new-in, new-one, slot-new}
 use Rattle.theorems.proofs.Layers.Role.{roleTo, roleWord, roleDart, role-link, role-plane}
 use Rattle.theorems.proofs.Layers.SplitMap.{Live, old, new, split-live, live-split}

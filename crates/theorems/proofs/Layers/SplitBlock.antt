@@ -13,17 +13,18 @@ use Rattle.model.specs.Table.{link, walk, live}
 use Rattle.model.specs.Cell.{cellSize}
 use Rattle.model.specs.Numbering.{cellLink}
 use Rattle.model.specs.Split.{newDart, splitBy}
-use Rattle.model.specs.Meaning.Sizes.{member}
+use Rattle.model.specs.Meaning.Lists.{member}
 use Rattle.model.specs.Meaning.Maps.{BlockTable, Dim}
 use Rattle.model.specs.Meaning.Places.{path, place, Chart}
 use Rattle.model.specs.Meaning.Sheets.{half}
+use Rattle.model.specs.Meaning.Splits.{Splitting}
 use Rattle.theorems.proofs.Lists.Scan.{test, if-eq, if-lt, clash, and-l, and-r, below-at, below-not}
 use Rattle.theorems.proofs.Lists.Ones.{member-in, in-member}
 use Rattle.theorems.proofs.Maps.Dim.{two-cases, size-some}
 use Rattle.theorems.proofs.Cells.Rows.{walk-rows, rows-in, path-small}
 use Rattle.theorems.proofs.Cells.Chart.{Charted, block-by, chart-kept}
 use Rattle.theorems.proofs.Cells.Chart.{place-chart, place-zero, place-live, place-back, place-one}
-use Rattle.theorems.proofs.Layers.Splitting.{Splitting, new-in, new-one, not-new, split-dart-link, split-kept}
+use Rattle.theorems.proofs.Layers.Splitting.{new-in, new-one, not-new, split-dart-link, split-kept}
 use Rattle.theorems.proofs.Layers.Role.{roleTo, roleWord, roleDart, sheet-rule, role-link}
 use Rattle.theorems.proofs.Layers.SplitMap.{Live, old, new, live-role, split-table, split-live, live-split}
 use Rattle.theorems.proofs.Layers.SplitSides.{split-straight}

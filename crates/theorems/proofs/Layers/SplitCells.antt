@@ -12,12 +12,12 @@ use Rattle.model.specs.Split.{newDart, splitBy}
 use Rattle.model.specs.Meaning.Maps.{BlockTable}
 use Rattle.model.specs.Meaning.Places.{place, AtPlace, Chart}
 use Rattle.model.specs.Meaning.Sets.{Marked}
-use Rattle.model.specs.Meaning.Splits.{TwoCells}
+use Rattle.model.specs.Meaning.Splits.{TwoCells, Splitting}
 use Rattle.theorems.proofs.Maps.Tables.{mapTable}
 use Rattle.theorems.proofs.Cells.Cell.{cell-own, cell-live, cell-same, all-places, place-in}
 use Rattle.theorems.proofs.Cells.Chart.{chart-place, place-chart}
 use Rattle.theorems.proofs.Operations.Frame.{cell-kept}
-use Rattle.theorems.proofs.Layers.Splitting.{Splitting, split-slots, split-kept}
+use Rattle.theorems.proofs.Layers.Splitting.{split-slots, split-kept}
 use Rattle.theorems.proofs.Layers.SplitMap.{Live, old, new, split-live, live-split}
 use Rattle.theorems.proofs.Layers.SplitBlock.{halfDart, InHalf, half-chart, half-own, half-live, half-old, across-out}
 use Rattle.theorems.proofs.Layers.SplitBlock.{place-in-half, new-in-half, half-or, split-block}

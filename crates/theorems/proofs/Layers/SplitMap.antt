@@ -14,6 +14,7 @@ use Rattle.model.specs.Table.{slots, link, walk, live}
 use Rattle.model.specs.Split.{splitBy}
 use Rattle.model.specs.Everything.{everything}
 use Rattle.model.specs.Meaning.Maps.{BlockTable, MapTable, Dim, Rule}
+use Rattle.model.specs.Meaning.Splits.{Splitting, IsNew}
 use Rattle.theorems.proofs.Lists.Scan.{test, if-eq, clash, and-l, and-r, below-at, or-cases}
 use Rattle.theorems.proofs.Lists.Ones.{in-or}
 use Rattle.theorems.proofs.Maps.Dim.{two-cases}
@@ -25,7 +26,7 @@ use Rattle.theorems.proofs.Cells.Places.{same, same-eq}
 use Rattle.theorems.proofs.Cells.Chart.{Ruled, ruled-table, live-of, of-live, live-same, word-keeps}
 use Rattle.theorems.proofs.Operations.Frame.{split-frame}
 use Rattle.theorems.proofs.Layers.Walk.{walk-append}
-use Rattle.theorems.proofs.Layers.Splitting.{Splitting, IsNew, slot-new, new-in, split-slots, split-whole, split-kept}
+use Rattle.theorems.proofs.Layers.Splitting.{slot-new, new-in, split-slots, split-whole, split-kept}
 use Rattle.theorems.proofs.Layers.Role.{roleTo, roleWord, roleDart, opposed, keepsSheet, sheet-walk, role-link, role-plane}
 
 -- ---- words that lead back

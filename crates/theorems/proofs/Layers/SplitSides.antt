@@ -22,6 +22,7 @@ use Rattle.model.specs.Meaning.Sets.{Marked}
 use Rattle.model.specs.Meaning.Pairings.{OnSide}
 use Rattle.model.specs.Meaning.Places.{place}
 use Rattle.model.specs.Meaning.Sheets.{half}
+use Rattle.model.specs.Meaning.Splits.{Splitting}
 use Rattle.theorems.proofs.Lists.Scan.{if-eq, clash, and-l, and-r, or-cases, below-at, below-both}
 use Rattle.theorems.proofs.Lists.Ones.{in-or}
 use Rattle.theorems.proofs.Maps.Dim.{two-cases, size-some}
@@ -30,7 +31,7 @@ use Rattle.theorems.proofs.Sewing.Side.{on-side, side-own, side-far, si
 use Rattle.theorems.proofs.Cells.Places.{same, same-eq}
 use Rattle.theorems.proofs.Cells.Rows.{rowWalk, small, walk-keeps, walk-rows, rows-in}
 use Rattle.theorems.proofs.Cells.Chart.{block-straight, place-chart, place-zero, place-one}
-use Rattle.theorems.proofs.Layers.Splitting.{Splitting, new-in, new-one, not-new, split-kept}
+use Rattle.theorems.proofs.Layers.Splitting.{new-in, new-one, not-new, split-kept}
 use Rattle.theorems.proofs.Layers.Role.{roleTo, roleWord, roleDart, opposed, keepsSheet, sheet-walk, role-link}
 use Rattle.theorems.proofs.Layers.SplitMap.{Live, old, new, live-split}
 use Rattle.theorems.proofs.Layers.Half.{half-size, in-half}

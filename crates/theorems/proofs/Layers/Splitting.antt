@@ -11,23 +11,15 @@ use Rattle.model.specs.Lists.{ones, indexOf}
 use Rattle.model.specs.Table.{unused, slots, link, live}
 use Rattle.model.specs.Sheet.{sheet}
 use Rattle.model.specs.Split.{crosses, newDart, newDartLink, splitLink, splitBy, splitSlots}
-use Rattle.model.specs.Meaning.Maps.{BlockTable, Dim}
-use Rattle.model.specs.Meaning.Splits.{Splits}
+use Rattle.model.specs.Meaning.Maps.{Dim}
+use Rattle.model.specs.Meaning.Splits.{Splits, Splitting, IsNew}
 use Rattle.theorems.proofs.Lists.Scan.{clash}
-use Rattle.theorems.proofs.Lists.Ones.{Vacant, vacant-frees, getD-in, index-getD, index-out, index-in, getD-index}
+use Rattle.theorems.proofs.Lists.Ones.{vacant-frees, getD-in, index-getD, index-out, index-in, getD-index}
 use Rattle.theorems.proofs.Maps.Dim.{two-cases}
 use Rattle.theorems.proofs.Maps.Rules.{link-retable, slots-retable, length-retable}
 use Rattle.theorems.proofs.Maps.Tables.{mapTable, live-below}
 use Rattle.theorems.proofs.Operations.Frame.{split-frame}
-use Rattle.theorems.proofs.Layers.Sheet.{Sheet, sheet-of, crosses-none}
-
--- a block map, the darts gs of a sheet of which none has its link 1 among them, and n vacant slots fs for each
-pub record Splitting (n : ℕ) (t gs fs : List ℕ) : Type 0 where
-  pub table : BlockTable n t
-  pub sheet : Sheet n t gs
-  pub uncrossed : (x : ℕ) → In x gs → In (link t 1 x) gs → ⊥
-  pub vacant : Vacant t fs
-  pub enough : length fs ≡ n * length gs
+use Rattle.theorems.proofs.Layers.Sheet.{sheet-of, crosses-none}
 
 pub splits-splitting : {n : ℕ} {t : List ℕ} {d : ℕ} → Splits n t d → Splitting n t (ones (sheet n t d)) (splitSlots n t (ones (sheet n t d)))
 unfolding splitSlots
@@ -57,14 +49,6 @@ module _ (n : ℕ) (dim : Dim n) where
       (λ k l h. omega arith) (λ k l h. omega arith)
 
 -- ---- the new darts
-
--- x is the new dart of a role (0 for a, 1 for b, 2 for c) of a dart of the sheet
-pub record IsNew (n : ℕ) (gs fs : List ℕ) (x : ℕ) : Type 0 where
-  pub role : ℕ
-  pub of : ℕ
-  pub low : role < n
-  pub member : In of gs
-  pub is : x ≡ newDart n gs fs role of
 
 module _ {n : ℕ} {t gs fs : List ℕ} (C : Splitting n t gs fs) where
   abbrev dim : Dim n

@@ -12,11 +12,11 @@ use lib.ListN.{length, getD, take}
 use borrow.Author.Tests.{lt-ltb, le-ltb, eq-eqb, ne-eqb}
 use Rattle.model.specs.Lists.{tabulate, onesFrom, indexOf}
 use Rattle.model.specs.Table.{slots, live, unusedSlots}
-use Rattle.model.specs.Meaning.Sizes.{member}
+use Rattle.model.specs.Meaning.Lists.{member, Distinct, none, more}
+use Rattle.model.specs.Meaning.Slots.{Vacant}
 use Rattle.model.specs.Meaning.Sets.{Marked}
 use Rattle.theorems.proofs.Lists.Scan.{clash, test, if-eq, length-tab, getD-tab}
 use Rattle.theorems.proofs.Sets.Closure.{marked-in}
-use Rattle.theorems.proofs.Sets.Pigeon.{Distinct, none, more}
 
 -- ---- the index of an entry
 
@@ -138,12 +138,6 @@ ones-distinct (y ∷ l) a =
     if-eq y 1 (λ e. rw (ones-one a y l e) (more once rec)) (λ e. rw (ones-other a y l e) rec)
 
 -- ---- the unused slots
-
--- distinct slots that are not live
-pub record Vacant (t fs : List ℕ) : Type 0 where
-  pub once : Distinct fs
-  pub inside : (x : ℕ) → In x fs → x < slots t
-  pub dead : (x : ℕ) → In x fs → live t x ≡ false
 
 pub vacant-frees : (t : List ℕ) (k : ℕ) → Vacant t (take k (unusedSlots t))
 unfolding unusedSlots

@@ -5,14 +5,14 @@ use Prim.Native.Nat.{ℕ, _+_, _*_, _≤_, _<_}
 use mathlib.Core.Path.{_≡_, refl, sym, ap, _∙_, subst}
 use mathlib.Core.Logic.{_↔_, ⊎-elim}
 use mathlib.Core.Bool.{true, false}
-use mathlib.Core.List.{List, [], _∷_, List·Memᴰ as In, List·Memᴰ·not-nil as not-nil, List·Memᴰ·cases-cons as in-cons}
+use mathlib.Core.List.{List, [], _∷_, List·Memᴰ·not-nil as not-nil, List·Memᴰ·cases-cons as in-cons}
 use mathlib.Core.List.{List·Memᴰ·head as here, List·Memᴰ·tail as there}
 use native.Mathlib.Omega.{arith}
 use lib.ListN.{length}
 use borrow.Author.Tests.{eqb-true, eq-eqb}
 use Rattle.model.specs.Table.{unused, slots, link, walk, live}
 use Rattle.model.specs.Map.{keepsRules, breaksRule, leastBreaking, isMap}
-use Rattle.model.specs.Meaning.Maps.{Map, Rule, Meets, LeastFailing}
+use Rattle.model.specs.Meaning.Maps.{Map, Rule, Meets, Low, LeastFailing}
 use Rattle.theorems.proofs.Lists.Scan.{test, clash}
 use Rattle.theorems.proofs.Maps.Failing.{failing, least-failing}
 use Rattle.theorems.proofs.Maps.Rules.{rule-of, of-rule, map-of, of-map, dead-link, dead-out}
@@ -31,10 +31,6 @@ module _ (n : ℕ) (t : List ℕ) (n3 : n ≤ 3) where
   none-breaking = (λ e. map-exactly .0 (eq-eqb _ _ e), λ m. eqb-true _ _ (map-exactly .1 m))
 
 -- ---- the slots met on a walk, in a table of a length that is allowed
-
--- the word has links below 4 only
-abbrev pub Low : List ℕ → Type 0
-Low w = (i : ℕ) → In i w → i < 4
 
 low-none : Low []
 low-none i k = absurd (not-nil k)

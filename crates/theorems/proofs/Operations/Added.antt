@@ -11,12 +11,12 @@ use native.Mathlib.Omega.{arith}
 use lib.ListN.{length, getD}
 use lib.Seq.{getD-take}
 use Rattle.model.specs.Lists.{indexOf}
-use Rattle.model.specs.Table.{unused, slots, link, live, unusedSlots}
+use Rattle.model.specs.Table.{unused, slots, link, live, unusedSlots, liveCount}
 use Rattle.model.specs.Cell.{cellSize, cellOf, goodCell}
 use Rattle.model.specs.Journal.{changesFrom}
 use Rattle.model.specs.Numbering.{cellLink}
 use Rattle.model.specs.Add.{addSlots, addedLink, added, addTable}
-use Rattle.model.specs.Meaning.Sizes.{liveCount}
+use Rattle.model.specs.Meaning.Slots.{Lowest, LowestUnused, newAt}
 use Rattle.model.specs.Meaning.Maps.{MapTable, Straight}
 use Rattle.theorems.proofs.Lists.Scan.{if-lt, clash}
 use Rattle.theorems.proofs.Lists.Ones.{getD-in, getD-index, index-in, in-or}
@@ -27,12 +27,8 @@ use Rattle.theorems.proofs.Cells.Cell.{cell-live}
 use Rattle.theorems.proofs.Cells.Chart.{live-same, chart-cell}
 use Rattle.theorems.proofs.Cells.Add.{add-new, add-table}
 use Rattle.theorems.proofs.Operations.Frame.{add-frame, cell-kept}
-use Rattle.theorems.proofs.Operations.Slots.{Lowest, LowestUnused, Filled, lowest-slots, lowest-first, rising-at}
+use Rattle.theorems.proofs.Operations.Slots.{Filled, lowest-slots, lowest-first, rising-at}
 use Rattle.theorems.proofs.Operations.Slots.{filled-count, filled-only}
-
--- the k-th dart of the new cell
-abbrev pub newAt : ℕ → List ℕ → ℕ → ℕ
-newAt n t k = getD (addSlots n t) k unused
 
 -- "8 or 48"
 pub cell-sizes : (n : ℕ) → (n ≡ 2 → cellSize n ≡ 8) × (n ≡ 3 → cellSize n ≡ 48)

@@ -10,27 +10,22 @@ use native.Mathlib.Omega.{arith}
 use lib.ListN.{length, getD, take, drop, take-append-drop, List·getD-eq-default}
 use borrow.Author.Tests.{eq-eqb, ne-eqb}
 use Rattle.model.specs.Lists.{tabulate, count, onesFrom}
-use Rattle.model.specs.Table.{slots, link, live, unusedSlots}
+use Rattle.model.specs.Table.{slots, link, live, unusedSlots, liveCount}
 use Rattle.model.specs.Journal.{changesFrom}
-use Rattle.model.specs.Meaning.Sizes.{member, liveCount}
+use Rattle.model.specs.Meaning.Lists.{member, Distinct, none, Rising, end, next}
+use Rattle.model.specs.Meaning.Slots.{Vacant, Lowest, LowestUnused}
 use Rattle.model.specs.Meaning.Maps.{MapTable}
 use Rattle.model.specs.Meaning.Sets.{Bits}
 use Rattle.model.specs.Meaning.Sheets.{howMany}
 use Rattle.theorems.proofs.Lists.Scan.{test, if-eq, if-lt, clash, length-tab, getD-tab}
-use Rattle.theorems.proofs.Lists.Ones.{Vacant, vacant-frees, getD-in, ones-in}
+use Rattle.theorems.proofs.Lists.Ones.{vacant-frees, getD-in, ones-in}
 use Rattle.theorems.proofs.Lists.Ones.{in-or, member-in, in-member}
 use Rattle.theorems.proofs.Maps.Rules.{dead-link}
 use Rattle.theorems.proofs.Maps.Tables.{live-below, rule-at}
 use Rattle.theorems.proofs.Operations.Changes.{changedLinks, changes-size, changed-all, changed-none}
 use Rattle.theorems.proofs.Layers.Counts.{bit, howMany-least, howMany-most, howMany-total, total-howMany}
-use Rattle.theorems.proofs.Sets.Pigeon.{Distinct, none}
 
 -- ---- rising lists
-
--- each entry is below all that come after it
-pub data Rising : List ℕ → Type 0 where
-  end : Rising []
-  next : {x : ℕ} {l : List ℕ} → ((y : ℕ) → In y l → x < y) → Rising l → Rising (x ∷ l)
 
 pub rising-at : {l : List ℕ} → Rising l → (i j d : ℕ) → i < j → j < length l → getD l i d < getD l j d
 rising-at end i j d ij h = absurd (omega arith)
@@ -75,12 +70,6 @@ rising-apart (z ∷ k) l (next low p) x y i j =
 
 -- ---- the lowest unused slots
 
--- the slots fs are unused, rise, and are below all other unused slots
-pub record Lowest (t fs : List ℕ) : Type 0 where
-  pub vacant : Vacant t fs
-  pub rising : Rising fs
-  pub lowest : (x y : ℕ) → In x fs → y < slots t → live t y ≡ false → (In y fs → ⊥) → x < y
-
 unused-in : (t : List ℕ) (x : ℕ) → x < slots t → live t x ≡ false → In x (unusedSlots t)
 unfolding unusedSlots
 unused-in t x h e = ones-in _ x (getD-tab (λ d. elim (live t d) [ true ↦ 0 | false ↦ 1 ]) (slots t) x 0 h ∙ rw e)
@@ -104,10 +93,6 @@ lowest-slots t k = record { vacant = vacant-frees t k; rising = rising-left low 
     below : (x y : ℕ) → In x low → y < slots t → live t y ≡ false → (In y low → ⊥) → x < y
     below x y i h e out = ⊎-elim (λ j. absurd (out j)) (λ j. rising-apart low high parts x y i j)
         (in-append low (subst (In y) (sym (take-append-drop k (unusedSlots t))) (unused-in t y h e)))
-
--- p is unused, and no unused slot is below it
-abbrev pub LowestUnused : List ℕ → ℕ → Type 0
-LowestUnused t p = (p < slots t) × (live t p ≡ false) × ((y : ℕ) → y < slots t → live t y ≡ false → p ≤ y)
 
 pub lowest-first : {t fs : List ℕ} → Lowest t fs → 0 < length fs → LowestUnused t (getD fs 0 0)
 lowest-first {t} {fs} L some = (L .vacant .inside _ first, L .vacant .dead _ first, least)

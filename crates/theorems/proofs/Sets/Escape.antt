@@ -8,8 +8,9 @@ use mathlib.Core.List.{List·Memᴰ·head as here, List·Memᴰ·tail as there, 
 use native.Mathlib.Omega.{arith}
 use lib.ListN.{length, replicate, getD-replicate}
 use Rattle.model.specs.Lists.{count}
+use Rattle.model.specs.Meaning.Lists.{Distinct, none, more}
 use Rattle.theorems.proofs.Lists.Scan.{test}
-use Rattle.theorems.proofs.Sets.Pigeon.{Distinct, none, more, distinct-le}
+use Rattle.theorems.proofs.Sets.Pigeon.{distinct-le}
 
 count-ones : (n : ℕ) → count 1 (replicate n 1) ≡ n
 unfolding count

@@ -11,6 +11,7 @@ use lib.ListN.{length, getD, set, length-set, length-append}
 use lib.Seq.{getD-set-same, getD-set-other, set-getD, set-set}
 use borrow.Author.Tests.{eq-eqb, ne-eqb}
 use Rattle.model.specs.Lists.{count, tabulateFrom}
+use Rattle.model.specs.Meaning.Lists.{Distinct, none, more}
 use Rattle.model.specs.Meaning.Sets.{Marked}
 use Rattle.theorems.proofs.Lists.Scan.{if-eq, if-lt, count-change, count-le, length-tabFrom, tab-in, in-tab}
 use Rattle.theorems.proofs.Sets.Closure.{marked-in}
@@ -65,10 +66,6 @@ cover (y ∷ l) m h =
     rest x p =
         let (other, q) = drop-other m y x p in
         ⊎-elim (λ (e : x ≡ y). absurd (other e)) (λ i. i) (in-cons (h x q))
-
-pub data Distinct : List ℕ → Type 0 where
-  none : Distinct []
-  more : {x : ℕ} {l : List ℕ} → (In x l → ⊥) → Distinct l → Distinct (x ∷ l)
 
 -- a list of distinct marked slots is at most as long as they are many
 pub distinct-le : (l m : List ℕ) → Distinct l → ((x : ℕ) → In x l → Marked m x) → length l ≤ count 1 m

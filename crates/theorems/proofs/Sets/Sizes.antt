@@ -11,9 +11,10 @@ use lib.ListN.{length, set, length-map}
 use lib.Seq.{getD-set-other}
 use lib.Dec.{eqb}
 use Rattle.model.specs.Lists.{count, onesFrom, ones}
+use Rattle.model.specs.Meaning.Lists.{Distinct, more}
 use Rattle.model.specs.Meaning.Sets.{Marked}
 use Rattle.theorems.proofs.Lists.Ones.{ones-of, ones-in, ones-distinct}
-use Rattle.theorems.proofs.Sets.Pigeon.{count-most, count-drop, cover, Distinct, more}
+use Rattle.theorems.proofs.Sets.Pigeon.{count-most, count-drop, cover}
 
 pub length-ones : (s : List ℕ) (a : ℕ) → length (onesFrom a s) ≡ count 1 s
 unfolding onesFrom count
