@@ -10,7 +10,7 @@ use Rattle.model.specs.Table.{unused, slots, link}
 use Rattle.model.specs.Numbering.{cellLink}
 use Rattle.model.specs.Journal.{cursor, changesFrom}
 use Rattle.model.specs.Add.{addSlots, addTable}
-use Rattle.model.specs.Meaning.Slots.{newAt}
+use Rattle.model.specs.Meaning.Slots.{addedDart}
 use Rattle.theorems.proofs.Lists.Scan.{if-eq, if-lt, below-four}
 use Rattle.theorems.proofs.Lists.Ones.{getD-in, getD-index, index-in}
 use Rattle.theorems.proofs.Sets.Closure.{getD-any}
@@ -27,7 +27,7 @@ module _ {n : ℕ} {t words : List ℕ} {size : ℕ} {j : List ℕ} (C : NewCell
   abbrev word : ℕ → ℕ
   word k = getD words k 0
 
-  pub word-new : (k : ℕ) → k < size → word k ≡ newAt n t k
+  pub word-new : (k : ℕ) → k < size → word k ≡ addedDart n t k
   word-new k low =
       let long = C .long in
       getD-any words k 0 unused (omega arith) ∙ sym (getD-take size words k unused low)

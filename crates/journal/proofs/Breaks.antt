@@ -1,16 +1,16 @@
 -- The tests by which a record is broken: of a change (`sound-low` to `sound-differs`), of the changes one after another
--- (`sound-stops`, `sound-goes`), of a record (`broken-empty` to `unbroken-tested`), and what they say where all are passed
--- (`sound-parts`, `sound-within`).
+-- (`sound-stops`, `sound-goes`), of a record (`unbroken-tested`), and what they say where all are passed (`sound-within`).
 use Prim.Native.Nat.{ℕ, zero, suc, _+_, _*_, _-_, _≤_, _<_}
-use mathlib.Core.Path.{_≡_, refl, sym, _∙_}
+use mathlib.Core.Path.{_≡_, refl, _∙_}
 use mathlib.Core.Bool.{Bool, true, false, not, _&&_}
 use mathlib.Core.List.{List, [], _∷_}
 use native.Mathlib.Numerals.{add-one}
 use lib.ListN.{length, getD, drop}
 use lib.Dec.{leb, ltb, eqb}
-use borrow.Author.Tests.{leb-true, ltb-true, eqb-true, le-leb, lt-leb, lt-ltb, le-ltb, eq-eqb, ne-eqb}
+use borrow.Author.Tests.{le-leb, lt-leb, lt-ltb, le-ltb, eq-eqb, ne-eqb}
 use Rattle.model.specs.Journal.{Change, end, recordLength, readChanges, changesAt, sound, unbroken}
-use Rattle.theorems.proofs.Lists.Scan.{and-l, and-r, and-i}
+use Rattle.theorems.proofs.Lists.Scan.{and-i}
+use Rattle.theorems.proofs.History.Sound.{first-sound}
 use Rattle.journal.specs.Records.{changeAt, valuePut, within}
 use Rattle.journal.proofs.Puts.{read-next}
 
@@ -63,22 +63,6 @@ module _ (redo : Bool) (t j : List ℕ) (e w : ℕ) where
 -- ---- the tests of the record of k changes at the word a
 
 module _ (redo : Bool) (t j : List ℕ) (a k : ℕ) where
-  pub broken-empty : k ≡ 0 → unbroken redo t j a k ≡ false
-  unfolding unbroken
-  broken-empty h = rw (eq-eqb k 0 h)
-
-  pub broken-low : a < 2 → unbroken redo t j a k ≡ false
-  unfolding unbroken
-  broken-low h = rw (lt-leb 2 a h, and-false)
-
-  pub broken-long : end j < a + recordLength k → unbroken redo t j a k ≡ false
-  unfolding unbroken
-  broken-long h = rw (lt-leb (a + recordLength k) (end j) h, and-false)
-
-  pub broken-counts : (getD j a 0 ≡ getD j (a + (3 * k + 2)) 0 → ⊥) → unbroken redo t j a k ≡ false
-  unfolding unbroken
-  broken-counts h = rw (ne-eqb (getD j a 0) (getD j (a + (3 * k + 2)) 0) h, and-false)
-
   -- r is what the test of the changes gave
   pub unbroken-tested : (k ≡ 0 → ⊥) → 2 ≤ a → a + recordLength k ≤ end j → getD j a 0 ≡ getD j (a + (3 * k + 2)) 0
       → (r : Bool) → r ≡ sound redo t 0 (changesAt j a k) → r ≡ unbroken redo t j a k
@@ -105,28 +89,10 @@ module _ (j : List ℕ) (w left : ℕ) (some : zero < left) where
 
 -- ---- what the tests say where all are passed
 
-both : (a b : Bool) → (a && b) ≡ true → (a ≡ true) × (b ≡ true)
-both a b h = (and-l a b h, and-r a b h)
-
-pub record Sound (redo : Bool) (t : List ℕ) (e : ℕ) (c : Change) (cs : List Change) : Type 0 where
-  pub rising : e ≤ c .entry
-  pub inside : c .entry < length t
-  pub held : getD t (c .entry) 0 ≡ valuePut (not redo) c
-  pub rest : sound redo t (suc (c .entry)) cs ≡ true
-
-pub sound-parts : (redo : Bool) (t : List ℕ) (e : ℕ) (c : Change) (cs : List Change)
-    → sound redo t e (c ∷ cs) ≡ true → Sound redo t e c cs
-sound-parts redo t e c cs h =
-    let (tests, rest) = both _ _ (sym (sound-tests redo t e c cs) ∙ h) in
-    let (apart, held) = both _ _ tests in
-    let (placed, differs) = both _ _ apart in
-    let (rising, inside) = both _ _ placed in
-    record { rising = leb-true _ _ rising; inside = ltb-true _ _ inside; held = eqb-true _ _ held; rest = rest }
-
 -- the entries of a sound record lie in the table
 pub sound-within : (redo : Bool) (t : List ℕ) (e : ℕ) (cs : List Change) → sound redo t e cs ≡ true → within (length t) cs ≡ true
 unfolding within
 sound-within redo t e [] h = refl
 sound-within redo t e (c ∷ cs) h =
-    let s = sound-parts redo t e c cs h in
-    and-i (lt-ltb _ _ (s .inside)) (sound-within redo t (suc (c .entry)) cs (s .rest))
+    let s = first-sound redo t e c cs h in
+    and-i (lt-ltb _ _ (s .within)) (sound-within redo t (suc (c .entry)) cs (s .rest))

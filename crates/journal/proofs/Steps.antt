@@ -1,7 +1,7 @@
 -- What undo and redo need of a record: where it is unbroken it can be put (`unbroken-fits`) and taken back (`unbroken-again`,
 -- `unbroken-back`), and `stepOutcome` is one of three (`step-broken`, `step-no-map`, `step-taken`).
 use Prim.Native.Nat.{ℕ, suc, _+_, _≤_, _<_}
-use mathlib.Core.Path.{_≡_, sym, ap, _∙_}
+use mathlib.Core.Path.{_≡_, refl, sym, ap, _∙_}
 use mathlib.Core.Bool.{Bool, true, false, not}
 use mathlib.Core.List.{List, [], _∷_}
 use native.Mathlib.Omega.{arith}
@@ -10,10 +10,17 @@ use lib.Seq.{set-comm, set-set, set-getD}
 use Rattle.model.specs.Map.{isMap}
 use Rattle.model.specs.Journal.{Change, end, recordLength, changesAt, tagAt, put, sound, unbroken}
 use Rattle.model.specs.Calls.{stepOutcome, refused}
+use Rattle.theorems.proofs.History.Sound.{replaced, first-sound}
 use Rattle.theorems.proofs.History.Broken.{Whole, unbroken-whole}
 use Rattle.journal.specs.Records.{valuePut, within}
 use Rattle.journal.proofs.Puts.{put-none, put-next, put-length}
-use Rattle.journal.proofs.Breaks.{sound-parts, sound-within}
+use Rattle.journal.proofs.Breaks.{sound-within}
+
+-- undo puts what redo replaces, and redo what undo replaces
+replaced-put : (redo : Bool) (c : Change) → replaced redo c ≡ valuePut (not redo) c
+unfolding valuePut
+replaced-put true c = refl
+replaced-put false c = refl
 
 module _ (redo : Bool) (t : List ℕ) where
   -- a value before the entries of a sound record can be set before or after
@@ -21,7 +28,7 @@ module _ (redo : Bool) (t : List ℕ) where
       → put way cs (set u x v) ≡ set (put way cs u) x v
   put-set way [] e x v u h l = put-none way (set u x v) ∙ ap (λ (r : List ℕ). set r x v) (sym (put-none way u))
   put-set way (c ∷ cs) e x v u h l =
-      let s = sound-parts redo t e c cs h in
+      let s = first-sound redo t e c cs h in
       let low = s .rising in
       let y = c .entry in
       let z = valuePut way c in
@@ -34,19 +41,19 @@ module _ (redo : Bool) (t : List ℕ) where
   put-unset : (c : Change) (cs : List Change) (e : ℕ) → sound redo t e (c ∷ cs) ≡ true
       → set (put redo (c ∷ cs) t) (c .entry) (valuePut (not redo) c) ≡ put redo cs t
   put-unset c cs e h =
-      let s = sound-parts redo t e c cs h in
+      let s = first-sound redo t e c cs h in
       let x = c .entry in
       let v = valuePut redo c in
       let w = valuePut (not redo) c in
       ap (λ (r : List ℕ). set r x w) (put-next redo c cs t)
       ∙ sym (put-set redo cs (suc x) x w (set t x v) (s .rest) (omega arith))
-      ∙ ap (put redo cs) (set-set t x v w ∙ ap (set t x) (sym (s .held)) ∙ set-getD t x 0)
+      ∙ ap (put redo cs) (set-set t x v w ∙ ap (set t x) (sym (s .held ∙ replaced-put redo c)) ∙ set-getD t x 0)
 
   back-from : (cs : List Change) (e : ℕ) → sound redo t e cs ≡ true → put (not redo) cs (put redo cs t) ≡ t
   back-from [] e h = put-none (not redo) _ ∙ put-none redo t
   back-from (c ∷ cs) e h =
       put-next (not redo) c cs _ ∙ ap (put (not redo) cs) (put-unset c cs e h)
-      ∙ back-from cs (suc (c .entry)) (sound-parts redo t e c cs h .rest)
+      ∙ back-from cs (suc (c .entry)) (first-sound redo t e c cs h .rest)
 
   -- the values of a sound record put into a table, and then those that they replaced, give the table back
   pub put-back : (cs : List Change) → sound redo t 0 cs ≡ true → put (not redo) cs (put redo cs t) ≡ t

@@ -3,7 +3,9 @@ use mathlib.Core.Path.{sym}
 use native.Mathlib.Omega.{arith}
 use borrow.Author.Needs.{needs}
 use Rattle.model.specs.Journal.{end}
-use Rattle.journal.proofs.Breaks.{broken-empty, broken-low, broken-long, broken-counts, unbroken-tested}
+use Rattle.model.specs.Meaning.Records.{no-change, passes-2, passes-end, counts-differ}
+use Rattle.theorems.proofs.History.Broken.{unbroken-exactly}
+use Rattle.journal.proofs.Breaks.{unbroken-tested}
 use Rattle.journal.proofs.unbroken.Statement.{statement}
 use Rattle.journal.proofs.unbroken.Tie as tie
 
@@ -20,18 +22,18 @@ cast-end : tie.Need-cast-end
 cast-end c = omega (arith, c .shared-slice-known3 .given 1)
 
 returns : tie.Need-returns
-returns c = sym (broken-empty _ _ _ _ _ (c .if1 .taken))
+returns c = sym (unbroken-exactly _ _ _ _ _ .1 (no-change (c .if1 .taken)))
 
 returns-2 : tie.Need-returns-2
-returns-2 c = sym (broken-low _ _ _ _ _ (c .if2 .taken))
+returns-2 c = sym (unbroken-exactly _ _ _ _ _ .1 (passes-2 (c .if2 .taken)))
 
 returns-3 : tie.Need-returns-3
 unfolding end
-returns-3 c = sym (broken-long _ _ _ _ _ (omega arith))
+returns-3 c = sym (unbroken-exactly _ _ _ _ _ .1 (passes-end (omega arith)))
 
 returns-4 : tie.Need-returns-4
 unfolding end
-returns-4 c = sym (broken-long _ _ _ _ _ (omega arith))
+returns-4 c = sym (unbroken-exactly _ _ _ _ _ .1 (passes-end (omega arith)))
 
 mul-if5 : tie.Need-mul-if5
 unfolding end
@@ -54,7 +56,7 @@ unfolding end
 shared-slice-read-if5-2 c = omega arith
 
 returns-5 : tie.Need-returns-5
-returns-5 c = sym (broken-counts _ _ _ _ _ (c .if5 .taken))
+returns-5 c = sym (unbroken-exactly _ _ _ _ _ .1 (counts-differ (c .if5 .taken)))
 
 sound-changes-requires : tie.Need-sound-changes-requires
 unfolding end

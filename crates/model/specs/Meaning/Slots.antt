@@ -25,5 +25,5 @@ abbrev pub LowestUnused : List ℕ → ℕ → Type 0
 LowestUnused t p = (p < slots t) × (live t p ≡ false) × ((y : ℕ) → y < slots t → live t y ≡ false → p ≤ y)
 
 -- the k-th dart of the cell that add makes: "its k-th dart in the k-th of them"
-abbrev pub newAt : ℕ → List ℕ → ℕ → ℕ
-newAt n t k = getD (addSlots n t) k unused
+abbrev pub addedDart : ℕ → List ℕ → ℕ → ℕ
+addedDart n t k = getD (addSlots n t) k unused

@@ -1,6 +1,6 @@
 -- When a record is broken, by its words. `unbroken-exactly`: the test fails exactly for one of 01's reasons; `whole-exactly`: it
 -- holds exactly if there is none. `undo-passes-2`, `undo-last-count`: where undo's record begins, and the count that undo reads.
-use Prim.Native.Nat.{ℕ, zero, suc, _+_, _*_, _-_, _≤_, _<_}
+use Prim.Native.Nat.{ℕ, zero, suc, _+_, _*_, _≤_, _<_}
 use mathlib.Core.Path.{_≡_, refl, sym, ap, ap₂, _∙_}
 use mathlib.Core.Logic.{_≢_, _↔_}
 use mathlib.Core.Bool.{Bool, true, false, not, _&&_}
@@ -31,11 +31,11 @@ listed-same (suc k) f g h =
     ap₂ (λ (c : Change) (cs : List Change). c ∷ cs) (h 0) (listed-same k (λ x. f (suc x)) (λ x. g (suc x)) (λ x. h (suc x)))
 
 -- change x of the record at the word a
-abbrev pub changeAt : List ℕ → ℕ → ℕ → Change
-changeAt j a x = record { entry = entryAt j a x; old = oldAt j a x; new = newAt j a x }
+abbrev pub tripleAt : List ℕ → ℕ → ℕ → Change
+tripleAt j a x = record { entry = entryAt j a x; old = oldAt j a x; new = newAt j a x }
 
 -- the changes that are read are those
-pub read-listed : (j : List ℕ) (a k : ℕ) → changesAt j a k ≡ listed k (changeAt j a)
+pub read-listed : (j : List ℕ) (a k : ℕ) → changesAt j a k ≡ listed k (tripleAt j a)
 unfolding changesAt readChanges listed
 read-listed j a zero = refl
 read-listed j a (suc k) = ap₂ (λ (c : Change) (cs : List Change). c ∷ cs) first (behind (read-listed j (a + 3) k))
@@ -48,16 +48,16 @@ read-listed j a (suc k) = ap₂ (λ (c : Change) (cs : List Change). c ∷ cs) f
     same e o n e′ o′ n′ p q r = rw (p, q, r)
 
     first : record { entry = getD (drop (a + 2) j) 0 0; old = getD (drop (a + 2) j) 1 0; new = getD (drop (a + 2) j) 2 0 }
-        ≡ changeAt j a 0
+        ≡ tripleAt j a 0
     first = same _ _ _ _ _ _ (word 0 (a + 2) (a + 2 + 3 * 0) (omega arith)) (word 1 (a + 2) (a + 3 + 3 * 0) (omega arith))
         (word 2 (a + 2) (a + 4 + 3 * 0) (omega arith))
 
-    next : (x : ℕ) → changeAt j (a + 3) x ≡ changeAt j a (suc x)
+    next : (x : ℕ) → tripleAt j (a + 3) x ≡ tripleAt j a (suc x)
     next x = same _ _ _ _ _ _ (ap (λ (w : ℕ). getD j w 0) (omega arith)) (ap (λ (w : ℕ). getD j w 0) (omega arith))
         (ap (λ (w : ℕ). getD j w 0) (omega arith))
 
-    behind : readChanges k (drop (a + 3 + 2) j) ≡ listed k (changeAt j (a + 3))
-        → readChanges k (drop 3 (drop (a + 2) j)) ≡ listed k (λ x. changeAt j a (suc x))
+    behind : readChanges k (drop (a + 3 + 2) j) ≡ listed k (tripleAt j (a + 3))
+        → readChanges k (drop 3 (drop (a + 2) j)) ≡ listed k (λ x. tripleAt j a (suc x))
     behind rest =
         let moved : a + 2 + 3 ≡ a + 3 + 2 = omega arith in
         ap (readChanges k) (drop-drop 3 (a + 2) j ∙ ap (λ (w : ℕ). drop w j) moved) ∙ rest ∙ listed-same k _ _ next
@@ -135,7 +135,7 @@ pub record Whole (redo : Bool) (t j : List ℕ) (a k : ℕ) : Type 0 where
   pub counts : countAt j a ≡ lastCountAt j a k
   pub sounds : sound redo t 0 (changesAt j a k) ≡ true
 
-replaced-is : (redo : Bool) (j : List ℕ) (a x : ℕ) → replaced redo (changeAt j a x) ≡ replacedAt redo j a x
+replaced-is : (redo : Bool) (j : List ℕ) (a x : ℕ) → replaced redo (tripleAt j a x) ≡ replacedAt redo j a x
 replaced-is true j a x = refl
 replaced-is false j a x = refl
 
@@ -166,7 +166,7 @@ module _ {redo : Bool} {t j : List ℕ} {a k : ℕ} where
       and-i (and-i (and-i (and-i some low) (le-leb _ _ (w .fits))) (eq-eqb _ _ (w .counts))) (w .sounds)
 
   -- what is not sound is broken
-  broken-change : Unsound redo t 0 k (changeAt j a) → Broken redo t j a k
+  broken-change : Unsound redo t 0 k (tripleAt j a) → Broken redo t j a k
   broken-change (starts-low l q) = absurd (omega arith)
   broken-change (falls x l q) = not-rising x l q
   broken-change (past x l q) = past-table x l q
@@ -176,8 +176,8 @@ module _ {redo : Bool} {t j : List ℕ} {a k : ℕ} where
   whole-not-broken : Whole redo t j a k → Broken redo t j a k → ⊥
   whole-not-broken w = none
     where
-      sounds : Unsound redo t 0 k (changeAt j a) → ⊥
-      sounds = sound-holds k (changeAt j a) 0 (rw (read-listed j a k) at (w .sounds))
+      sounds : Unsound redo t 0 k (tripleAt j a) → ⊥
+      sounds = sound-holds k (tripleAt j a) 0 (rw (read-listed j a k) at (w .sounds))
 
       none : Broken redo t j a k → ⊥
       none (counts-differ q) = q (w .counts)
@@ -196,7 +196,7 @@ module _ (redo : Bool) (t j : List ℕ) (a k : ℕ) where
       (λ some. if-lt a 2 passes-2
       (λ low. if-lt (end j) (a + (3 * k + 3)) passes-end
       (λ fits. if-eq (countAt j a) (lastCountAt j a k)
-      (λ counts. broken-change (sound-fails k (changeAt j a) 0 (rw (read-listed j a k) at (test (sound redo t 0 (changesAt j a k))
+      (λ counts. broken-change (sound-fails k (tripleAt j a) 0 (rw (read-listed j a k) at (test (sound redo t 0 (changesAt j a k))
       (λ sounds. absurd (clash (whole-unbroken (record { some = some; low = low; fits = fits; counts = counts; sounds = sounds })) h))
       (λ q. q)))))
       counts-differ)))

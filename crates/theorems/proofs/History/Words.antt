@@ -17,7 +17,7 @@ use Rattle.theorems.proofs.Calls.Ends.{op-accepted}
 use Rattle.theorems.proofs.Calls.Written.{op-recorded}
 use Rattle.theorems.proofs.History.Record.{put-new-changes, read-triples, length-triples, length-record}
 use Rattle.theorems.proofs.History.Sound.{sound-undo, sound-redo}
-use Rattle.theorems.proofs.History.Broken.{listed, changeAt, read-listed, Unsound, falls, past, same, differs, sound-holds}
+use Rattle.theorems.proofs.History.Broken.{listed, tripleAt, read-listed, Unsound, falls, past, same, differs, sound-holds}
 use Rattle.theorems.proofs.History.Ops.{effect-length}
 
 -- an entry that is not as before is that of a change
@@ -33,7 +33,7 @@ put-entry (suc k) f t e h =
     (suc x, omega arith, is))
 
 -- the changes are those that the words of their record say
-pub record-listed : (tag : ℕ) (cs : List Change) → listed (length cs) (changeAt (recordOf tag cs) 0) ≡ cs
+pub record-listed : (tag : ℕ) (cs : List Change) → listed (length cs) (tripleAt (recordOf tag cs) 0) ≡ cs
 unfolding changesAt recordOf
 record-listed tag cs = sym (read-listed (recordOf tag cs) 0 (length cs)) ∙ read-triples cs (length cs ∷ [])
 
@@ -53,14 +53,14 @@ module _ (tag : ℕ) (t u : List ℕ) (long : length t ≡ length u) where
   abbrev k : ℕ
   k = length cs
 
-  listed-is : listed k (changeAt r 0) ≡ cs
+  listed-is : listed k (tripleAt r 0) ≡ cs
   listed-is = record-listed tag cs
 
-  back : Unsound false u 0 k (changeAt r 0) → ⊥
-  back = sound-holds k (changeAt r 0) 0 (rw listed-is (sound-undo t u long))
+  back : Unsound false u 0 k (tripleAt r 0) → ⊥
+  back = sound-holds k (tripleAt r 0) 0 (rw listed-is (sound-undo t u long))
 
-  forth : Unsound true t 0 k (changeAt r 0) → ⊥
-  forth = sound-holds k (changeAt r 0) 0 (rw listed-is (sound-redo t u long))
+  forth : Unsound true t 0 k (tripleAt r 0) → ⊥
+  forth = sound-holds k (tripleAt r 0) 0 (rw listed-is (sound-redo t u long))
 
   equal : (x y : ℕ) → (x ≢ y → ⊥) → x ≡ y
   equal x y h = if-eq x y (λ q. q) (λ q. absurd (h q))
@@ -76,7 +76,7 @@ module _ (tag : ℕ) (t u : List ℕ) (long : length t ≡ length u) where
     old = λ x l. sym (equal _ _ (λ q. forth (differs x l q)));
     new = λ x l. sym (equal _ _ (λ q. back (differs x l q)));
     changed = λ x l q. forth (same x l q);
-    every = λ e h. put-entry k (changeAt r 0) t e (rw (listed-is, put-new-changes t u long) h);
+    every = λ e h. put-entry k (tripleAt r 0) t e (rw (listed-is, put-new-changes t u long) h);
   }
 
 -- ---- in the journal

@@ -16,7 +16,7 @@ use Rattle.model.specs.Cell.{cellSize, cellOf, goodCell}
 use Rattle.model.specs.Journal.{changesFrom}
 use Rattle.model.specs.Numbering.{cellLink}
 use Rattle.model.specs.Add.{addSlots, addedLink, added, addTable}
-use Rattle.model.specs.Meaning.Slots.{Lowest, LowestUnused, newAt}
+use Rattle.model.specs.Meaning.Slots.{Lowest, LowestUnused, addedDart}
 use Rattle.model.specs.Meaning.Maps.{MapTable, Straight}
 use Rattle.theorems.proofs.Lists.Scan.{if-lt, clash}
 use Rattle.theorems.proofs.Lists.Ones.{getD-in, getD-index, index-in, in-or}
@@ -41,21 +41,21 @@ module _ {n : ℕ} {t : List ℕ} (T : MapTable n t) (room : length (addSlots n 
   unfolding addSlots
   add-lowest = lowest-slots t (cellSize n)
 
-  pub new-dart : (k : ℕ) → k < cellSize n → newAt n t k ≡ getD (unusedSlots t) k unused
+  pub new-dart : (k : ℕ) → k < cellSize n → addedDart n t k ≡ getD (unusedSlots t) k unused
   unfolding addSlots
   new-dart k h = getD-take (cellSize n) (unusedSlots t) k unused h
 
-  new-in : (k : ℕ) → k < cellSize n → In (newAt n t k) (addSlots n t)
+  new-in : (k : ℕ) → k < cellSize n → In (addedDart n t k) (addSlots n t)
   new-in k h = getD-in (addSlots n t) k unused (omega arith)
 
   -- its links follow the numbering
-  pub add-links : (j k : ℕ) → j < 4 → k < cellSize n → link (addTable n t) j (newAt n t k) ≡ newAt n t (cellLink n j k)
+  pub add-links : (j k : ℕ) → j < 4 → k < cellSize n → link (addTable n t) j (addedDart n t k) ≡ addedDart n t (cellLink n j k)
   unfolding addTable
   add-links = add-new T (add-lowest .vacant) room
 
   -- and the links from n on lead to the dart itself
-  pub add-free : (j k : ℕ) → n ≤ j → j < 4 → k < cellSize n → link (addTable n t) j (newAt n t k) ≡ newAt n t k
-  add-free j k top b h = add-links j k b h ∙ ap (newAt n t) (free-rows n (T .dim) j k top)
+  pub add-free : (j k : ℕ) → n ≤ j → j < 4 → k < cellSize n → link (addTable n t) j (addedDart n t k) ≡ addedDart n t k
+  add-free j k top b h = add-links j k b h ∙ ap (addedDart n t) (free-rows n (T .dim) j k top)
 
   pub add-made : MapTable n (addTable n t)
   unfolding addTable
@@ -107,18 +107,18 @@ module _ {n : ℕ} {t : List ℕ} (T : MapTable n t) (room : length (addSlots n 
       only x l = ⊎-elim inr (λ out. inl (sym (same x out) ∙ l)) (in-or (addSlots n t) x)
 
   -- the new darts are a good cell, and every other cell stays
-  pub add-cell : (k : ℕ) → k < cellSize n → goodCell n (addTable n t) (cellOf n (addTable n t) (newAt n t k)) ≡ true
+  pub add-cell : (k : ℕ) → k < cellSize n → goodCell n (addTable n t) (cellOf n (addTable n t) (addedDart n t k)) ≡ true
   add-cell =
       let base = add-filled .made _ (new-in 0 (size-some n (T .dim))) in
-      chart-cell add-made (newAt n t) (record { follow = follow; apart = apart }) base straight
+      chart-cell add-made (addedDart n t) (record { follow = follow; apart = apart }) base straight
     where
-      follow : (j k : ℕ) → j < n → k < cellSize n → link (addTable n t) j (newAt n t k) ≡ newAt n t (cellLink n j k)
+      follow : (j k : ℕ) → j < n → k < cellSize n → link (addTable n t) j (addedDart n t k) ≡ addedDart n t (cellLink n j k)
       follow j k b h = let top = T .dim .1 in add-links j k (omega arith) h
 
-      apart : (a b : ℕ) → a < b → b < cellSize n → newAt n t a ≡ newAt n t b → ⊥
+      apart : (a b : ℕ) → a < b → b < cellSize n → addedDart n t a ≡ addedDart n t b → ⊥
       apart a b ab h e = let rise = rising-at (add-lowest .rising) a b unused ab (omega arith) in omega arith
 
-      straight : (k : ℕ) → k < cellSize n → Straight n (addTable n t) (newAt n t k)
+      straight : (k : ℕ) → k < cellSize n → Straight n (addTable n t) (addedDart n t k)
       straight k h _ = let top = T .dim .1 in add-free n k (le-refl n) (omega arith) h
 
   pub add-cell-stays : (x : ℕ) → live t x ≡ true → cellOf n (addTable n t) x ≡ cellOf n t x
