@@ -13,6 +13,4 @@ else
     cc=x86_64-linux-gnu-gcc link=-static run="$kit/on/$machine/toolchain/bin/qemu-x86_64"
 fi
 lib=$root/target/staticlib/libphlernsap.a
-make_library() {
-    printed=$(cd "$root" && rt staticlib phlernsap 2>&1) || { echo "$printed"; return 1; }
-}
+make_library() { "$root/scripts/prove" staticlib phlernsap; }
