@@ -1,5 +1,5 @@
-/* yardstick.c - the calls of 01-scope.md and the requests of 02 that have landed (R-3, R-4,
- * R-10, R-11), in C99, tuned: what a careful engineer gets without proofs.
+/* yardstick.c - the calls of 01 and the requests of 02 that have landed (docs/REFERENCE.md has
+ * both), in C99, tuned: what a careful engineer gets without proofs.
  *
  * Every call validates its whole input in one pass over the table and takes
  * time linear in slots plus entries written. Nothing is kept between calls but the lent buffers;

@@ -1,5 +1,5 @@
-/* session.c - the session program of 01-scope.md, with the yardstick's calls: standard input to
- * standard output. It works out what tests/sessions and the examples expect. */
+/* session.c - the session program, as docs/REFERENCE.md has it, with the yardstick's calls: standard
+ * input to standard output. It works out what tests/sessions and the examples expect. */
 #include <stdio.h>
 #include <stdlib.h>
 #include <string.h>

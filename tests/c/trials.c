@@ -38,7 +38,6 @@ static void show_words(const uint32_t *words, size_t from, size_t to)
         show_word(words[k]);
 }
 
-/* 1, then for each word the value by 31 and the word more, modulo 65,521. */
 static unsigned digest(const uint32_t *words, size_t len)
 {
     uint64_t value = 1;

@@ -1,5 +1,5 @@
 -- The words of the theorems: what they say of tables, sets of darts, pairings and runs, as properties and not as tests.
--- No call cites these, and the session does not.
+-- No call cites these, nor does the session.
 pub mod Lists
 pub mod Slots
 pub mod Sets

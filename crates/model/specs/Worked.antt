@@ -15,7 +15,7 @@ use Rattle.model.specs.Checks.{pass, refuse, tableOk, journalOk, must}
 use Rattle.model.specs.Runs.{Op, Call, doCall, keeping, begin}
 use Rattle.model.specs.Everything.{everything}
 use Rattle.model.specs.Meaning.Ends.{lent}
-use Rattle.model.specs.Meaning.Worked.{Case, Seen, gives, goes, marksAre, markedAre, cursorIs, endIs, wordIs, wordsAre, frees}
+use Rattle.model.specs.Meaning.Worked.{Case, Seen, gives, goes, marksAre, markedAre, cursorIs, endIs, wordsAre, frees}
 use Rattle.model.specs.Meaning.Worked.{changes, liveAre, beginOn, doAll, sees, seesAll, holdsFrom, holds}
 use Rattle.model.specs.Meaning.Worked.{failing}
 
@@ -146,7 +146,7 @@ cases =
     ∷ row 11002 2 24 600 three (Call.op 0 (Op.remove 8)) (gives 0 0 8 ∷ marksAre middle ∷ changes 36 ∷ [])
     ∷ row 11003 2 24 600 three (Call.op 0 (Op.split 8)) (gives 14 0 0 ∷ marksAre middle ∷ changes 0 ∷ [])
     ∷ row 11004 2 8 200 ring (Call.sheet 0) (gives 0 0 4 ∷ marksAre (replicate 4 1 ++ replicate 4 2) ∷ [])
-    ∷ row 11101 2 16 212 [] (Call.op 7 Op.add) (wordIs 2 32 ∷ wordIs 3 7 ∷ wordIs 4 0 ∷ wordIs 100 32 ∷ [])
+    ∷ row 11101 2 16 212 [] (Call.op 7 Op.add) (wordsAre 2 (32 ∷ 7 ∷ 0 ∷ []) ∷ wordsAre 100 (32 ∷ []) ∷ [])
     ∷ row 11102 2 16 212 named Call.undo (gives 0 4294967295 36 ∷ cursorIs 101 ∷ endIs 212 ∷ liveAre 8 ∷ [])
     ∷ row 11103 2 16 212 (named ++ (Call.undo ∷ [])) Call.undo (gives 0 7 32 ∷ cursorIs 2 ∷ endIs 212 ∷ liveAre 0 ∷ [])
     ∷ row 11104 2 16 212 (named ++ (Call.undo ∷ Call.undo ∷ [])) Call.redo (gives 0 7 32 ∷ cursorIs 101 ∷ liveAre 8 ∷ [])

@@ -1,7 +1,7 @@
 -- "The lowest unused slots", which add and split fill (`Lowest`, `LowestUnused`), and the new darts of add in them.
 use Prim.Native.Nat.{ℕ, _≤_, _<_}
 use mathlib.Core.Path.{_≡_}
-use mathlib.Core.Bool.{true, false}
+use mathlib.Core.Bool.{false}
 use mathlib.Core.List.{List, List·Memᴰ as In}
 use lib.ListN.{getD}
 use Rattle.model.specs.Table.{unused, slots, live}

@@ -2,7 +2,7 @@
 use Prim.Native.Nat.{ℕ, _-_}
 use mathlib.Core.Bool.{Bool, true, false, not, _&&_}
 use mathlib.Core.List.{List, [], _∷_}
-use lib.ListN.{length, getD, take, drop}
+use lib.ListN.{length, take, drop}
 use lib.Dec.{eqb}
 use Rattle.model.specs.Lists.{count, equal}
 use Rattle.model.specs.Table.{slots, link, live, liveCount}
@@ -18,7 +18,6 @@ pub data Seen : Type 0 where
   marksAre : List ℕ → Seen
   markedAre : ℕ → Seen  -- so many marks are not 0
   cursorIs endIs : ℕ → Seen
-  wordIs : ℕ → ℕ → Seen  -- word x of the journal is v: x, v
   wordsAre : ℕ → List ℕ → Seen  -- those of the journal from x on are vs: x, vs
   frees : ℕ → Seen  -- the slot is unused, and was live
   changes : ℕ → Seen  -- so many entries
@@ -51,7 +50,6 @@ sees old new (marksAre m) = equal (new .marks) m
 sees old new (markedAre k) = eqb (length (new .marks) - count 0 (new .marks)) k
 sees old new (cursorIs k) = eqb (cursor (new .journal)) k
 sees old new (endIs k) = eqb (end (new .journal)) k
-sees old new (wordIs x v) = eqb (getD (new .journal) x 0) v
 sees old new (wordsAre x vs) = equal (take (length vs) (drop x (new .journal))) vs
 sees old new (frees d) = live (old .table) d && not (live (new .table) d)
 sees old new (changes k) = eqb (length (changesFrom 0 (old .table) (new .table))) k

@@ -9,7 +9,7 @@ use mathlib.Core.List.{List, List·Memᴰ as In, Memᴰ·cast as in-cast}
 use native.Mathlib.Omega.{arith}
 use lib.ListN.{length, getD}
 use lib.Seq.{getD-take}
-use Rattle.model.specs.Lists.{count, indexOf, ones}
+use Rattle.model.specs.Lists.{count, indexOf}
 use Rattle.model.specs.Table.{unused, slots, link, live, walk, unusedSlots, liveCount}
 use Rattle.model.specs.Cell.{cellOf}
 use Rattle.model.specs.Journal.{changesFrom}
@@ -28,8 +28,7 @@ use Rattle.theorems.proofs.Maps.Rules.{link-out}
 use Rattle.theorems.proofs.Maps.Tables.{mapTable, rule-at}
 use Rattle.theorems.proofs.Operations.Changes.{changedLinks, changed-one, changed-none}
 use Rattle.theorems.proofs.Operations.Frame.{split-frame}
-use Rattle.theorems.proofs.Operations.Slots.{ones-rising}
-use Rattle.theorems.proofs.Operations.Slots.{Filled, lowest-slots, lowest-first}
+use Rattle.theorems.proofs.Operations.Slots.{ones-rising, Filled, lowest-slots, lowest-first}
 use Rattle.theorems.proofs.Operations.Slots.{filled-count, filled-changes}
 use Rattle.theorems.proofs.Layers.Sheet.{sheet-own, sheet-least, sheet-live}
 use Rattle.theorems.proofs.Layers.Splitting.{splits-splitting, split-slots, split-whole}

@@ -10,7 +10,7 @@ use borrow.Author.Tests.{lt-ltb, le-ltb}
 use Rattle.model.specs.Lists.{ones, indexOf}
 use Rattle.model.specs.Table.{unused, slots, link, live}
 use Rattle.model.specs.Sheet.{sheet}
-use Rattle.model.specs.Split.{crosses, newDart, newDartLink, splitLink, splitBy, splitSlots}
+use Rattle.model.specs.Split.{newDart, newDartLink, splitLink, splitBy, splitSlots}
 use Rattle.model.specs.Meaning.Maps.{Dim}
 use Rattle.model.specs.Meaning.Splits.{Splits, Splitting, IsNew}
 use Rattle.theorems.proofs.Lists.Scan.{clash}

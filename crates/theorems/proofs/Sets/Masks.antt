@@ -1,5 +1,5 @@
--- Masks. `bit-exactly`: the bits of a mask are those of its binary form, and `bits-one` of no other. `orbit-place-exactly`, `orbit-place-none`: the place of an
--- orbit is 1 + the one index that the mask lacks, and 0 where there is no such one.
+-- Masks. `bit-exactly`: the bits of a mask are those of its binary form, and `bits-one` of no other. `orbit-place-exactly`,
+-- `orbit-place-none`: the place of an orbit is 1 + the one index that the mask lacks, and 0 where there is no such one.
 use Prim.Native.Nat.{ℕ, zero, suc, _+_, _*_, _/_, _%_, _^_, _≤_, _<_}
 use mathlib.Core.Path.{_≡_, refl, sym, ap, ap₂, _∙_}
 use mathlib.Core.Logic.{_≢_, _↔_}
