@@ -10,8 +10,9 @@
  *     rt staticlib phlernsap               proves the kernel, writes target/staticlib/libphlernsap.a
  *     cc -I include program.c target/staticlib/libphlernsap.a -o program
  *
- * The library is x86-64 code for Linux. It needs no other library, allocates nothing, keeps nothing
- * between calls and has no global state: calls on different buffers may run on different threads.
+ * The library is x86-64 code for Linux. Of the C library it takes memcpy and memset, and no more. It
+ * allocates nothing, keeps nothing between calls and has no global state: calls on different buffers
+ * may run on different threads.
  * A call takes at most 300,000 bytes of stack, and at most 16,384 on a table of up to 2,048 slots
  * (bench/README.md has the figures measured). Every call reads the whole table, to see that it is a
  * map: its time is linear in the length of the table, whatever it changes.
@@ -104,11 +105,11 @@
  *     phl_remove   4 for each dart removed, the marks 1 and 2, and 1 for each mark 3
  *     phl_split    9 (n = 2) or 13 (n = 3) for each dart of the sheet
  *
- * From a map and a fresh journal, whatever calls follow, the table is what the steps that stand make
- * of the first table; undo is refused (16) exactly if none stands, redo exactly if none is undone,
- * and neither by 17. That is proved of buffers that only the calls write. What a program writes
- * besides, as below to grow a buffer, is its own affair: undo and redo test a record, and that its
- * result is a map, before they change anything (17).
+ * From a map and a fresh journal, whatever calls with the same n follow, the table is what the steps
+ * that stand make of the first table; undo is refused (16) exactly if none stands, redo exactly if
+ * none is undone, and neither by 17. That is proved of buffers that only the calls write. What a
+ * program writes besides, as below to grow a buffer, is its own affair: undo and redo test the record,
+ * and that its result is a map, and else leave all as it was (17).
  *
  * 14, too few unused slots: give the table more. Copy it to a longer buffer, fill the new entries
  * with PHL_UNUSED, use longer marks, keep the journal: slots and records stay what they are.
