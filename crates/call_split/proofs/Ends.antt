@@ -15,9 +15,10 @@ use borrow.Author.Tests.{eqb-true, eq-eqb, ne-eqb}
 use Rattle.model.specs.Lists.{count, ones}
 use Rattle.model.specs.Table.{slots, link, live, unusedSlots}
 use Rattle.model.specs.Sheet.{sheet}
-use Rattle.model.specs.Split.{crosses, splitSlots, splitTable}
+use Rattle.model.specs.NewDarts.{slotsFor}
+use Rattle.model.specs.Split.{crosses, splitTable}
 use Rattle.model.specs.Journal.{cursor, changesFrom, recordLength}
-use Rattle.model.specs.Checks.{refuse, must, andThen, marksOk, inOrder, layerChecks, crossingOk, splitRoomOk, splitChecks}
+use Rattle.model.specs.Checks.{refuse, must, andThen, marksOk, inOrder, layerChecks, crossingOk, newRoomOk, splitChecks}
 use Rattle.model.specs.Calls.{refused, commit, splitCall}
 use Rattle.model.specs.Meaning.Maps.{Dim, MapTable}
 use Rattle.model.specs.Meaning.Sets.{Marked}
@@ -61,7 +62,7 @@ pub record Ready (n : ℕ) (t m j : List ℕ) (d : ℕ) (s : List ℕ) (size : �
   pub sheeted : Sheeted n t m j d s
   pub number : size ≡ count 1 (sheet n t d)
   pub splits : Splits n t d
-  pub taken : take (n * size) fresh ≡ splitSlots n t (dartsOf n t d)
+  pub taken : take (n * size) fresh ≡ slotsFor n t (dartsOf n t d)
   pub half : 2 * (n * size) ≤ slots t
 
 -- the sheet is marked, and its size known
@@ -133,20 +134,20 @@ module _ {n d : ℕ} {t m j s : List ℕ} (H : Sheeted n t m j d s) {size : ℕ}
 
     -- 14
     module _ (uncrossed : b ≡ false) {r : Bool} {fresh₀ fresh : List ℕ} (F : SlotsFound t (n * size) fresh₀ fresh r) where
-      slots-new : take (n * size) (unusedSlots t) ≡ splitSlots n t (dartsOf n t d)
-      unfolding splitSlots
+      slots-new : take (n * size) (unusedSlots t) ≡ slotsFor n t (dartsOf n t d)
+      unfolding slotsFor
       slots-new = rw size-is
 
       -- were they enough
-      would : length (splitSlots n t (dartsOf n t d)) ≡ n * length (dartsOf n t d) → Splits n t d
+      would : length (slotsFor n t (dartsOf n t d)) ≡ n * length (dartsOf n t d) → Splits n t d
       would room = record { dart = given H .dart; uncrossed = crossed ∙ uncrossed; room = room }
 
-      too-few : r ≡ false → length (splitSlots n t (dartsOf n t d)) ≢ n * length (dartsOf n t d)
+      too-few : r ≡ false → length (slotsFor n t (dartsOf n t d)) ≢ n * length (dartsOf n t d)
       too-few h room =
           F .few h (rw size-is (split-room (would room))) (ap length slots-new ∙ room ∙ ap (λ (k : ℕ). n * k) (sym size-is))
 
       pub split-few : (tag : ℕ) → r ≡ false → outcome (refusal 14 0 0) t s j ≡ splitCall n t m j tag d
-      unfolding splitChecks crossingOk splitRoomOk inOrder andThen must
+      unfolding splitChecks crossingOk newRoomOk inOrder andThen must
       split-few tag h = split-stops tag (rw (crossed, uncrossed, ne-eqb _ _ (too-few h)))
 
       -- they are
@@ -163,8 +164,8 @@ module _ {n d : ℕ} {t m j s : List ℕ} (H : Sheeted n t m j d s) {size : ℕ}
 
 module _ {n d : ℕ} {t m j s : List ℕ} {size : ℕ} {fresh : List ℕ} (R : Ready n t m j d s size fresh) where
   pub split-goes : (tag : ℕ) → splitCall n t m j tag d
-      ≡ commit t (splitTable n t d) s j tag (getD (splitSlots n t (dartsOf n t d)) 0 0) (λ cs. n * length (dartsOf n t d))
-  unfolding splitCall splitChecks crossingOk splitRoomOk inOrder andThen must
+      ≡ commit t (splitTable n t d) s j tag (getD (slotsFor n t (dartsOf n t d)) 0 0) (λ cs. n * length (dartsOf n t d))
+  unfolding splitCall splitChecks crossingOk newRoomOk inOrder andThen must
   split-goes tag =
       let H = R .sheeted in
       rw (H .passed, splitCall, R .splits .uncrossed, eq-eqb _ _ (R .splits .room), splitCall, H .marked)
@@ -173,7 +174,7 @@ module _ {n d : ℕ} {t m j s : List ℕ} {size : ℕ} {fresh : List ℕ} (R : R
   changes-number = rw (R .number) (sym (split-changes (R .splits)))
 
   -- "Place: first new slot. Count: darts added."
-  pub first-new : getD fresh 0 0 ≡ getD (splitSlots n t (dartsOf n t d)) 0 0
+  pub first-new : getD fresh 0 0 ≡ getD (slotsFor n t (dartsOf n t d)) 0 0
   first-new =
       sym (getD-take (n * size) fresh 0 0 (some-new (R .sheeted) (R .number))) ∙ ap (λ (l : List ℕ). getD l 0 0) (R .taken)
 

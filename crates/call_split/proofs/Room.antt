@@ -12,7 +12,7 @@ use Rattle.model.specs.Lists.{ones, tabulate, tabulateFrom}
 use Rattle.model.specs.Table.{slots, link, live, walk}
 use Rattle.model.specs.Cell.{cellOf}
 use Rattle.model.specs.Sheet.{sheet}
-use Rattle.model.specs.Split.{splitSlots}
+use Rattle.model.specs.NewDarts.{slotsFor}
 use Rattle.model.specs.Meaning.Lists.{Distinct, more}
 use Rattle.model.specs.Meaning.Maps.{BlockTable, Rule}
 use Rattle.model.specs.Meaning.Splits.{Splits, Splitting}
@@ -46,7 +46,7 @@ module _ {n : ℕ} {t : List ℕ} {d : ℕ} (s : Splits n t d) where
   gs = ones (sheet n t d)
 
   abbrev fs : List ℕ
-  fs = splitSlots n t gs
+  fs = slotsFor n t gs
 
   abbrev B : BlockTable n t
   B = s .dart .table

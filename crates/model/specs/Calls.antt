@@ -13,11 +13,13 @@ use Rattle.model.specs.Sheet.{sheet, sheetMarks}
 use Rattle.model.specs.Add.{addSlots, addTable}
 use Rattle.model.specs.Sew.{sewTable, unsewTable}
 use Rattle.model.specs.Remove.{countMarked, removeTable}
-use Rattle.model.specs.Split.{splitSlots, splitTable}
+use Rattle.model.specs.NewDarts.{slotsFor}
+use Rattle.model.specs.Split.{splitTable}
+use Rattle.model.specs.Insert.{insertTable}
 use Rattle.model.specs.Journal.{Change, cursor, changesFrom, recordOf, recordLength, written, changesAt, tagAt, put}
 use Rattle.model.specs.Journal.{unbroken}
 use Rattle.model.specs.Checks.{pass, refuse, inOrder, checkChecks, orbitChecks, sheetChecks, addChecks, sewChecks, unsewChecks}
-use Rattle.model.specs.Checks.{layerChecks, splitChecks, stepChecks, undoOk, redoOk}
+use Rattle.model.specs.Checks.{layerChecks, splitChecks, insertChecks, stepChecks, undoOk, redoOk}
 
 pub record Outcome : Type 0 where
   pub number : ℕ
@@ -124,9 +126,19 @@ splitCall n t m j tag d =
           let gs = ones s in
           let marks = sheetMarks n t s in
           elim (inOrder (splitChecks n t s gs)) [
-            | pass ↦ commit t (splitTable n t d) marks j tag (getD (splitSlots n t gs) 0 0) (λ cs. n * length gs)
+            | pass ↦ commit t (splitTable n t d) marks j tag (getD (slotsFor n t gs) 0 0) (λ cs. n * length gs)
             | refuse k p q ↦ refused k p q t marks j
           ])
+      | refuse k p q ↦ refused k p q t m j
+    ]
+
+-- 02, R-5: "marks stay". "place: first new slot; count: darts added"
+unfoldable pub insertCall : ℕ → List ℕ → List ℕ → List ℕ → ℕ → Outcome
+insertCall n t m j tag =
+    elim (inOrder (insertChecks n t m j)) [
+      | pass ↦ (
+          let hs = ones m in
+          commit t (insertTable n t m) m j tag (getD (slotsFor n t hs) 0 0) (λ cs. n * length hs))
       | refuse k p q ↦ refused k p q t m j
     ]
 

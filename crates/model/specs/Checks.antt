@@ -1,10 +1,11 @@
 -- Numbers a call gives back: for each number the check that refuses by it, and for each call its checks, which "run in the
--- order of the numbers", 24 to 26 in 5's place. 15 and 17 ask what a call would write or put back: they stand with the calls.
+-- order of the numbers", 24 to 26 in 5's place and 28 to 32 behind 8. 15 and 17 ask what a call would write or put back: they stand with the calls.
 use Prim.Native.Nat.{ℕ, _+_, _*_, _%_, _^_}
 use mathlib.Core.Bool.{Bool, true, false, not, _&&_, _||_}
 use mathlib.Core.List.{List, [], _∷_, _++_}
 use lib.ListN.{length}
 use lib.Dec.{leb, ltb, eqb}
+use Rattle.model.specs.Lists.{ones, allOf}
 use Rattle.model.specs.Table.{slots, link, live}
 use Rattle.model.specs.Map.{MapRule, links-live, links-return, pairs-commute, stays-flat, keepsRule, breakingLink}
 use Rattle.model.specs.Map.{leastBreaking, isMap}
@@ -12,7 +13,9 @@ use Rattle.model.specs.Reach.{inSet}
 use Rattle.model.specs.Cell.{cellSize, leastWrong}
 use Rattle.model.specs.Add.{addSlots}
 use Rattle.model.specs.Sew.{side, isPaired}
-use Rattle.model.specs.Split.{crosses, splitSlots}
+use Rattle.model.specs.NewDarts.{slotsFor}
+use Rattle.model.specs.Split.{crosses}
+use Rattle.model.specs.Wall.{drawn, enclosed, sewnWall, turnsWell, connected}
 use Rattle.model.specs.Journal.{cursor, end}
 
 -- passed, or refused: the number, the place and the count
@@ -90,6 +93,26 @@ dartOk t d = must (live t d) 7
 unfoldable pub blockOk : ℕ → List ℕ → Check
 blockOk n t = let b = leastWrong n t in mustAt (eqb b (slots t)) 8 b 0
 
+-- 28: "mark not 0 or 1 or a marked dead slot"
+unfoldable pub drawnOk : List ℕ → List ℕ → Check
+drawnOk t m = must (drawn t m) 28
+
+-- 29: "empty or not closed"
+unfoldable pub enclosedOk : ℕ → List ℕ → List ℕ → Check
+enclosedOk n t m = must (enclosed n t m) 29
+
+-- 30: "free side in the wall"
+unfoldable pub sewnWallOk : ℕ → List ℕ → List ℕ → Check
+sewnWallOk n t m = must (sewnWall n t m) 30
+
+-- 31: "what is needed of next fails"
+unfoldable pub turnsOk : ℕ → List ℕ → List ℕ → Check
+turnsOk n t m = must (allOf (turnsWell n t m) (ones m)) 31
+
+-- 32: "not connected"
+unfoldable pub connectedOk : ℕ → List ℕ → List ℕ → Check
+connectedOk n t m = must (connected n t m) 32
+
 -- 9: "e in d's side"
 unfoldable pub apartOk : ℕ → List ℕ → ℕ → ℕ → ℕ → Check
 apartOk n t i d e = must (not (inSet (side n t i d) e)) 9
@@ -114,8 +137,8 @@ crossingOk t s gs = must (not (crosses t s gs)) 13
 unfoldable pub addRoomOk : ℕ → List ℕ → Check
 addRoomOk n t = must (eqb (length (addSlots n t)) (cellSize n)) 14
 
-unfoldable pub splitRoomOk : ℕ → List ℕ → List ℕ → Check
-splitRoomOk n t gs = must (eqb (length (splitSlots n t gs)) (n * length gs)) 14
+unfoldable pub newRoomOk : ℕ → List ℕ → List ℕ → Check
+newRoomOk n t gs = must (eqb (length (slotsFor n t gs)) (n * length gs)) 14
 
 -- 16: "cursor 2 (undo); cursor = end (redo)"
 unfoldable pub undoOk : List ℕ → Check
@@ -158,7 +181,16 @@ layerChecks n t m j d =
 
 -- of split those that leave the marks of the sheet s, whose darts are gs
 unfoldable pub splitChecks : ℕ → List ℕ → List ℕ → List ℕ → List Check
-splitChecks n t s gs = crossingOk t s gs ∷ splitRoomOk n t gs ∷ []
+splitChecks n t s gs = crossingOk t s gs ∷ newRoomOk n t gs ∷ []
+
+-- of insert, where the wall's marks are m: 28 to 32 "all after 8, before 14. Number 3 holds for this call too."
+unfoldable pub wallChecks : ℕ → List ℕ → List ℕ → List Check
+wallChecks n t m = drawnOk t m ∷ enclosedOk n t m ∷ sewnWallOk n t m ∷ turnsOk n t m ∷ connectedOk n t m ∷ []
+
+unfoldable pub insertChecks : ℕ → List ℕ → List ℕ → List ℕ → List Check
+insertChecks n t m j =
+    dimOk n ∷ tableOk t ∷ marksOk t m ∷ journalOk j
+    ∷ (mapChecks n t ++ (blockOk n t ∷ (wallChecks n t m ++ (newRoomOk n t (ones m) ∷ []))))
 
 -- of undo and redo, of which `there` says that there is a record
 unfoldable pub stepChecks : ℕ → List ℕ → List ℕ → Check → List Check

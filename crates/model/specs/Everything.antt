@@ -1,5 +1,5 @@
 -- To unfold `everything` is to unfold each definition that a call cites, file by file: for proofs that compute.
-use Rattle.model.specs.Lists.{tabulateFrom, tabulate, count, onesFrom, indexOf, leastFrom, least, allFrom, allBelow}
+use Rattle.model.specs.Lists.{tabulateFrom, tabulate, count, onesFrom, indexOf, leastFrom, least, allFrom, allBelow, allOf}
 use Rattle.model.specs.Table.{slots, link, live, walk, unusedSlots, retable, relinkAt, relink}
 use Rattle.model.specs.Map.{returns, crossed, keepsAt, keepsRule, breakingLink, keepsRules, breaksRule, leastBreaking, isMap}
 use Rattle.model.specs.Reach.{flood, steps, closure, linksFrom, links, inSet}
@@ -14,16 +14,21 @@ use Rattle.model.specs.Numbering.{corners, flip, firstBit, swapFirst, sw
 use Rattle.model.specs.Sew.{sideWords, side, coupleSteps, pairUp, partners, isPaired, sewnLink, sewn, sewTable, unsews}
 use Rattle.model.specs.Sew.{unsewnLink, unsewn, unsewTable}
 use Rattle.model.specs.Remove.{opposite, cellMark, marked, countMarked, outside, removedLink, removed, removeTable}
-use Rattle.model.specs.Split.{crosses, newDart, newDartLink, splitLink, splitBy, splitSlots, splitTable}
+use Rattle.model.specs.NewDarts.{newDart, slotsFor}
+use Rattle.model.specs.Split.{crosses, newDartLink, splitLink, splitBy, splitTable}
+use Rattle.model.specs.Wall.{turnsOn, turnFrom, turnEnd, endsFree, next, drawn, closedAt, enclosed, sewnWall, bothFree, nextOver}
+use Rattle.model.specs.Wall.{nextApart, turnsWell, wallTable, wallReached, connected}
+use Rattle.model.specs.Insert.{layerLink, laidLink, laid, insertTable}
 use Rattle.model.specs.Checks.{must, mustAt, andThen, inOrder, dimOk, tableOk, marksOk, journalOk, ruleNumber, ruleOk, mapChecks}
 use Rattle.model.specs.Checks.{indexOk, maskOk, dartOk, blockOk, apartOk, freeOk, sewnOk, pairingOk, crossingOk, addRoomOk}
-use Rattle.model.specs.Checks.{splitRoomOk, undoOk, redoOk, checkChecks, orbitChecks, sheetChecks, addChecks}
+use Rattle.model.specs.Checks.{newRoomOk, undoOk, redoOk, checkChecks, orbitChecks, sheetChecks, addChecks}
 use Rattle.model.specs.Checks.{sidesChecks, sewChecks, unsewChecks, layerChecks, splitChecks, stepChecks}
+use Rattle.model.specs.Checks.{drawnOk, enclosedOk, sewnWallOk, turnsOk, connectedOk, wallChecks, insertChecks}
 use Rattle.model.specs.Calls.{refused, commit, checkCall, orbitCall, sheetCall, addCall, sewCall, unsewCall}
-use Rattle.model.specs.Calls.{removeCall, splitCall, stepOutcome, undoCall, redoCall}
+use Rattle.model.specs.Calls.{removeCall, splitCall, insertCall, stepOutcome, undoCall, redoCall}
 
 unfoldable pub openLists : Unit {0}
-unfolding tabulateFrom tabulate count onesFrom indexOf leastFrom least allFrom allBelow
+unfolding tabulateFrom tabulate count onesFrom indexOf leastFrom least allFrom allBelow allOf
 openLists = tt
 
 unfoldable pub openTable : Unit {0}
@@ -71,27 +76,39 @@ unfolding opposite cellMark marked countMarked outside removedLink removed remov
 openRemove = tt
 
 unfoldable pub openSplit : Unit {0}
-unfolding crosses newDart newDartLink splitLink splitBy splitSlots splitTable
+unfolding crosses newDart newDartLink splitLink splitBy slotsFor splitTable
 openSplit = tt
+
+unfoldable pub openWall : Unit {0}
+unfolding turnsOn turnFrom turnEnd endsFree next drawn closedAt enclosed sewnWall bothFree nextOver nextApart turnsWell
+openWall = tt
+
+unfoldable pub openInsert : Unit {0}
+unfolding wallTable wallReached connected layerLink laidLink laid insertTable
+openInsert = tt
 
 unfoldable pub openChecks : Unit {0}
 unfolding must mustAt andThen inOrder dimOk tableOk marksOk journalOk ruleNumber ruleOk mapChecks indexOk maskOk dartOk blockOk apartOk freeOk
 openChecks = tt
 
 unfoldable pub openChecksMore : Unit {0}
-unfolding sewnOk pairingOk crossingOk addRoomOk splitRoomOk undoOk redoOk checkChecks orbitChecks sheetChecks addChecks
+unfolding sewnOk pairingOk crossingOk addRoomOk newRoomOk undoOk redoOk checkChecks orbitChecks sheetChecks addChecks
 openChecksMore = tt
 
 unfoldable pub openChecksMost : Unit {0}
 unfolding sidesChecks sewChecks unsewChecks layerChecks splitChecks stepChecks
 openChecksMost = tt
 
+unfoldable pub openWallChecks : Unit {0}
+unfolding drawnOk enclosedOk sewnWallOk turnsOk connectedOk wallChecks insertChecks
+openWallChecks = tt
+
 unfoldable pub openCalls : Unit {0}
 unfolding refused commit checkCall orbitCall sheetCall addCall sewCall unsewCall removeCall splitCall stepOutcome undoCall
 openCalls = tt
 
 unfoldable pub openCallsMore : Unit {0}
-unfolding redoCall
+unfolding insertCall redoCall
 openCallsMore = tt
 
 unfoldable pub openMaps : Unit {0}
@@ -99,11 +116,11 @@ unfolding openLists openTable openMap openReach openCell
 openMaps = tt
 
 unfoldable pub openOperations : Unit {0}
-unfolding openJournal openOrbit openSheet openAdd openNumbering openSew openRemove openSplit
+unfolding openJournal openOrbit openSheet openAdd openNumbering openSew openRemove openSplit openWall openInsert
 openOperations = tt
 
 unfoldable pub openAnswers : Unit {0}
-unfolding openChecks openChecksMore openChecksMost openCalls openCallsMore
+unfolding openChecks openChecksMore openChecksMost openWallChecks openCalls openCallsMore
 openAnswers = tt
 
 unfoldable pub everything : Unit {0}

@@ -10,7 +10,10 @@ pub mod Add
 pub mod Numbering
 pub mod Sew
 pub mod Remove
+pub mod NewDarts
 pub mod Split
+pub mod Wall
+pub mod Insert
 pub mod Checks
 pub mod Calls
 pub mod Runs

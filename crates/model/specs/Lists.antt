@@ -47,6 +47,11 @@ allFrom (suc k) a p = elim (p a) [ true ↦ allFrom k (suc a) p | false ↦ fals
 unfoldable pub allBelow : ℕ → (ℕ → Bool) → Bool
 allBelow k p = allFrom k 0 p
 
+-- each number of the list passes
+unfoldable pub allOf : (ℕ → Bool) → List ℕ → Bool
+allOf p [] = true
+allOf p (x ∷ xs) = elim (p x) [ true ↦ allOf p xs | false ↦ false ]
+
 -- the two lists have the same entries, in the same order
 unfoldable pub equal : List ℕ → List ℕ → Bool
 equal [] [] = true

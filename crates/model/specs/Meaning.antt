@@ -10,6 +10,7 @@ pub mod Walks
 pub mod Places
 pub mod Sheets
 pub mod Splits
+pub mod Walls
 pub mod Ends
 pub mod Records
 pub mod Numbers

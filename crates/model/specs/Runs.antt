@@ -1,5 +1,5 @@
 -- Demand 3: runs of calls over one table and one journal, and the operations that stand after them.
--- "An accepted add, sew, unsew, remove or split .. is an operation in demand 3, and no other is."
+-- "An accepted add, sew, unsew, remove or split .. is an operation in demand 3, and no other is"; of 02 insert is one too.
 use Prim.Native.Nat.{ℕ, zero, suc, _*_, _-_}
 use mathlib.Core.List.{List, [], _∷_}
 use lib.ListN.{replicate}
@@ -8,17 +8,19 @@ use Rattle.model.specs.Add.{addTable}
 use Rattle.model.specs.Sew.{sewTable, unsewTable}
 use Rattle.model.specs.Remove.{removeTable}
 use Rattle.model.specs.Split.{splitTable}
+use Rattle.model.specs.Insert.{insertTable}
 use Rattle.model.specs.Calls.{Outcome, checkCall, orbitCall, sheetCall, addCall, sewCall, unsewCall, removeCall, splitCall}
-use Rattle.model.specs.Calls.{undoCall, redoCall}
+use Rattle.model.specs.Calls.{insertCall, undoCall, redoCall}
 
 -- ---- calls as data
 
--- an operation: sew (i, d, e); unsew (i, d)
+-- an operation: sew (i, d, e); unsew (i, d); insert (the wall's marks), which it reads and leaves
 pub data Op : Type 0 where
   add : Op
   sew : ℕ → ℕ → ℕ → Op
   unsew : ℕ → ℕ → Op
   remove split : ℕ → Op
+  insert : List ℕ → Op
 
 -- orbit (mask, d); an operation with its tag
 pub data Call : Type 0 where
@@ -59,6 +61,9 @@ doCall n o (Call.op tag (Op.unsew i d)) =
     keeping r (o .marks) (r .journal)
 doCall n o (Call.op tag (Op.remove d)) = removeCall n (o .table) (o .marks) (o .journal) tag d
 doCall n o (Call.op tag (Op.split d)) = splitCall n (o .table) (o .marks) (o .journal) tag d
+doCall n o (Call.op tag (Op.insert w)) =
+    let r = insertCall n (o .table) w (o .journal) tag in
+    keeping r (o .marks) (r .journal)
 
 -- ---- operations
 
@@ -69,6 +74,7 @@ effect n t (Op.sew i d e) = sewTable n t i d e
 effect n t (Op.unsew i d) = unsewTable n t i d
 effect n t (Op.remove d) = removeTable n t d
 effect n t (Op.split d) = splitTable n t d
+effect n t (Op.insert w) = insertTable n t w
 
 -- an operation and the tag that it was called with
 pub record Tagged : Type 0 where

@@ -1,25 +1,22 @@
 -- split d: "each g in S, rising, gets new darts a, b (for n = 3 also c) in the lowest unused slots in that order.
 -- With the links as they were before: .." The sentences on the links stand below, each with its dart.
-use Prim.Native.Nat.{ℕ, zero, suc, _+_, _*_, _/_, _%_}
+use Prim.Native.Nat.{ℕ, zero, suc, _/_, _%_}
 use mathlib.Core.Bool.{Bool, true, false, _&&_, _||_}
 use mathlib.Core.List.{List, [], _∷_}
-use lib.ListN.{length, getD, take}
+use lib.ListN.{length, getD}
 use lib.Dec.{ltb, eqb}
 use Rattle.model.specs.Lists.{ones, indexOf}
-use Rattle.model.specs.Table.{unused, link, walk, unusedSlots, retable}
+use Rattle.model.specs.Table.{link, walk, retable}
 use Rattle.model.specs.Reach.{inSet}
 use Rattle.model.specs.Sheet.{sheet}
+use Rattle.model.specs.NewDarts.{newDart, slotsFor}
 
 -- "some g in S has g.1 in S", of the darts gs
 unfoldable pub crosses : List ℕ → List ℕ → List ℕ → Bool
 crosses t s [] = false
 crosses t s (g ∷ gs) = inSet s (link t 1 g) || crosses t s gs
 
--- of the darts gs of S, rising, and the new slots fs: the new dart of g, a where r is 0, b where it is 1, c where it is 2
-unfoldable pub newDart : ℕ → List ℕ → List ℕ → ℕ → ℕ → ℕ
-newDart n gs fs r g = getD fs (n * indexOf g gs + r) unused
-
--- link j of x, which is the new dart r of g
+-- link j of x, which is the new dart r of g: a where r is 0, b where it is 1, c where it is 2
 unfoldable pub newDartLink : ℕ → List ℕ → List ℕ → List ℕ → ℕ → ℕ → ℕ → ℕ → ℕ
 -- "a(g).0 = g", "a(g).1 = b(g)", "a(g).2 = a(g.2)", "a(g).3 = a(g.3)", but for n = 2 the dart itself
 newDartLink n t gs fs x g zero j =
@@ -58,9 +55,5 @@ splitLink n t gs fs x j =
 unfoldable pub splitBy : ℕ → List ℕ → List ℕ → List ℕ → List ℕ
 splitBy n t gs fs = retable t (splitLink n t gs fs)
 
--- the lowest unused slots, as many as the darts gs need, or all where they are fewer
-unfoldable pub splitSlots : ℕ → List ℕ → List ℕ → List ℕ
-splitSlots n t gs = take (n * length gs) (unusedSlots t)
-
 unfoldable pub splitTable : ℕ → List ℕ → ℕ → List ℕ
-splitTable n t d = let gs = ones (sheet n t d) in splitBy n t gs (splitSlots n t gs)
+splitTable n t d = let gs = ones (sheet n t d) in splitBy n t gs (slotsFor n t gs)

@@ -4,19 +4,23 @@
 -- The lengths of case 14, too long to compute with, follow from the check.
 use Prim.Native.Nat.{ℕ, _+_, _*_}
 use mathlib.Core.Path.{_≡_, refl}
+use mathlib.Core.Bool.{Bool, true, false, _&&_}
 use mathlib.Core.List.{List, [], _∷_, _++_}
 use lib.ListN.{length, set, replicate}
-use Rattle.model.specs.Lists.{equal}
+use Rattle.model.specs.Lists.{tabulate, equal}
 use Rattle.model.specs.Table.{unused, slots, link, liveCount}
 use Rattle.model.specs.Add.{addTable}
+use Rattle.model.specs.Sew.{sewTable}
 use Rattle.model.specs.Remove.{removeTable}
 use Rattle.model.specs.Split.{splitTable}
-use Rattle.model.specs.Checks.{pass, refuse, tableOk, journalOk, must}
+use Rattle.model.specs.Insert.{insertTable}
+use Rattle.model.specs.Checks.{pass, refuse, tableOk, journalOk, must, inOrder, wallChecks}
 use Rattle.model.specs.Runs.{Op, Call, doCall, keeping, begin}
 use Rattle.model.specs.Everything.{everything}
 use Rattle.model.specs.Meaning.Ends.{lent}
+use Rattle.model.specs.Meaning.Lists.{member}
 use Rattle.model.specs.Meaning.Worked.{Case, Seen, gives, goes, marksAre, markedAre, cursorIs, endIs, wordsAre, frees}
-use Rattle.model.specs.Meaning.Worked.{changes, liveAre, beginOn, doAll, sees, seesAll, holdsFrom, holds}
+use Rattle.model.specs.Meaning.Worked.{changes, liveAre, restores, beginOn, doAll, sees, seesAll, holdsFrom, holds}
 use Rattle.model.specs.Meaning.Worked.{failing}
 
 -- operations that all have one tag
@@ -78,6 +82,31 @@ ring = tagged 0 (Op.add ∷ Op.sew 2 5 4 ∷ [])
 -- R-11: Q with the tag 7, split with the tag 4294967295
 named : List Call
 named = Call.op 7 Op.add ∷ Call.op 4294967295 (Op.split 0) ∷ []
+
+-- R-5: the marks of a wall, and insert along it
+wall : ℕ → List ℕ → List ℕ
+wall slots hs = tabulate slots (λ x. elim (member hs x) [ true ↦ 1 | false ↦ 0 ])
+
+insertAt : ℕ → List ℕ → Call
+insertAt slots hs = Call.op 0 (Op.insert (wall slots hs))
+
+-- R-5: the darts of T's wall between its first two quads, whose turns end free; and of both its walls
+between : List ℕ
+between = 5 ∷ 7 ∷ 12 ∷ 14 ∷ []
+
+both : List ℕ
+both = 13 ∷ 15 ∷ 20 ∷ 22 ∷ between
+
+-- R-5: two rings, one round the other; round : the wall between them
+rings : List Call
+rings = tagged 0 (Op.add ∷ Op.sew 2 5 4 ∷ Op.add ∷ Op.sew 2 13 12 ∷ Op.sew 2 2 8 ∷ [])
+
+round : List ℕ
+round = 2 ∷ 3 ∷ 8 ∷ 9 ∷ []
+
+-- R-5: a ring whose other two edges are sewn too, one turned: next leads over them
+torus : List Call
+torus = tagged 0 (Op.add ∷ Op.sew 2 5 4 ∷ Op.sew 2 0 2 ∷ [])
 
 -- our own: Q with link 0 between 2 and 3 undone
 cut : List ℕ
@@ -142,6 +171,26 @@ cases =
     ∷ row 10401 2 8 200 bent Call.check (gives 0 0 2 ∷ [])
     ∷ rowOn 10402 2 foldedEdge 200 Call.check (gives 0 0 1 ∷ [])
     ∷ rowOn 10403 2 foldedEdge 200 (Call.sheet 5) (gives 8 0 0 ∷ marksAre (replicate 8 0) ∷ [])
+    ∷ row 10501 2 32 440 three (insertAt 32 between)
+    (gives 0 24 8 ∷ changes 36 ∷ liveAre 32 ∷ cursorIs 440 ∷ goes 5 2 24 ∷ goes 24 2 5 ∷ goes 24 0 26 ∷ goes 24 1 25 ∷ [])
+    ∷ row 10502 2 32 900 three (insertAt 32 between) (goes 25 0 29 ∷ goes 25 1 24 ∷ goes 25 2 25 ∷ goes 25 3 25 ∷ restores 25 ∷ [])
+    ∷ row 10503 2 32 900 (three ++ (insertAt 32 between ∷ [])) Call.check (gives 0 0 2 ∷ [])
+    ∷ row 10504 2 32 439 three (insertAt 32 between) (gives 15 0 0 ∷ changes 0 ∷ cursorIs 329 ∷ [])
+    ∷ row 10505 2 31 900 three (insertAt 31 between) (gives 14 0 0 ∷ changes 0 ∷ [])
+    ∷ row 10506 2 32 900 three (insertAt 31 between) (gives 3 0 0 ∷ [])
+    ∷ row 10507 2 32 900 three (insertAt 32 (30 ∷ between)) (gives 28 0 0 ∷ changes 0 ∷ cursorIs 329 ∷ [])
+    ∷ row 10508 2 32 900 three (Call.op 0 (Op.insert (set (wall 32 between) 0 2))) (gives 28 0 0 ∷ [])
+    ∷ row 10509 2 32 900 three (Call.op 0 (Op.insert (set (wall 32 between) 0 3))) (gives 28 0 0 ∷ [])
+    ∷ row 10510 2 32 900 three (insertAt 32 []) (gives 29 0 0 ∷ [])
+    ∷ row 10511 2 32 900 three (insertAt 32 (5 ∷ 7 ∷ 12 ∷ [])) (gives 29 0 0 ∷ [])
+    ∷ row 10512 2 32 900 three (insertAt 32 (5 ∷ 7 ∷ [])) (gives 29 0 0 ∷ [])
+    ∷ row 10513 2 32 900 three (insertAt 32 (0 ∷ 1 ∷ between)) (gives 30 0 0 ∷ [])
+    ∷ row 10514 2 16 900 bent (insertAt 16 (2 ∷ 3 ∷ 5 ∷ 7 ∷ [])) (gives 31 0 0 ∷ [])
+    ∷ row 10515 2 40 900 three (insertAt 40 both) (gives 32 0 0 ∷ changes 0 ∷ [])
+    ∷ row 10516 2 16 900 ring (insertAt 16 (4 ∷ 5 ∷ 6 ∷ 7 ∷ [])) (gives 0 8 8 ∷ changes 36 ∷ restores 9 ∷ [])
+    ∷ row 10517 2 24 900 rings (insertAt 24 round) (gives 0 16 8 ∷ goes 17 2 19 ∷ goes 21 2 23 ∷ goes 17 0 21 ∷ restores 23 ∷ [])
+    ∷ row 10518 2 16 900 torus (insertAt 16 (4 ∷ 5 ∷ 6 ∷ 7 ∷ []))
+    (gives 0 8 8 ∷ goes 9 2 13 ∷ goes 11 2 15 ∷ goes 9 0 11 ∷ goes 8 0 12 ∷ restores 13 ∷ [])
     ∷ row 11001 2 24 600 three (Call.sheet 8) (gives 0 0 4 ∷ marksAre middle ∷ [])
     ∷ row 11002 2 24 600 three (Call.op 0 (Op.remove 8)) (gives 0 0 8 ∷ marksAre middle ∷ changes 36 ∷ [])
     ∷ row 11003 2 24 600 three (Call.op 0 (Op.split 8)) (gives 14 0 0 ∷ marksAre middle ∷ changes 0 ∷ [])
@@ -219,7 +268,7 @@ cases =
     ∷ []
 
 pub all-hold : failing cases ≡ []
-unfolding everything liveCount cases row rowOn rowWith tagged quad three halves bent unlinked quadTable hexahedronTable damaged foldedEdge foldedFace middle ring named cut cutRecord joined failing holds holdsFrom seesAll sees begin beginOn doAll doCall keeping equal
+unfolding everything liveCount cases row rowOn rowWith tagged quad three halves bent unlinked quadTable hexahedronTable damaged foldedEdge foldedFace middle ring named cut cutRecord joined wall insertAt between both rings round torus member failing holds holdsFrom seesAll sees begin beginOn doAll doCall keeping equal
 all-hold = refl
 
 -- 14: "262,144 entries pass check 2, 262,148 don't"
@@ -248,3 +297,29 @@ solid-split = (refl, refl, refl)
 pub solid-remove : link (removeTable 3 twoHexahedra 0) 3 53 ≡ 53
 unfolding everything twoHexahedra
 solid-remove = refl
+
+-- R-5, in 3D: two hexahedra sewn by a face, which is the wall
+pub twoSewn : List ℕ
+twoSewn = sewTable 3 (addTable 3 (addTable 3 (replicate 576 unused))) 3 0 48
+
+pub face : List ℕ
+face = wall 144 (0 ∷ 1 ∷ 2 ∷ 3 ∷ 16 ∷ 17 ∷ 18 ∷ 19 ∷ 48 ∷ 49 ∷ 50 ∷ 51 ∷ 64 ∷ 65 ∷ 66 ∷ 67 ∷ [])
+
+pub fourLinks : List ℕ → ℕ → List ℕ
+fourLinks t d = link t 0 d ∷ link t 1 d ∷ link t 2 d ∷ link t 3 d ∷ []
+
+-- of the table t and the wall's marks w: 28 to 32 pass; after insert the links of 0, 96, 97 and 98, which are h, p(h), q(h) and r(h), are
+-- these, and remove at 98 gives t back
+pub thickens : List ℕ → List ℕ → List ℕ → Bool
+thickens t w ls =
+    let u = insertTable 3 t w in
+    let v = removeTable 3 u 98 in
+    elim (inOrder (wallChecks 3 t w)) [
+      | pass ↦ equal (fourLinks u 0 ++ fourLinks u 96 ++ fourLinks u 97 ++ fourLinks u 98) ls && equal v t
+      | refuse k p q ↦ false
+    ]
+
+pub solid-insert : thickens twoSewn face
+    ((1 ∷ 16 ∷ 8 ∷ 96 ∷ []) ++ (99 ∷ 108 ∷ 97 ∷ 0 ∷ []) ++ (100 ∷ 98 ∷ 96 ∷ 97 ∷ []) ++ (122 ∷ 97 ∷ 110 ∷ 98 ∷ [])) ≡ true
+unfolding everything member twoSewn face wall fourLinks thickens equal
+solid-insert = refl

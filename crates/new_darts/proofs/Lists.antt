@@ -10,7 +10,8 @@ use lib.ListN.{getD, replicate, getD-replicate}
 use Rattle.model.specs.Lists.{ones, indexOf}
 use Rattle.model.specs.Table.{unused, slots, link, live}
 use Rattle.model.specs.Sheet.{sheet}
-use Rattle.model.specs.Split.{newDart, splitTable}
+use Rattle.model.specs.NewDarts.{newDart}
+use Rattle.model.specs.Split.{splitTable}
 use Rattle.model.specs.Meaning.Maps.{BlockTable}
 use Rattle.model.specs.Meaning.Sets.{Marked}
 use Rattle.model.specs.Meaning.Splits.{sheetDarts, newSlots, newOf}

@@ -6,7 +6,8 @@ use lib.ListN.{length, getD, take}
 use Rattle.model.specs.Lists.{ones}
 use Rattle.model.specs.Table.{slots}
 use Rattle.model.specs.Sheet.{sheet}
-use Rattle.model.specs.Split.{splitSlots, splitTable}
+use Rattle.model.specs.NewDarts.{slotsFor}
+use Rattle.model.specs.Split.{splitTable}
 use Rattle.model.specs.Meaning.Numbers.{JournalRule}
 use Rattle.model.specs.Meaning.Splits.{Splits}
 use Rattle.drafts.specs.Passes.{Room, Pass}
@@ -17,7 +18,7 @@ pub record Listed (n : ℕ) (t : List ℕ) (d : ℕ) (darts fresh places : List 
   pub splits : Splits n t d
   pub number : size ≡ length (ones (sheet n t d))
   pub old : take size darts ≡ ones (sheet n t d)
-  pub new : take (n * size) fresh ≡ splitSlots n t (ones (sheet n t d))
+  pub new : take (n * size) fresh ≡ slotsFor n t (ones (sheet n t d))
   pub place : (k : ℕ) → k < size → getD places (getD darts k 0) 0 ≡ n * k
   pub long : size ≤ length darts
   pub room : n * size ≤ length fresh

@@ -15,12 +15,14 @@ use Rattle.model.specs.Sheet.{sheet, sheetMarks}
 use Rattle.model.specs.Add.{addSlots, addTable}
 use Rattle.model.specs.Sew.{sewTable, unsewTable}
 use Rattle.model.specs.Remove.{countMarked, removeTable}
-use Rattle.model.specs.Split.{splitSlots, splitTable}
+use Rattle.model.specs.NewDarts.{slotsFor}
+use Rattle.model.specs.Split.{splitTable}
+use Rattle.model.specs.Insert.{insertTable}
 use Rattle.model.specs.Journal.{cursor, end, changesFrom, recordOf, recordLength, written, changesAt, tagAt, put, unbroken}
 use Rattle.model.specs.Checks.{Check, pass, refuse, must, inOrder, ruleNumber}
 use Rattle.model.specs.Checks.{dimOk, tableOk, marksOk, journalOk, pairingOk, undoOk, redoOk}
 use Rattle.model.specs.Checks.{checkChecks, orbitChecks, sheetChecks}
-use Rattle.model.specs.Checks.{addChecks, sidesChecks, sewChecks, unsewChecks, layerChecks, splitChecks, stepChecks}
+use Rattle.model.specs.Checks.{addChecks, sidesChecks, sewChecks, unsewChecks, layerChecks, splitChecks, insertChecks, stepChecks}
 use Rattle.model.specs.Calls.{Outcome, refused}
 use Rattle.model.specs.Runs.{Op, Call, doCall, effect}
 use Rattle.model.specs.Meaning.Lists.{member}
@@ -64,6 +66,7 @@ checksOf n t m j (Call.op tag (Op.remove d)) = layerChecks n t m j d ++ (recordO
 checksOf n t m j (Call.op tag (Op.split d)) =
     let s = sheet n t d in
     layerChecks n t m j d ++ (splitChecks n t s (ones s) ++ (recordOk tag t (splitTable n t d) j ∷ []))
+checksOf n t m j (Call.op tag (Op.insert w)) = insertChecks n t w j ++ (recordOk tag t (insertTable n t w) j ∷ [])
 checksOf n t m j Call.undo = stepChecks n t j (undoOk j) ++ (stepOk false n t j (undoStart j) (undoCount j) ∷ [])
 checksOf n t m j Call.redo = stepChecks n t j (redoOk j) ++ (stepOk true n t j (cursor j) (redoCount j) ∷ [])
 
@@ -82,16 +85,19 @@ firstChecks n o (Call.op tag (Op.remove d)) =
     dimOk n ∷ tableOk (o .table) ∷ marksOk (o .table) (o .marks) ∷ journalOk (o .journal) ∷ []
 firstChecks n o (Call.op tag (Op.split d)) =
     dimOk n ∷ tableOk (o .table) ∷ marksOk (o .table) (o .marks) ∷ journalOk (o .journal) ∷ []
+firstChecks n o (Call.op tag (Op.insert w)) =
+    dimOk n ∷ tableOk (o .table) ∷ marksOk (o .table) w ∷ journalOk (o .journal) ∷ []
 firstChecks n o Call.undo = dimOk n ∷ tableOk (o .table) ∷ journalOk (o .journal) ∷ []
 firstChecks n o Call.redo = dimOk n ∷ tableOk (o .table) ∷ journalOk (o .journal) ∷ []
 
--- the numbers of a call's checks: the column "Calls" of 01's table, and 02's R-3. sew has 7 twice, for d and for e
+-- the numbers of a call's checks: the column "Calls" of 01's table, and 02's R-3 and R-5. sew has 7 twice, for d and for e
 abbrev pub opNumbers : Op → List ℕ
 opNumbers Op.add = 1 ∷ 2 ∷ 4 ∷ 5 ∷ 24 ∷ 25 ∷ 26 ∷ 14 ∷ 15 ∷ []
 opNumbers (Op.sew i d e) = 1 ∷ 2 ∷ 4 ∷ 5 ∷ 24 ∷ 25 ∷ 26 ∷ 6 ∷ 7 ∷ 7 ∷ 9 ∷ 10 ∷ 12 ∷ 15 ∷ []
 opNumbers (Op.unsew i d) = 1 ∷ 2 ∷ 4 ∷ 5 ∷ 24 ∷ 25 ∷ 26 ∷ 6 ∷ 7 ∷ 11 ∷ 15 ∷ []
 opNumbers (Op.remove d) = 1 ∷ 2 ∷ 3 ∷ 4 ∷ 5 ∷ 24 ∷ 25 ∷ 26 ∷ 7 ∷ 8 ∷ 15 ∷ []
 opNumbers (Op.split d) = 1 ∷ 2 ∷ 3 ∷ 4 ∷ 5 ∷ 24 ∷ 25 ∷ 26 ∷ 7 ∷ 8 ∷ 13 ∷ 14 ∷ 15 ∷ []
+opNumbers (Op.insert w) = 1 ∷ 2 ∷ 3 ∷ 4 ∷ 5 ∷ 24 ∷ 25 ∷ 26 ∷ 8 ∷ 28 ∷ 29 ∷ 30 ∷ 31 ∷ 32 ∷ 14 ∷ 15 ∷ []
 
 abbrev pub numbers : Call → List ℕ
 numbers Call.check = 1 ∷ 2 ∷ 5 ∷ 24 ∷ 25 ∷ 26 ∷ []
@@ -109,6 +115,7 @@ Passed n t m j (Op.unsew i d) = inOrder (unsewChecks n t j i d) ≡ pass
 Passed n t m j (Op.remove d) = inOrder (layerChecks n t m j d) ≡ pass
 Passed n t m j (Op.split d) =
     (inOrder (layerChecks n t m j d) ≡ pass) × (inOrder (splitChecks n t (sheet n t d) (ones (sheet n t d))) ≡ pass)
+Passed n t m j (Op.insert w) = inOrder (insertChecks n t w j) ≡ pass
 
 -- ---- a refusal by the number k
 
@@ -146,6 +153,7 @@ refusalMarks n o (Call.op tag (Op.sew i d e)) k = o .marks
 refusalMarks n o (Call.op tag (Op.unsew i d)) k = o .marks
 refusalMarks n o (Call.op tag (Op.remove d)) k = layerMarks n o d k
 refusalMarks n o (Call.op tag (Op.split d)) k = layerMarks n o d k
+refusalMarks n o (Call.op tag (Op.insert w)) k = o .marks
 refusalMarks n o Call.undo k = o .marks
 refusalMarks n o Call.redo k = o .marks
 
@@ -207,7 +215,9 @@ doneOf n t m j (Call.op tag (Op.remove d)) =
     changing t j tag (removeTable n t d) 0 (countMarked marks) marks
 doneOf n t m j (Call.op tag (Op.split d)) =
     let s = sheet n t d in
-    changing t j tag (splitTable n t d) (getD (splitSlots n t (ones s)) 0 0) (n * length (ones s)) (sheetMarks n t s)
+    changing t j tag (splitTable n t d) (getD (slotsFor n t (ones s)) 0 0) (n * length (ones s)) (sheetMarks n t s)
+doneOf n t m j (Call.op tag (Op.insert w)) =
+    changing t j tag (insertTable n t w) (getD (slotsFor n t (ones w)) 0 0) (n * length (ones w)) m
 doneOf n t m j Call.undo = stepping false t m j (undoStart j) (undoCount j) (undoStart j)
 doneOf n t m j Call.redo = stepping true t m j (cursor j) (redoCount j) (cursor j + recordLength (redoCount j))
 

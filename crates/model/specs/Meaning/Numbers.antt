@@ -15,6 +15,8 @@ use Rattle.model.specs.Add.{addTable}
 use Rattle.model.specs.Sew.{side, sewTable, unsewTable}
 use Rattle.model.specs.Remove.{removeTable}
 use Rattle.model.specs.Split.{splitTable}
+use Rattle.model.specs.Wall.{wallReached}
+use Rattle.model.specs.Insert.{insertTable}
 use Rattle.model.specs.Journal.{cursor, end, changesFrom, recordOf, changesAt, put}
 use Rattle.model.specs.Checks.{ruleNumber}
 use Rattle.model.specs.Runs.{Op, Call}
@@ -23,6 +25,7 @@ use Rattle.model.specs.Meaning.Maps.{Map, BreaksFirst, Block}
 use Rattle.model.specs.Meaning.Pairings.{Pairing}
 use Rattle.model.specs.Meaning.Records.{Broken}
 use Rattle.model.specs.Meaning.Sets.{Marked}
+use Rattle.model.specs.Meaning.Walls.{BadMark, Leaves, Needed}
 
 pub record NumberRow : Type 1 where
   pub number : ℕ
@@ -80,6 +83,26 @@ dartRow t d = record { number = 7; given = live t d ≡ false }
 -- "not a block map"
 abbrev pub blockRow : ℕ → List ℕ → NumberRow
 blockRow n t = record { number = 8; given = Block n t → ⊥ }
+
+-- "mark not 0 or 1 or a marked dead slot"
+abbrev pub drawnRow : List ℕ → List ℕ → NumberRow
+drawnRow t m = record { number = 28; given = (d : ℕ) × (d < slots t) × BadMark t m d }
+
+-- "empty or not closed"
+abbrev pub enclosedRow : ℕ → List ℕ → List ℕ → NumberRow
+enclosedRow n t m = record { number = 29; given = ((h : ℕ) → Marked m h → ⊥) ⊎ ((h : ℕ) × Marked m h × Leaves n t m h) }
+
+-- "free side in the wall"
+abbrev pub sewnWallRow : ℕ → List ℕ → List ℕ → NumberRow
+sewnWallRow n t m = record { number = 30; given = (h : ℕ) × Marked m h × (link t n h ≡ h) }
+
+-- "what is needed of next fails"
+abbrev pub turnsRow : ℕ → List ℕ → List ℕ → NumberRow
+turnsRow n t m = record { number = 31; given = (h : ℕ) × Marked m h × (Needed n t m h → ⊥) }
+
+-- "not connected"; `wall-reached-is` says what is reached
+abbrev pub connectedRow : ℕ → List ℕ → List ℕ → NumberRow
+connectedRow n t m = record { number = 32; given = (h : ℕ) × Marked m h × (Marked (wallReached n t m) h → ⊥) }
 
 -- "e in d's side"
 abbrev pub apartRow : ℕ → List ℕ → ℕ → ℕ → ℕ → NumberRow
@@ -144,6 +167,10 @@ numberRows n t m j (Call.op tag (Op.remove d)) =
 numberRows n t m j (Call.op tag (Op.split d)) =
     dimRow n ∷ tableRow t ∷ marksRow t m ∷ journalRow j ∷ (mapRows n t ++ (dartRow t d ∷ blockRow n t ∷ crossingRow n t d
     ∷ roomRow t (n * length (ones (sheet n t d))) ∷ recordRow tag t (splitTable n t d) j ∷ []))
+numberRows n t m j (Call.op tag (Op.insert w)) =
+    dimRow n ∷ tableRow t ∷ marksRow t w ∷ journalRow j ∷ (mapRows n t ++ (blockRow n t ∷ drawnRow t w ∷ enclosedRow n t w
+    ∷ sewnWallRow n t w ∷ turnsRow n t w ∷ connectedRow n t w ∷ roomRow t (n * length (ones w))
+    ∷ recordRow tag t (insertTable n t w) j ∷ []))
 numberRows n t m j Call.undo =
     dimRow n ∷ tableRow t ∷ journalRow j
     ∷ (mapRows n t ++ (undoRow j ∷ stepRow false n t j (undoStart j) (undoCount j) ∷ []))

@@ -9,7 +9,8 @@ use Rattle.model.specs.Lists.{ones}
 use Rattle.model.specs.Table.{link, live, walk}
 use Rattle.model.specs.Cell.{cellOf, goodCell}
 use Rattle.model.specs.Sheet.{sheet}
-use Rattle.model.specs.Split.{crosses, newDart, splitSlots}
+use Rattle.model.specs.NewDarts.{newDart, slotsFor}
+use Rattle.model.specs.Split.{crosses}
 use Rattle.model.specs.Meaning.Slots.{Vacant}
 use Rattle.model.specs.Meaning.Sets.{Marked}
 use Rattle.model.specs.Meaning.Maps.{BlockTable}
@@ -19,7 +20,7 @@ use Rattle.model.specs.Meaning.Sheets.{BlockDart, Sheet}
 pub record Splits (n : ℕ) (t : List ℕ) (d : ℕ) : Type 0 where
   pub dart : BlockDart n t d
   pub uncrossed : crosses t (sheet n t d) (ones (sheet n t d)) ≡ false
-  pub room : length (splitSlots n t (ones (sheet n t d))) ≡ n * length (ones (sheet n t d))
+  pub room : length (slotsFor n t (ones (sheet n t d))) ≡ n * length (ones (sheet n t d))
 
 -- what split takes, by its darts and its slots: a block map, darts gs closed as a sheet is, of which none has its link 1 among
 -- them, and n unused slots fs for each
@@ -45,7 +46,7 @@ module _ (n : ℕ) (t : List ℕ) (d : ℕ) where
 
   -- the new slots, and the new dart of g: a(g), b(g), c(g) where r is 0, 1, 2
   abbrev pub newSlots : List ℕ
-  newSlots = splitSlots n t sheetDarts
+  newSlots = slotsFor n t sheetDarts
 
   abbrev pub newOf : ℕ → ℕ → ℕ
   newOf r g = newDart n sheetDarts newSlots r g

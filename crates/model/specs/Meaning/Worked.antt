@@ -8,7 +8,7 @@ use Rattle.model.specs.Lists.{count, equal}
 use Rattle.model.specs.Table.{slots, link, live, liveCount}
 use Rattle.model.specs.Journal.{cursor, end, changesFrom}
 use Rattle.model.specs.Calls.{Outcome}
-use Rattle.model.specs.Runs.{Call, begin, doCall}
+use Rattle.model.specs.Runs.{Op, Call, begin, doCall}
 use Rattle.model.specs.Meaning.Ends.{lent}
 
 -- what is seen after the last call
@@ -22,6 +22,7 @@ pub data Seen : Type 0 where
   frees : ℕ → Seen  -- the slot is unused, and was live
   changes : ℕ → Seen  -- so many entries
   liveAre : ℕ → Seen  -- so many slots
+  restores : ℕ → Seen  -- remove at d is then accepted, and gives the table back that was before the last call
 
 -- the label is a hundred times the case's number in 01, and counts its parts: 301 is the first part of 3; that of a request
 -- of 02 is ten thousand more: 10401 is the first of R-4. Our own are twenty thousand more: 201 the words of a record, 202 records
@@ -43,24 +44,27 @@ doAll n o [] = o
 doAll n o (c ∷ cs) = doAll n (doCall n o c) cs
 
 -- old is what stood before the last call, new what it left
-unfoldable pub sees : Outcome → Outcome → Seen → Bool
-sees old new (gives k p c) = eqb (new .number) k && eqb (new .place) p && eqb (new .count) c
-sees old new (goes d i e) = eqb (link (new .table) i d) e
-sees old new (marksAre m) = equal (new .marks) m
-sees old new (markedAre k) = eqb (length (new .marks) - count 0 (new .marks)) k
-sees old new (cursorIs k) = eqb (cursor (new .journal)) k
-sees old new (endIs k) = eqb (end (new .journal)) k
-sees old new (wordsAre x vs) = equal (take (length vs) (drop x (new .journal))) vs
-sees old new (frees d) = live (old .table) d && not (live (new .table) d)
-sees old new (changes k) = eqb (length (changesFrom 0 (old .table) (new .table))) k
-sees old new (liveAre k) = eqb (liveCount (new .table)) k
+unfoldable pub sees : ℕ → Outcome → Outcome → Seen → Bool
+sees n old new (gives k p c) = eqb (new .number) k && eqb (new .place) p && eqb (new .count) c
+sees n old new (goes d i e) = eqb (link (new .table) i d) e
+sees n old new (marksAre m) = equal (new .marks) m
+sees n old new (markedAre k) = eqb (length (new .marks) - count 0 (new .marks)) k
+sees n old new (cursorIs k) = eqb (cursor (new .journal)) k
+sees n old new (endIs k) = eqb (end (new .journal)) k
+sees n old new (wordsAre x vs) = equal (take (length vs) (drop x (new .journal))) vs
+sees n old new (frees d) = live (old .table) d && not (live (new .table) d)
+sees n old new (changes k) = eqb (length (changesFrom 0 (old .table) (new .table))) k
+sees n old new (liveAre k) = eqb (liveCount (new .table)) k
+sees n old new (restores d) =
+    let r = doCall n new (Call.op 0 (Op.remove d)) in
+    eqb (r .number) 0 && equal (r .table) (old .table)
 
-unfoldable pub seesAll : Outcome → Outcome → List Seen → Bool
-seesAll old new [] = true
-seesAll old new (s ∷ ss) = elim (sees old new s) [ true ↦ seesAll old new ss | false ↦ false ]
+unfoldable pub seesAll : ℕ → Outcome → Outcome → List Seen → Bool
+seesAll n old new [] = true
+seesAll n old new (s ∷ ss) = elim (sees n old new s) [ true ↦ seesAll n old new ss | false ↦ false ]
 
 unfoldable pub holdsFrom : ℕ → Outcome → Call → List Seen → Bool
-holdsFrom n old c ss = seesAll old (doCall n old c) ss
+holdsFrom n old c ss = seesAll n old (doCall n old c) ss
 
 unfoldable pub holds : Case → Bool
 holds c = holdsFrom (c .dim) (doAll (c .dim) (c .start) (c .before)) (c .call) (c .seen)

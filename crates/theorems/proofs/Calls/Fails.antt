@@ -15,10 +15,10 @@ use Rattle.model.specs.Reach.{inSet}
 use Rattle.model.specs.Cell.{cellSize, isBlock}
 use Rattle.model.specs.Add.{addSlots}
 use Rattle.model.specs.Sew.{side}
-use Rattle.model.specs.Split.{splitSlots}
+use Rattle.model.specs.NewDarts.{slotsFor}
 use Rattle.model.specs.Journal.{cursor, end, changesFrom, recordOf, changesAt, put, unbroken}
 use Rattle.model.specs.Checks.{pass, must, mustAt, dimOk, tableOk, marksOk, journalOk, ruleNumber, ruleOk, indexOk, maskOk}
-use Rattle.model.specs.Checks.{dartOk, blockOk, apartOk, freeOk, sewnOk, pairingOk, crossingOk, addRoomOk, splitRoomOk}
+use Rattle.model.specs.Checks.{dartOk, blockOk, apartOk, freeOk, sewnOk, pairingOk, crossingOk, addRoomOk, newRoomOk}
 use Rattle.model.specs.Checks.{undoOk, redoOk}
 use Rattle.model.specs.Meaning.Ends.{recordOk, stepOk}
 use Rattle.model.specs.Meaning.Maps.{Dim, BreaksFirst, MapTable, Block}
@@ -137,8 +137,8 @@ pub add-room-fails : (n : ℕ) (t : List ℕ) → (addRoomOk n t ≢ pass) ↔ (
 unfolding addRoomOk addSlots
 add-room-fails n t = must-fails _ 14 (Iff·trans (eqb-fails _ _) (take-short (cellSize n) (unusedSlots t)))
 
-pub split-room-fails : (n : ℕ) (t gs : List ℕ) → (splitRoomOk n t gs ≢ pass) ↔ (length (unusedSlots t) < n * length gs)
-unfolding splitRoomOk splitSlots
+pub split-room-fails : (n : ℕ) (t gs : List ℕ) → (newRoomOk n t gs ≢ pass) ↔ (length (unusedSlots t) < n * length gs)
+unfolding newRoomOk slotsFor
 split-room-fails n t gs = must-fails _ 14 (Iff·trans (eqb-fails _ _) (take-short (n * length gs) (unusedSlots t)))
 
 pub record-fails : (tag : ℕ) (t u j : List ℕ)

@@ -16,11 +16,12 @@ use Rattle.model.specs.Cell.{cellSize, isBlock, leastWrong}
 use Rattle.model.specs.Journal.{cursor, end, changesFrom, recordOf, changesAt, put, unbroken}
 use Rattle.model.specs.Add.{addSlots}
 use Rattle.model.specs.Sew.{side, isPaired}
-use Rattle.model.specs.Split.{crosses, splitSlots}
+use Rattle.model.specs.NewDarts.{slotsFor}
+use Rattle.model.specs.Split.{crosses}
 use Rattle.model.specs.Checks.{pass, must, mustAt, inOrder}
 use Rattle.model.specs.Checks.{dimOk, tableOk, journalOk, ruleOk, mapChecks, indexOk, dartOk, blockOk}
 use Rattle.model.specs.Checks.{apartOk, freeOk}
-use Rattle.model.specs.Checks.{sewnOk, pairingOk, crossingOk, addRoomOk, splitRoomOk}
+use Rattle.model.specs.Checks.{sewnOk, pairingOk, crossingOk, addRoomOk, newRoomOk}
 use Rattle.model.specs.Checks.{addChecks, sidesChecks, sewChecks, unsewChecks, layerChecks, splitChecks}
 use Rattle.model.specs.Runs.{Op}
 use Rattle.model.specs.Meaning.Ends.{recordOk, stepOk, opNumbers}
@@ -152,7 +153,7 @@ pub record SidesPassed (n : ℕ) (t : List ℕ) (i d e : ℕ) : Type 0 where
 
 pub record SplitPassed (n : ℕ) (t s gs : List ℕ) : Type 0 where
   pub uncrossed : crosses t s gs ≡ false
-  pub room : length (splitSlots n t gs) ≡ n * length gs
+  pub room : length (slotsFor n t gs) ≡ n * length gs
 
 pub unsew-side : {n : ℕ} {t : List ℕ} {i d : ℕ} → UnsewPassed n t i d → OnSide n t i d
 unsew-side passed = record { table = passed .table; index = passed .index; lives = passed .lives }
@@ -228,7 +229,7 @@ module _ (n : ℕ) (t j : List ℕ) where
       }
 
   pub split-passed : (s gs : List ℕ) → inOrder (splitChecks n t s gs) ≡ pass → SplitPassed n t s gs
-  unfolding splitChecks crossingOk splitRoomOk indexOf
+  unfolding splitChecks crossingOk newRoomOk indexOf
   split-passed s gs a =
       let q = passed-number (13 ∷ 14 ∷ []) (splitChecks n t s gs) a in
       record { uncrossed = not-true _ (must-pass _ 13 (q 13)); room = eqb-true _ _ (must-pass _ 14 (q 14)) }

@@ -10,7 +10,8 @@ use lib.ListN.{getD}
 use lib.Dec.{eqb, ltb}
 use borrow.Author.Tests.{eqb-false, eq-eqb, ne-eqb, ltb-true, not-true}
 use Rattle.model.specs.Table.{link, walk}
-use Rattle.model.specs.Split.{newDart, newDartLink, splitBy}
+use Rattle.model.specs.NewDarts.{newDart}
+use Rattle.model.specs.Split.{newDartLink, splitBy}
 use Rattle.model.specs.Meaning.Maps.{BlockTable, Rule}
 use Rattle.model.specs.Meaning.Sheets.{Sheet}
 use Rattle.model.specs.Meaning.Splits.{Splitting}

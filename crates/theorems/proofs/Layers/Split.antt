@@ -14,7 +14,8 @@ use Rattle.model.specs.Table.{unused, slots, link, live, walk, unusedSlots, liv
 use Rattle.model.specs.Cell.{cellOf}
 use Rattle.model.specs.Journal.{changesFrom}
 use Rattle.model.specs.Sheet.{sheet}
-use Rattle.model.specs.Split.{newDart, splitSlots, splitTable}
+use Rattle.model.specs.NewDarts.{newDart, slotsFor}
+use Rattle.model.specs.Split.{splitTable}
 use Rattle.model.specs.Meaning.Lists.{Rising}
 use Rattle.model.specs.Meaning.Slots.{Lowest, LowestUnused}
 use Rattle.model.specs.Meaning.Maps.{BlockTable}
@@ -104,14 +105,14 @@ module _ {n : ℕ} {t : List ℕ} {d : ℕ} (s : Splits n t d) where
   -- "gets new darts a, b (for n = 3 also c) in the lowest unused slots in that order"
   pub new-in-order : (r g : ℕ) → r < n → Marked (sheet n t d) g
       → newOf n t d r g ≡ getD (unusedSlots t) (n * indexOf g (sheetDarts n t d) + r) unused
-  unfolding newDart splitSlots
+  unfolding newDart slotsFor
   new-in-order r g b m =
       let low = new-slot given r g b (ones-in _ g m) in
       let room = s .room in
       getD-take (n * length (sheetDarts n t d)) (unusedSlots t) _ unused (omega arith)
 
   pub split-lowest : Lowest t (newSlots n t d)
-  unfolding splitSlots
+  unfolding slotsFor
   split-lowest = lowest-slots t (n * length (sheetDarts n t d))
 
   pub split-number : length (newSlots n t d) ≡ n * count 1 (sheet n t d)

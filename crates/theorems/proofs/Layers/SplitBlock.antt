@@ -12,7 +12,8 @@ use Rattle.model.specs.Lists.{allBelow}
 use Rattle.model.specs.Table.{link, walk, live}
 use Rattle.model.specs.Cell.{cellSize}
 use Rattle.model.specs.Numbering.{cellLink}
-use Rattle.model.specs.Split.{newDart, splitBy}
+use Rattle.model.specs.NewDarts.{newDart}
+use Rattle.model.specs.Split.{splitBy}
 use Rattle.model.specs.Meaning.Lists.{member}
 use Rattle.model.specs.Meaning.Maps.{BlockTable, Dim}
 use Rattle.model.specs.Meaning.Places.{path, place, Chart}

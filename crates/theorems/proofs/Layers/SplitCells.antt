@@ -8,7 +8,8 @@ use mathlib.Core.List.{List, List·Memᴰ as In}
 use native.Mathlib.Omega.{arith}
 use Rattle.model.specs.Table.{link, live}
 use Rattle.model.specs.Cell.{cellSize, cellOf}
-use Rattle.model.specs.Split.{newDart, splitBy}
+use Rattle.model.specs.NewDarts.{newDart}
+use Rattle.model.specs.Split.{splitBy}
 use Rattle.model.specs.Meaning.Maps.{BlockTable}
 use Rattle.model.specs.Meaning.Places.{place, AtPlace, Chart}
 use Rattle.model.specs.Meaning.Sets.{Marked}

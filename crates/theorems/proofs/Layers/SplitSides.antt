@@ -15,7 +15,8 @@ use Rattle.model.specs.Table.{link, walk, live}
 use Rattle.model.specs.Cell.{cellSize}
 use Rattle.model.specs.Numbering.{cellLink}
 use Rattle.model.specs.Sew.{side}
-use Rattle.model.specs.Split.{newDart, splitBy}
+use Rattle.model.specs.NewDarts.{newDart}
+use Rattle.model.specs.Split.{splitBy}
 use Rattle.model.specs.Everything.{everything}
 use Rattle.model.specs.Meaning.Maps.{BlockTable, Dim, Rule, Straight}
 use Rattle.model.specs.Meaning.Sets.{Marked}

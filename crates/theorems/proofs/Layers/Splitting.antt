@@ -10,7 +10,8 @@ use borrow.Author.Tests.{lt-ltb, le-ltb}
 use Rattle.model.specs.Lists.{ones, indexOf}
 use Rattle.model.specs.Table.{unused, slots, link, live}
 use Rattle.model.specs.Sheet.{sheet}
-use Rattle.model.specs.Split.{newDart, newDartLink, splitLink, splitBy, splitSlots}
+use Rattle.model.specs.NewDarts.{newDart, slotsFor}
+use Rattle.model.specs.Split.{newDartLink, splitLink, splitBy}
 use Rattle.model.specs.Meaning.Maps.{Dim}
 use Rattle.model.specs.Meaning.Splits.{Splits, Splitting, IsNew}
 use Rattle.theorems.proofs.Lists.Scan.{clash}
@@ -21,8 +22,8 @@ use Rattle.theorems.proofs.Maps.Tables.{mapTable, live-below}
 use Rattle.theorems.proofs.Operations.Frame.{split-frame}
 use Rattle.theorems.proofs.Layers.Sheet.{sheet-of, crosses-none}
 
-pub splits-splitting : {n : ℕ} {t : List ℕ} {d : ℕ} → Splits n t d → Splitting n t (ones (sheet n t d)) (splitSlots n t (ones (sheet n t d)))
-unfolding splitSlots
+pub splits-splitting : {n : ℕ} {t : List ℕ} {d : ℕ} → Splits n t d → Splitting n t (ones (sheet n t d)) (slotsFor n t (ones (sheet n t d)))
+unfolding slotsFor
 splits-splitting {n} {t} {d} s = record {
   table = s .dart .table;
   sheet = sheet-of (s .dart);
