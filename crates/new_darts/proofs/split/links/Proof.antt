@@ -1,9 +1,9 @@
--- `new_darts::new_links` meets its contract.
+-- `new_darts::split::links` meets its contract.
 use mathlib.Core.Path.{_≡_}
 use native.Mathlib.Omega.{arith}
-use Rattle.new_darts.proofs.Roles.{some-role}
-use Rattle.new_darts.proofs.new_links.Statement.{statement}
-use Rattle.new_darts.proofs.new_links.Tie as tie
+use Rattle.new_darts.proofs.SplitRoles.{some-role}
+use Rattle.new_darts.proofs.split.links.Statement.{statement}
+use Rattle.new_darts.proofs.split.links.Tie as tie
 
 -- the function's entry, from where the role is tested
 abbrev start : tie.After-shared-slice-known3 → tie.Start
@@ -14,7 +14,7 @@ last : (c : tie.Else2) → start (c .before .before) .args .role ≡ 2
 last c =
     let R = start (c .before .before) .pre .is in
     let low = R .low in
-    let three = R .news .splits .dart .table .dim .1 in
+    let three = R .splits .dart .table .dim .1 in
     omega arith
 
 a-links-requires : tie.Need-a-links-requires
@@ -35,6 +35,6 @@ returns-2 c = λ d R. let e = c .before .if2 .taken in rw e (c .b-links .ensures
 returns-3 : tie.Need-returns-3
 returns-3 c = λ d R. let e = last (c .before) in rw e (c .c-links .ensures d (rw e at R))
 
-pub new-links-spec : {M : Type 1} → statement M
-new-links-spec =
+pub links-spec : {M : Type 1} → statement M
+links-spec =
     tie.close (tie.spec a-links-requires b-links-requires c-links-requires returns returns-2 returns-3)
