@@ -10,7 +10,7 @@ use Rattle.model.specs.Map.{MapRule, links-live, links-return, pairs-commute, s
 use Rattle.model.specs.Sheet.{sheet}
 use Rattle.model.specs.Checks.{Check, pass, refuse, andThen, inOrder, dimOk, tableOk, marksOk, journalOk, ruleNumber, ruleOk}
 use Rattle.model.specs.Checks.{mapChecks, checkChecks, orbitChecks, sheetChecks, addChecks, sidesChecks, unsewChecks}
-use Rattle.model.specs.Checks.{layerChecks, splitChecks, stepChecks}
+use Rattle.model.specs.Checks.{layerChecks, splitChecks, wallChecks, insertChecks, stepChecks}
 use Rattle.model.specs.Calls.{Outcome, refused}
 use Rattle.model.specs.Runs.{Op, Call, doCall}
 use Rattle.model.specs.Meaning.Ends.{stepOk, checksOf, checks, opNumbers, numbers}
@@ -20,11 +20,11 @@ use Rattle.model.specs.Meaning.Numbers.{stepRow, numberRows}
 use Rattle.theorems.proofs.Maps.Broken.{each-earlier}
 use Rattle.theorems.proofs.Calls.Checks.{not-pass, passed-at, passed-number, passed-append, append-passed, Numbered, Numbers}
 use Rattle.theorems.proofs.Calls.Checks.{_then_, call-numbers}
-use Rattle.theorems.proofs.Calls.Pass.{dim-pass, rules-pass, table-of, sides-passed}
+use Rattle.theorems.proofs.Calls.Pass.{dim-pass, rules-pass, table-of, sides-passed, wall-drawn}
 use Rattle.theorems.proofs.Calls.Fails.{dim-fails, table-fails, marks-fails, journal-fails, rule-fails, index-fails, mask-fails}
 use Rattle.theorems.proofs.Calls.Fails.{dart-fails, block-fails, apart-fails, free-fails, sewn-fails, pairing-fails}
-use Rattle.theorems.proofs.Calls.Fails.{crossing-fails, add-room-fails, split-room-fails, record-fails, undo-fails, redo-fails}
-use Rattle.theorems.proofs.Calls.Fails.{step-fails}
+use Rattle.theorems.proofs.Calls.Fails.{crossing-fails, add-room-fails, new-room-fails, record-fails, undo-fails, redo-fails}
+use Rattle.theorems.proofs.Calls.Fails.{step-fails, drawn-fails, enclosed-fails, sewn-wall-fails, turns-fails, connected-fails}
 use Rattle.theorems.proofs.Calls.Ends.{call-ends, done-number}
 
 -- two numbers of the first row that is given are one
@@ -160,7 +160,7 @@ module _ (n : ℕ) (o : Outcome) where
       next-passed w)
 
   meets : (c : Call) → MeetsRows c
-  unfolding checksOf mapChecks checkChecks orbitChecks sheetChecks addChecks sidesChecks unsewChecks splitChecks stepChecks indexOf
+  unfolding checksOf mapChecks checkChecks orbitChecks sheetChecks addChecks sidesChecks unsewChecks splitChecks wallChecks insertChecks stepChecks indexOf
   meets Call.check = dim-fails n next table-fails t next then-map _ no-more
   meets (Call.orbit mask d) = with-marks (mask-fails n mask next dart-fails t d next no-more)
   meets (Call.sheet d) = with-marks (dart-fails t d
@@ -174,8 +174,15 @@ module _ (n : ℕ) (o : Outcome) where
   meets (Call.op tag (Op.unsew i d)) = with-journal (index-fails n i next dart-fails t d next sewn-fails t i d
       next record-fails tag t _ j next no-more)
   meets (Call.op tag (Op.remove d)) = with-layer d (record-fails tag t _ j next no-more)
-  meets (Call.op tag (Op.split d)) = with-layer d (crossing-fails t (sheet n t d) next split-room-fails n t (ones (sheet n t d))
+  meets (Call.op tag (Op.split d)) = with-layer d (crossing-fails t (sheet n t d) next new-room-fails n t (ones (sheet n t d))
       next record-fails tag t _ j next no-more)
+  meets (Call.op tag (Op.insert w)) =
+      dim-fails n next table-fails t next marks-fails t w next journal-fails j next then-map _ (
+      (λ h. let q = passed-number (opNumbers (Op.insert w)) _ h in
+      block-fails n t (table-of n t (q 1) (q 2) (rules-pass n t (q 5) (q 24) (q 25) (q 26))))
+      next-passed drawn-fails t w next enclosed-fails n t w next sewn-wall-fails n t w
+      next (λ h. turns-fails n t w (wall-drawn n t j w _ h))
+      next-passed connected-fails n t w next new-room-fails n t (ones w) next record-fails tag t _ j next no-more)
   meets Call.undo = with-journal (undo-fails j next step-row false _ _ _ next-passed no-more)
   meets Call.redo = with-journal (redo-fails j next step-row true _ _ _ next-passed no-more)
 
@@ -189,6 +196,7 @@ module _ (n : ℕ) (o : Outcome) where
   rows-numbers (Call.op tag (Op.unsew i d)) = refl
   rows-numbers (Call.op tag (Op.remove d)) = refl
   rows-numbers (Call.op tag (Op.split d)) = refl
+  rows-numbers (Call.op tag (Op.insert w)) = refl
   rows-numbers Call.undo = refl
   rows-numbers Call.redo = refl
 
