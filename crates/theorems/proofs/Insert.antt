@@ -1,0 +1,3 @@
+pub mod Turn
+pub mod Wall
+pub mod Fails
