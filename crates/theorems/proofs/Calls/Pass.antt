@@ -8,7 +8,7 @@ use native.Mathlib.Omega.{arith}
 use lib.ListN.{length}
 use lib.Dec.{eqb, leb}
 use borrow.Author.Tests.{eqb-true, eqb-false, eq-eqb, leb-true, not-true}
-use Rattle.model.specs.Lists.{ones, indexOf}
+use Rattle.model.specs.Lists.{indexOf}
 use Rattle.model.specs.Table.{slots, link, live}
 use Rattle.model.specs.Map.{MapRule, links-live, links-return, pairs-commute, stays-flat, keepsRule, leastBreaking, isMap}
 use Rattle.model.specs.Reach.{inSet}
@@ -256,7 +256,7 @@ module _ (n : ℕ) (t j : List ℕ) where
         room = eqb-true _ _ (must-pass _ 14 (q 14));
       }
 
-  -- of the checks of insert before 30
+  -- of insert, where the checks before 30 pass
   pub wall-drawn : (w : List ℕ) (rest : List Check)
       → inOrder (dimOk n ∷ tableOk t ∷ marksOk t w ∷ journalOk j
       ∷ (mapChecks n t ++ (blockOk n t ∷ drawnOk t w ∷ enclosedOk n t w ∷ rest))) ≡ pass → Drawn n t w

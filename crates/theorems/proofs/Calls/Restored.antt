@@ -1,14 +1,13 @@
 -- "Removing the sheet through the new crossing edges must, given journal room, give back the old table entry for entry" (02, R-5):
 -- `remove-accepted`, of a table that insert made; `insert-restored`, after an accepted insert. `restored-words`: the room that it needs.
 use Prim.Native.Nat.{ℕ, _+_, _*_, _-_, _%_, _≤_, _<_}
-use mathlib.Core.Path.{_≡_, refl, sym, ap, _∙_, subst}
-use mathlib.Core.Logic.{_⊎_, inr, _≢_, ⊎-elim}
-use mathlib.Core.Bool.{false}
+use mathlib.Core.Path.{_≡_, ap, _∙_, subst}
+use mathlib.Core.Logic.{_⊎_, _≢_, ⊎-elim}
 use mathlib.Core.List.{List, []}
 use native.Mathlib.Omega.{arith}
 use lib.ListN.{length}
 use Rattle.model.specs.Lists.{count}
-use Rattle.model.specs.Table.{slots, live}
+use Rattle.model.specs.Table.{slots}
 use Rattle.model.specs.Map.{MapRule, links-live, links-return, pairs-commute, stays-flat}
 use Rattle.model.specs.Remove.{removeTable}
 use Rattle.model.specs.Insert.{insertTable}
@@ -16,7 +15,7 @@ use Rattle.model.specs.Journal.{cursor, changesFrom, recordOf, recordLength}
 use Rattle.model.specs.Calls.{removeCall, insertCall}
 use Rattle.model.specs.Runs.{Op, Call, doCall, keeping, effect}
 use Rattle.model.specs.Meaning.Ends.{lent}
-use Rattle.model.specs.Meaning.Maps.{BreaksFirst, Block, BlockTable}
+use Rattle.model.specs.Meaning.Maps.{BreaksFirst, BlockTable}
 use Rattle.model.specs.Meaning.Numbers.{JournalRule}
 use Rattle.model.specs.Meaning.Sets.{Marked}
 use Rattle.model.specs.Meaning.Walls.{Inserts, layerDart}
@@ -30,7 +29,7 @@ use Rattle.theorems.proofs.History.Record.{length-record}
 use Rattle.theorems.proofs.Calls.Pass.{insert-passed}
 use Rattle.theorems.proofs.Calls.Ends.{op-effect}
 use Rattle.theorems.proofs.Calls.Rules.{not-map-exactly}
-use Rattle.theorems.proofs.Calls.Table.{number-table}
+use Rattle.theorems.proofs.Calls.Table.{_beside_, nothing, none-given}
 
 module _ {n : ℕ} {t w : List ℕ} (I : Inserts n t w) where
   abbrev u : List ℕ
@@ -56,9 +55,10 @@ module _ {n : ℕ} {t w : List ℕ} (I : Inserts n t w) where
     remove-number =
         let block = block-exactly (mapTable B) .0 (of-block n u B) in
         let lives = clash (insert-dart I h on .lives) in
-        number-table n (lent u m j) removal 0 .1
-        (inr (not-dim, inr (not-long, inr (λ g. g long, inr (λ g. g rule, inr (keeps links-live, inr (keeps links-return,
-        inr (keeps pairs-commute, inr (keeps stays-flat, inr (lives, inr (λ g. g block, inr (not-short, refl))))))))))))
+        none-given n (lent u m j) removal
+        (not-dim beside not-long beside (λ g. g long) beside (λ g. g rule)
+        beside keeps links-live beside keeps links-return beside keeps pairs-commute beside keeps stays-flat
+        beside lives beside (λ g. g block) beside not-short beside nothing)
       where
         not-dim : (n ≢ 2) × (n ≢ 3) → ⊥
         not-dim g = ⊎-elim (g .0) (g .1) (dim-cases n (B .dim))

@@ -1,4 +1,4 @@
--- `number-table`: each call gives the number of the first of its rows of 01's table that is given, or 0.
+-- `number-table`: each call gives the number of the first of its rows of 01's table that is given, or 0. `none-given`: 0 where none is.
 use Prim.Native.Nat.{ℕ, _<_}
 use mathlib.Core.Path.{_≡_, refl, sym, ap, _∙_, subst}
 use mathlib.Core.Logic.{inl, inr, _≢_, _↔_}
@@ -34,6 +34,16 @@ first-once (r ∷ rs) y z (inl a) (inl b) = a .1 ∙ sym (b .1)
 first-once (r ∷ rs) y z (inl a) (inr b) = absurd (b .0 (a .0))
 first-once (r ∷ rs) y z (inr a) (inl b) = absurd (a .0 (b .0))
 first-once (r ∷ rs) y z (inr a) (inr b) = first-once rs y z (a .1) (b .1)
+
+-- none of the rows is given
+infixr 5 _beside_
+pub data NoneGiven : List NumberRow → Type 1 where
+  nothing : NoneGiven []
+  _beside_ : {r : NumberRow} {rs : List NumberRow} → (r .given → ⊥) → NoneGiven rs → NoneGiven (r ∷ rs)
+
+first-none : (rs : List NumberRow) → NoneGiven rs → First rs 0
+first-none [] nothing = refl
+first-none (r ∷ rs) (a beside b) = inr (a, first-none rs b)
 
 -- each check fails exactly if its row is given; some where those before them pass
 infixr 5 _next_ _next-passed_
@@ -214,3 +224,6 @@ module _ (n : ℕ) (o : Outcome) where
       let w = rw (rows-numbers c) at (call-numbers n o c) in
       let first = rw (← number-in-order c) at (first-number [] (numberRows n t m j c) (checks n o c) refl (meets c) w) in
       (λ h. subst (First (numberRows n t m j c)) h first, λ g. first-once (numberRows n t m j c) _ z first g)
+
+  pub none-given : (c : Call) → NoneGiven (numberRows n (o .table) (o .marks) (o .journal) c) → doCall n o c .number ≡ 0
+  none-given c none = number-table c 0 .1 (first-none _ none)
