@@ -37,7 +37,8 @@ use Rattle.theorems.proofs.Cells.Add.{add-new}
 use Rattle.theorems.proofs.Layers.Sheet.{sheet-own}
 use Rattle.theorems.proofs.Layers.Marks.{marks-own}
 use Rattle.theorems.proofs.Layers.Remove.{remove-removes}
-use Rattle.theorems.proofs.Layers.Splitting.{splits-splitting, new-in, split-dart-link}
+use Rattle.theorems.proofs.Layers.NewDarts.{new-in}
+use Rattle.theorems.proofs.Layers.Splitting.{splits-splitting, spread, split-dart-link}
 use Rattle.theorems.proofs.Insert.Inserted.{insert-differs}
 use Rattle.theorems.proofs.Calls.Pass.{add-passed, unsew-passed, sew-passed, layer-passed, split-passed, insert-passed}
 use Rattle.theorems.proofs.Calls.Pass.{unsew-side, sides-sewable}
@@ -120,7 +121,7 @@ op-changes n t m j (Op.split d) a =
     let given = splits-splitting (record { dart = passed; uncrossed = split .uncrossed; room = split .room }) in
     let i = ones-in s d (sheet-own passed) in
     differs t _ 0 d (λ q. clash (rule-at (mapTable B) d l .goes 0 (omega arith))
-    (ap (live t) (q ∙ split-dart-link given d i) ∙ given .vacant .dead _ (new-in given 0 d (positive n (B .dim)) i)))
+    (ap (live t) (q ∙ split-dart-link given d i) ∙ given .vacant .dead _ (new-in (spread given) 0 d (positive n (B .dim)) i)))
 op-changes n t m j (Op.insert w) a = insert-differs (insert-passed n t j w a)
 
 -- ---- an accepted operation leaves a map
