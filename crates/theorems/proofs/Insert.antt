@@ -4,3 +4,6 @@ pub mod Fails
 pub mod Laid
 pub mod Role
 pub mod Table
+pub mod Sides
+pub mod Spot
+pub mod Cells
