@@ -7,3 +7,5 @@ pub mod Table
 pub mod Sides
 pub mod Spot
 pub mod Cells
+pub mod Sheet
+pub mod Back
