@@ -9,3 +9,4 @@ pub mod Spot
 pub mod Cells
 pub mod Sheet
 pub mod Back
+pub mod Inserted
