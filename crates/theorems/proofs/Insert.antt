@@ -4,3 +4,9 @@ pub mod Fails
 pub mod Laid
 pub mod Role
 pub mod Table
+pub mod Sides
+pub mod Spot
+pub mod Cells
+pub mod Sheet
+pub mod Back
+pub mod Inserted

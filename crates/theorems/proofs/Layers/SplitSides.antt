@@ -34,7 +34,7 @@ use Rattle.theorems.proofs.Cells.Rows.{rowWalk, small, walk-keeps, walk
 use Rattle.theorems.proofs.Cells.Chart.{block-straight, place-chart, place-zero, place-one}
 use Rattle.theorems.proofs.Layers.NewDarts.{new-in, new-one, not-new}
 use Rattle.theorems.proofs.Layers.Splitting.{spread, split-kept}
-use Rattle.theorems.proofs.Layers.Role.{roleTo, roleWord, roleDart, opposed, keepsSheet, sheet-walk, role-link}
+use Rattle.theorems.proofs.Layers.Role.{roleTo, roleWord, roleDart, last-role, opposed, keepsSheet, sheet-walk, role-link}
 use Rattle.theorems.proofs.Layers.SplitMap.{Live, old, new, live-split}
 use Rattle.theorems.proofs.Layers.Half.{half-size, in-half}
 
@@ -259,8 +259,7 @@ module _ {n : ℕ} {t gs fs : List ℕ} (C : Splitting n t gs fs) where
     even-side = side-within n after (role n h) Even (0, rows n dim .first, ap (role n) (place-zero B h lives)) even-step
 
     last-new : (x : ℕ) → role n x ≡ newDart n gs fs (n - 1) x
-    unfolding roleDart
-    last-new x = two-cases n dim (λ n. roleDart n gs fs n x ≡ newDart n gs fs (n - 1) x) refl refl
+    last-new = last-role n dim gs fs
 
     last-straight : Straight n after (role n h)
     unfolding walk
