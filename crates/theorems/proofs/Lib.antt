@@ -5,5 +5,6 @@ pub mod Sewing
 pub mod Cells
 pub mod Operations
 pub mod Layers
+pub mod Insert
 pub mod Calls
 pub mod History

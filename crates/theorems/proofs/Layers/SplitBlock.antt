@@ -25,7 +25,8 @@ use Rattle.theorems.proofs.Maps.Dim.{two-cases, size-some}
 use Rattle.theorems.proofs.Cells.Rows.{walk-rows, rows-in, path-small}
 use Rattle.theorems.proofs.Cells.Chart.{Charted, block-by, chart-kept}
 use Rattle.theorems.proofs.Cells.Chart.{place-chart, place-zero, place-live, place-back, place-one}
-use Rattle.theorems.proofs.Layers.Splitting.{new-in, new-one, not-new, split-dart-link, split-kept}
+use Rattle.theorems.proofs.Layers.NewDarts.{new-in, new-one, not-new}
+use Rattle.theorems.proofs.Layers.Splitting.{spread, split-dart-link, split-kept}
 use Rattle.theorems.proofs.Layers.Role.{roleTo, roleWord, roleDart, sheet-rule, role-link}
 use Rattle.theorems.proofs.Layers.SplitMap.{Live, old, new, live-role, split-table, split-live, live-split}
 use Rattle.theorems.proofs.Layers.SplitSides.{split-straight}
@@ -120,7 +121,7 @@ module _ {n : ℕ} {t gs fs : List ℕ} (C : Splitting n t gs fs) where
     unfolding spotDart roleDart
     old-not-new p r q v w e =
         let low = valid-role n r q w in
-        not-new C (seen p) (seen-lives p (valid-place n p v)) (in-cast e (new-in C r (seen q) (low .0) (in-sheet q (low .1))))
+        not-new (spread C) (seen p) (seen-lives p (valid-place n p v)) (in-cast e (new-in (spread C) r (seen q) (low .0) (in-sheet q (low .1))))
 
     spot-one : (e f : Spot) → valid n e ≡ true → valid n f ≡ true → at e ≡ at f → e ≡ f
     unfolding spotDart roleDart
@@ -130,7 +131,7 @@ module _ {n : ℕ} {t gs fs : List ℕ} (C : Splitting n t gs fs) where
     spot-one (spot (suc r) p) (spot (suc s) q) v w e =
         let a = valid-role n r p v in
         let b = valid-role n s q w in
-        let one = new-one C r s (seen p) (seen q) (a .0) (b .0) (in-sheet p (a .1)) (in-sheet q (b .1)) e in
+        let one = new-one (spread C) r s (seen p) (seen q) (a .0) (b .0) (in-sheet p (a .1)) (in-sheet q (b .1)) e in
         ap₂ spot (ap suc (one .0)) (seen-one p q (half-size n dim p (a .1)) (half-size n dim q (b .1)) (one .1))
 
     pub half-chart : Chart n after (halfDart n t gs fs g)
@@ -165,7 +166,7 @@ module _ {n : ℕ} {t gs fs : List ℕ} (C : Splitting n t gs fs) where
     old-seen (spot zero p) v l = (p, valid-place n p v, refl)
     old-seen (spot (suc r) p) v l =
         let low = valid-role n r p v in
-        absurd (not-new C _ l (new-in C r (seen p) (low .0) (in-sheet p (low .1))))
+        absurd (not-new (spread C) _ l (new-in (spread C) r (seen p) (low .0) (in-sheet p (low .1))))
 
     pub half-old : (x : ℕ) → InHalf n t gs fs g x → live t x ≡ true → (p : ℕ) × (p < cellSize n) × (x ≡ place n t g p)
     unfolding halfDart

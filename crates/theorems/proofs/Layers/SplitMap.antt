@@ -26,7 +26,8 @@ use Rattle.theorems.proofs.Cells.Places.{same, same-eq}
 use Rattle.theorems.proofs.Cells.Chart.{Ruled, ruled-table, live-of, of-live, live-same, word-keeps}
 use Rattle.theorems.proofs.Operations.Frame.{split-frame}
 use Rattle.theorems.proofs.Layers.Walk.{walk-append}
-use Rattle.theorems.proofs.Layers.Splitting.{slot-new, new-in, split-slots, split-whole, split-kept}
+use Rattle.theorems.proofs.Layers.NewDarts.{slot-new, new-in}
+use Rattle.theorems.proofs.Layers.Splitting.{spread, split-slots, split-whole, split-kept}
 use Rattle.theorems.proofs.Layers.Role.{roleTo, roleWord, roleDart, opposed, keepsSheet, sheet-walk, role-link, role-plane}
 
 -- ---- words that lead back
@@ -269,12 +270,12 @@ module _ {n : ℕ} {t gs fs : List ℕ} (C : Splitting n t gs fs) where
 
       inside : (x : ℕ) → Live x → x < slots after
       inside x (old l) = rw (split-slots C) (live-below (mapTable (C .table)) x l)
-      inside x (new w) = rw (split-slots C, w .is) (C .vacant .inside _ (new-in C (w .role) (w .of) (w .low) (w .member)))
+      inside x (new w) = rw (split-slots C, w .is) (C .vacant .inside _ (new-in (spread C) (w .role) (w .of) (w .low) (w .member)))
 
       other : (x : ℕ) → x < slots after → Live x ⊎ (live after x ≡ false)
       other x h =
           let low : x < slots t = rw (split-slots C) at h in
-          ⊎-elim (λ i. inl (new (slot-new C x i)))
+          ⊎-elim (λ i. inl (new (slot-new (spread C) x i)))
           (λ k. test (live t x) (λ l. inl (old l))
           (λ l.
           let off : In x gs → ⊥ = λ i. clash (C .sheet .lives x i) l in

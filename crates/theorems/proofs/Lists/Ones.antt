@@ -1,16 +1,17 @@
 -- Lists of distinct slots: the index of an entry, the places of the ones, the unused slots.
--- Main theorems: `index-getD` and `getD-index`; `ones-of` and `ones-in`; `vacant-frees`.
+-- Main theorems: `index-getD` and `getD-index`; `ones-of` and `ones-in`; `vacant-frees`; `marked-pass` and `marked-fail` (a test of each
+-- marked number).
 use Prim.Native.Nat.{ℕ, zero, suc, _+_, _≤_, _<_}
 use mathlib.Core.Path.{_≡_, refl, sym, ap, _∙_}
-use mathlib.Core.Logic.{_⊎_, inl, inr, _≢_, ⊎-elim}
-use mathlib.Core.Bool.{true, false}
+use mathlib.Core.Logic.{_⊎_, inl, inr, _≢_, _↔_, ⊎-elim}
+use mathlib.Core.Bool.{Bool, true, false}
 use mathlib.Core.List.{List, [], _∷_, List·Memᴰ as In, List·Memᴰ·not-nil as not-nil, List·Memᴰ·cases-cons as in-cons}
 use mathlib.Core.List.{List·Memᴰ·head as here, List·Memᴰ·tail as there, Memᴰ·cast as in-cast}
 use native.Mathlib.Nat.{add-zero}
 use native.Mathlib.Omega.{arith}
 use lib.ListN.{length, getD, take}
 use borrow.Author.Tests.{lt-ltb, le-ltb, eq-eqb, ne-eqb}
-use Rattle.model.specs.Lists.{tabulate, onesFrom, indexOf}
+use Rattle.model.specs.Lists.{tabulate, ones, onesFrom, indexOf, allOf}
 use Rattle.model.specs.Table.{slots, live, unusedSlots}
 use Rattle.model.specs.Meaning.Lists.{member, Distinct, none, more}
 use Rattle.model.specs.Meaning.Slots.{Vacant}
@@ -163,3 +164,43 @@ vacant-frees t k = record {
     off x h =
         let v = getD-tab mark (slots t) x 0 (below x h) in
         test (live t x) (λ e. let z : mark x ≡ 0 = rw (e, mark) in absurd (omega arith)) (λ e. e)
+
+-- ---- a test of each number of a list
+
+module _ (p : ℕ → Bool) where
+  each-step : (y : ℕ) (l : List ℕ) → p y ≡ true → allOf p (y ∷ l) ≡ allOf p l
+  unfolding allOf
+  each-step y l e = rw (e, allOf)
+
+  each-stop : (y : ℕ) (l : List ℕ) → p y ≡ false → allOf p (y ∷ l) ≡ false
+  unfolding allOf
+  each-stop y l e = rw (e, allOf)
+
+  pub each-at : (l : List ℕ) → allOf p l ≡ true → (x : ℕ) → In x l → p x ≡ true
+  each-at [] h x i = absurd (not-nil i)
+  each-at (y ∷ l) h x i =
+      let rec = each-at l in
+      let first : p y ≡ true = test (p y) (λ e. e) (λ e. absurd (clash h (each-stop y l e))) in
+      ⊎-elim (λ q. ap p q ∙ first) (rec (sym (each-step y l first) ∙ h) x) (in-cons i)
+
+  pub each-of : (l : List ℕ) → ((x : ℕ) → In x l → p x ≡ true) → allOf p l ≡ true
+  unfolding allOf
+  each-of [] h = refl
+  each-of (y ∷ l) h = each-step y l (h y (here refl)) ∙ each-of l (λ x i. h x (there i))
+
+  -- where not all pass, one does not
+  each-not : (l : List ℕ) → allOf p l ≡ false → (x : ℕ) × In x l × (p x ≡ false)
+  unfolding allOf
+  each-not [] h = absurd (clash refl h)
+  each-not (y ∷ l) h =
+      let rec = each-not l in
+      test (p y) (λ e. let (x, i, f) = rec (sym (each-step y l e) ∙ h) in (x, there i, f)) (λ e. (y, here refl, e))
+
+  pub marked-pass : (m : List ℕ) → (allOf p (ones m) ≡ true) ↔ ((x : ℕ) → Marked m x → p x ≡ true)
+  marked-pass m = (λ h x k. each-at (ones m) h x (ones-in m x k), λ h. each-of (ones m) (λ x i. h x (ones-of m x i)))
+
+  pub marked-fail : (m : List ℕ) → (allOf p (ones m) ≡ false) ↔ ((x : ℕ) × Marked m x × (p x ≡ false))
+  marked-fail m = (
+    λ h. let (x, i, e) = each-not (ones m) h in (x, ones-of m x i, e),
+    λ (x, k, e). test (allOf p (ones m)) (λ h. absurd (clash (marked-pass m .0 h x k) e)) (λ h. h),
+  )
