@@ -16,7 +16,7 @@ use Rattle.theorems.proofs.Lists.Ones.{index-in, getD-index}
 use Rattle.theorems.proofs.Maps.Rules.{dead-link}
 use Rattle.theorems.proofs.Maps.Tables.{mapTable, live-below, rule-at}
 use Rattle.theorems.proofs.Maps.Dim.{two-cases}
-use Rattle.theorems.proofs.Layers.Splitting.{slot-low}
+use Rattle.theorems.proofs.Layers.NewDarts.{slot-low}
 use Rattle.drafts.specs.Passes.{OneLink, FourLinks}
 use Rattle.new_darts.specs.News.{Made, Makes, changedLink, News, NewLinks}
 use Rattle.new_darts.specs.Roles.{Role}

@@ -213,9 +213,9 @@ module _ {n : ℕ} {t u fs : List ℕ} (T : MapTable n t) (U : MapTable n u) (lo
 -- slots that are unused, and others that are live, are no more than all slots
 pub vacant-room : {n : ℕ} {t fs l : List ℕ} → MapTable n t → Vacant t fs → Distinct l → ((x : ℕ) → In x l → live t x ≡ true)
     → length fs + length l ≤ slots t
-vacant-room {t = t} {fs} {l} T V once alive =
+vacant-room {t = t} {fs} {l} T empty once alive =
     let all = distinct-below (slots t) (fs ++ l)
-    (distinct-append fs l (V .once) once (λ x i j. clash (alive x j) (V .dead x i)))
-    (λ x i. ⊎-elim (V .inside x) (λ j. live-below T x (alive x j)) (in-append fs i)) in
+    (distinct-append fs l (empty .once) once (λ x i j. clash (alive x j) (empty .dead x i)))
+    (λ x i. ⊎-elim (empty .inside x) (λ j. live-below T x (alive x j)) (in-append fs i)) in
     let parts = length-append fs l in
     omega arith
