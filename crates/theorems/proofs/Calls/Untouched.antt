@@ -3,7 +3,7 @@
 -- 5 and 24 to 26: `place-of-others`, `count-of-others`.
 -- `reading-untouched`: check, orbit and sheet leave table and journal also where they are accepted.
 -- `sheet-marks`, `remove-marks`, `split-marks`: accepted, or refused by 13, 14 or 15, they leave the marks of the sheet.
--- `insert-marks`: insert leaves the wall's marks.
+-- `insert-marks-stay`: insert leaves the wall's marks.
 use Prim.Native.Nat.{ℕ, _-_}
 use mathlib.Core.Path.{_≡_, refl, ap, _∙_}
 use mathlib.Core.Logic.{⊎-elim, _≢_}
@@ -96,9 +96,9 @@ commit-marks t u m j tag p size =
     test (leb (length (recordOf tag (changesFrom 0 t u))) (length j - cursor j)) (λ e. rw (e, commit)) (λ e. rw (e, commit))
 
 -- "marks stay" (02, R-5), accepted or refused
-pub insert-marks : (n : ℕ) (t m j : List ℕ) (tag : ℕ) → insertCall n t m j tag .marks ≡ m
+pub insert-marks-stay : (n : ℕ) (t m j : List ℕ) (tag : ℕ) → insertCall n t m j tag .marks ≡ m
 unfolding insertCall refused
-insert-marks n t m j tag = go (inOrder (insertChecks n t m j)) refl
+insert-marks-stay n t m j tag = go (inOrder (insertChecks n t m j)) refl
   where
     go : (c : Check) → inOrder (insertChecks n t m j) ≡ c → insertCall n t m j tag .marks ≡ m
     go pass e = rw (e, insertCall) (commit-marks t _ m j tag _ _)
