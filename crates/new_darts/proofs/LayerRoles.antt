@@ -37,7 +37,7 @@ module _ {n : ℕ} {t m fresh places nexts : List ℕ} {role h : ℕ} (R : Layer
   pub next-asked : h < length nexts
   next-asked =
       let inside = inside h (R .dart) in
-      let wide = R .nexts .wide in
+      let wide = R .next .wide in
       omega arith
 
   -- ---- darts of the wall
@@ -52,7 +52,7 @@ module _ {n : ℕ} {t m fresh places nexts : List ℕ} {role h : ℕ} (R : Layer
   after = next-on (drawn-of (R .inserts)) h (R .dart)
 
   pub next-is : getD nexts h 0 ≡ next n t m h
-  next-is = R .nexts .next h (R .dart)
+  next-is = R .next .next h (R .dart)
 
   -- y is such a dart z
   module _ {y z : ℕ} (at : y ≡ z) (on : Marked m z) where

@@ -22,7 +22,7 @@ pub record SomeSplitRole (n : ℕ) (t fresh places : List ℕ) (r g : ℕ) : Typ
 -- of insert along the wall m, for a dart h of it
 pub record LayerRole (n : ℕ) (t m fresh places nexts : List ℕ) (r h : ℕ) : Type 0 where
   pub inserts : Inserts n t m
-  pub nexts : Nexts n t m nexts
+  pub next : Nexts n t m nexts
   pub news : News n t (wallDarts n t m) (layerSlots n t m) fresh places
   pub low : r < n
   pub dart : Marked m h

@@ -46,8 +46,12 @@ returns c =
 
 list-unused-requires : tie.Need-list-unused-requires
 list-unused-requires c κs =
-    let is = c .before .before .slots .ensures in
-    search needs
+    let e = c .before in
+    let is = e .before .slots .ensures in
+    let p = e .before .before .before .before .pre in
+    let low = e .if1 .left in
+    let room = p .3 (omega arith) in
+    ((p .0, p .1), omega arith)
 
 same-length : tie.Need-same-length
 same-length c = search needs

@@ -1,4 +1,4 @@
--- `new_darts::write_split` meets its contract. The loop's invariant: the new darts before that of the i-th dart with the role are behind
+-- `new_darts::write` meets its contract. The loop's invariant: the new darts before that of the i-th dart with the role are behind
 -- the pass, and p darts of S.
 use Prim.Native.Nat.{ℕ, _+_, _*_, _-_, _≤_, _<_}
 use mathlib.Core.Path.{_≡_, refl, ap}
@@ -10,8 +10,8 @@ use Rattle.drafts.proofs.Passes.{pass-word}
 use Rattle.new_darts.specs.Drafting.{Writing, Drafting, DartsMet, NewMet}
 use Rattle.new_darts.proofs.Lists.{dart-inside, new-next-dart}
 use Rattle.new_darts.proofs.Passing.{draft-none, draft-length, draft-same, draft-all}
-use Rattle.new_darts.proofs.write_split.Statement.{statement}
-use Rattle.new_darts.proofs.write_split.Tie as tie
+use Rattle.new_darts.proofs.write.Statement.{statement}
+use Rattle.new_darts.proofs.write.Tie as tie
 
 abbrev Inv-loop : tie.InvT-loop
 Inv-loop n table journal₀ darts fresh places size w₀ p₀ i₀ role₀ journal w p i role =
@@ -197,8 +197,8 @@ returns c = λ d W.
     (if-lt (m .write-darts .result) (a .size)
     (λ low. let next = M .next low in let inside = dart-inside (W .listed) _ low in absurd (omega arith)) (λ h. h)) (all e)
 
-pub write-split-spec : {M : Type 1} → statement M
-write-split-spec =
+pub write-spec : {M : Type 1} → statement M
+write-spec =
     tie.close
     (tie.spec
     Inv-loop

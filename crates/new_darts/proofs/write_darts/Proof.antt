@@ -11,7 +11,7 @@ use Rattle.theorems.proofs.Layers.Role.{keepsSheet}
 use Rattle.drafts.specs.Passes.{OneLink}
 use Rattle.drafts.proofs.Passes.{pass-word, pass-length}
 use Rattle.new_darts.specs.Drafting.{Drafting}
-use Rattle.new_darts.proofs.Roles.{link-asked, dart-asked, dart-found}
+use Rattle.new_darts.proofs.News.{new-asked, new-found}
 use Rattle.new_darts.proofs.Lists.{dart-inside, role-at, dart-link}
 use Rattle.new_darts.proofs.Passing.{draft-length, draft-dart, draft-dart-more, darts-met}
 use Rattle.new_darts.proofs.write_darts.Statement.{statement}
