@@ -31,12 +31,12 @@ use Rattle.theorems.proofs.Cells.Rows.{small, walk-keeps}
 use Rattle.theorems.proofs.Cells.Cell.{cell-own, cell-goes}
 use Rattle.theorems.proofs.Layers.Marks.{marks-cells}
 use Rattle.theorems.proofs.Layers.NewDarts.{new-in, slot-new}
-use Rattle.theorems.proofs.Layers.Role.{roleDart, last-role}
+use Rattle.theorems.proofs.Layers.Role.{roleDart, last-role, live-role}
 use Rattle.theorems.proofs.Insert.Laid.{Laying, spread}
 use Rattle.theorems.proofs.Insert.Role.{spell, letter-next, letter-link, keepsWall, spell-keeps}
 use Rattle.theorems.proofs.Insert.Role.{roleTo, roleWord, role-link}
 use Rattle.theorems.proofs.Insert.Table.{roleEnd, rolePath, leads, allLead, computed, lead-low, role-walk}
-use Rattle.theorems.proofs.Insert.Table.{live-role, laid-table, laid-live}
+use Rattle.theorems.proofs.Insert.Table.{laid-table, laid-live}
 use Rattle.theorems.proofs.Insert.Cells.{laid-block}
 
 -- ---- the moves of the last role, computed
@@ -143,7 +143,7 @@ module _ {n : ℕ} {t hs fs : List ℕ} {nx : ℕ → ℕ} (C : Laying n t hs fs
         ∙ letter-link t nx n h (omega arith)
 
   crossing-lives : (h : ℕ) → In h hs → live after (crossing h) ≡ true
-  crossing-lives h i = laid-live C _ (live-role C n h (le-refl n) i)
+  crossing-lives h i = laid-live C _ (live-role (C .wall .lives) n h (le-refl n) i)
 
   -- x is the crossing edge's dart of a dart of the wall
   abbrev pub Crosses : ℕ → Type 0
