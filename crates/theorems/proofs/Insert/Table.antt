@@ -1,4 +1,4 @@
--- Insert keeps a map: the words of a map's rules lead from role to role (`role-walk`), and back to where they began; computed
+-- insert keeps a map (`laid-table`): the words of a map's rules lead from role to role (`role-walk`), and back to where they began; computed
 -- over the roles. The live slots after are the live ones before and the new darts (`Live`, `laid-ruled`).
 use Prim.Native.Nat.{ℕ, suc, _+_, _≤_, _<_}
 use mathlib.Core.Path.{_≡_, refl, sym, ap, ap₂, _∙_}
