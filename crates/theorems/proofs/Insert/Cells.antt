@@ -29,11 +29,11 @@ use Rattle.theorems.proofs.Cells.Rows.{walk-keeps, rows-in}
 use Rattle.theorems.proofs.Cells.Chart.{Charted, block-by, block-straight, chart-kept}
 use Rattle.theorems.proofs.Cells.Chart.{place-chart, place-zero, place-live, place-one}
 use Rattle.theorems.proofs.Layers.Near.{inFace, face-low, face-word}
-use Rattle.theorems.proofs.Layers.NewDarts.{new-one}
-use Rattle.theorems.proofs.Layers.Role.{roleDart}
+use Rattle.theorems.proofs.Layers.NewDarts.{Live, old, new, new-one}
+use Rattle.theorems.proofs.Layers.Role.{roleDart, live-role}
 use Rattle.theorems.proofs.Insert.Laid.{Laying, spread, laid-kept}
 use Rattle.theorems.proofs.Insert.Role.{letter, spell, letter-link, roleTo, roleWord, role-link}
-use Rattle.theorems.proofs.Insert.Table.{Live, old, new, live-role, laid-table, laid-live, live-laid}
+use Rattle.theorems.proofs.Insert.Table.{laid-table, laid-live, live-laid}
 use Rattle.theorems.proofs.Insert.Spot.{Spot, spot, spotLink, spotAt, movePlace, moveSide, level, valid}
 use Rattle.theorems.proofs.Insert.Spot.{spot-same, spot-valid, spot-link, spot-apart, word-level, role-held}
 use Rattle.theorems.proofs.Insert.Sides.{laid-straight}
@@ -184,7 +184,7 @@ module _ {n : ℕ} {t hs fs : List ℕ} {nx : ℕ → ℕ} (C : Laying n t hs fs
     unfolding spotDart
     spot-lives (spot r p s) v =
         let (_, low, f) = valid-parts n r p s v in
-        laid-live C _ (live-role C r (face p s) low (face-in p s f))
+        laid-live C _ (live-role (C .wall .lives) r (face p s) low (face-in p s f))
 
     spot-one : (e f : Spot) → valid n e ≡ true → valid n f ≡ true → at e ≡ at f → e ≡ f
     unfolding spotDart roleDart
@@ -244,6 +244,6 @@ module _ {n : ℕ} {t hs fs : List ℕ} {nx : ℕ → ℕ} (C : Laying n t hs fs
   pub laid-block : Clear n t hs nx → BlockTable n (laid n t hs fs nx)
   laid-block clear = block-by (laid-table C) (λ x l. charted x (live-laid C x l)) (laid-straight C clear)
     where
-      charted : (x : ℕ) → Live C x → Charted n after x
+      charted : (x : ℕ) → Live n t hs fs x → Charted n after x
       charted x (old l) = old-charted x l
       charted x (new w) = new-charted x w

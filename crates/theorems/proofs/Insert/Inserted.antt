@@ -4,9 +4,9 @@
 -- the sheet through the new crossing edges, `insert-back` that remove there gives back the old table.
 use Prim.Native.Nat.{ℕ, _+_, _*_, _-_, _≤_, _<_}
 use mathlib.Core.Path.{_≡_, sym, ap, _∙_, subst}
-use mathlib.Core.Logic.{_⊎_, inl, inr, _≢_, _↔_, Iff·trans, ⊎-elim}
+use mathlib.Core.Logic.{_≢_, _↔_, Iff·trans, ⊎-elim}
 use mathlib.Core.Bool.{true}
-use mathlib.Core.List.{List, List·Memᴰ as In, Memᴰ·cast as in-cast}
+use mathlib.Core.List.{List, List·Memᴰ as In}
 use native.Mathlib.Omega.{arith}
 use lib.ListN.{length, getD}
 use lib.Seq.{getD-take}
@@ -38,12 +38,12 @@ use Rattle.theorems.proofs.Operations.Frame.{insert-frame, cell-kept}
 use Rattle.theorems.proofs.Operations.Slots.{ones-rising, Filled, lowest-slots, lowest-first}
 use Rattle.theorems.proofs.Operations.Slots.{filled-count, filled-changes}
 use Rattle.theorems.proofs.Layers.Marks.{marks-cells}
-use Rattle.theorems.proofs.Layers.NewDarts.{new-slot, new-in, new-one, slot-new}
+use Rattle.theorems.proofs.Layers.NewDarts.{old, new, new-slot, new-in, new-one, slot-new, live-which}
 use Rattle.theorems.proofs.Layers.Role.{roleDart}
 use Rattle.theorems.proofs.Insert.Wall.{wall-some, wall-bits, drawn-of, clear-of, joined-of}
 use Rattle.theorems.proofs.Insert.Laid.{Laying, laying-of, spread, laid-slots, laid-length, laid-whole, laid-wall, laid-kept}
 use Rattle.theorems.proofs.Insert.Role.{letter, spell, roleTo, roleWord, role-link}
-use Rattle.theorems.proofs.Insert.Table.{Live, old, new, laid-table, laid-live, live-laid}
+use Rattle.theorems.proofs.Insert.Table.{laid-table, laid-live, live-laid}
 use Rattle.theorems.proofs.Insert.Cells.{laid-block}
 use Rattle.theorems.proofs.Insert.Sheet.{crossing-new, crossing-dart, crossing-sheet, crossing-cells}
 use Rattle.theorems.proofs.Insert.Back.{remove-back}
@@ -179,12 +179,8 @@ module _ {n : ℕ} {t m : List ℕ} (I : Inserts n t m) where
     same = laid-slots given;
     kept = λ x l. laid-live given x (old l);
     made = λ x i. laid-live given x (new (slot-new (spread given) x i));
-    only = λ x l. which (live-laid given x l);
+    only = λ x l. live-which (spread given) x (live-laid given x l);
   }
-    where
-      which : {x : ℕ} → Live given x → (live t x ≡ true) ⊎ In x (layerSlots n t m)
-      which (old l) = inl l
-      which (new w) = inr (in-cast (w .is) (new-in (spread given) (w .role) (w .of) (w .low) (w .member)))
 
   -- "count: darts added"
   pub insert-lives : liveCount (insertTable n t m) ≡ liveCount t + n * count 1 m

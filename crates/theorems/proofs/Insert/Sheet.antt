@@ -31,12 +31,12 @@ use Rattle.theorems.proofs.Cells.Rows.{small, walk-keeps}
 use Rattle.theorems.proofs.Cells.Cell.{cell-own, cell-goes}
 use Rattle.theorems.proofs.Layers.Marks.{marks-cells}
 use Rattle.theorems.proofs.Layers.NewDarts.{new-in, slot-new}
-use Rattle.theorems.proofs.Layers.Role.{roleDart, last-role}
+use Rattle.theorems.proofs.Layers.Role.{opposed, roleDart, last-role, live-role}
 use Rattle.theorems.proofs.Insert.Laid.{Laying, spread}
 use Rattle.theorems.proofs.Insert.Role.{spell, letter-next, letter-link, keepsWall, spell-keeps}
 use Rattle.theorems.proofs.Insert.Role.{roleTo, roleWord, role-link}
 use Rattle.theorems.proofs.Insert.Table.{roleEnd, rolePath, leads, allLead, computed, lead-low, role-walk}
-use Rattle.theorems.proofs.Insert.Table.{live-role, laid-table, laid-live}
+use Rattle.theorems.proofs.Insert.Table.{laid-table, laid-live}
 use Rattle.theorems.proofs.Insert.Cells.{laid-block}
 
 -- ---- the moves of the last role, computed
@@ -46,12 +46,15 @@ unfoldable pub moves : ℕ → ℕ → List ℕ → ℕ → List ℕ → Bool
 moves n r v q w = allLead n v r && (eqb (roleEnd n v r) q && same (rolePath n v r) w)
 
 -- the steps of a sheet from the last role: link 0 over link n, 1.0.1 over link 0, link n over next, for n = 3 link 2 over link 1
-cross-moves : (n : ℕ) → Dim n
-    → (moves n n (0 ∷ []) n (n ∷ []) ≡ true) × (moves n n (1 ∷ 0 ∷ 1 ∷ []) n (0 ∷ []) ≡ true) × (moves n n (n ∷ []) n (4 ∷ []) ≡ true)
+record Moves (n : ℕ) : Type 0 where
+  by-edge : moves n n (0 ∷ []) n (n ∷ []) ≡ true
+  by-opposite : moves n n opposed n (0 ∷ []) ≡ true
+  by-last : moves n n (n ∷ []) n (4 ∷ []) ≡ true
+
+cross-moves : (n : ℕ) → Dim n → Moves n
 unfolding computed moves
-cross-moves n dim = two-cases n dim
-    (λ n. (moves n n (0 ∷ []) n (n ∷ []) ≡ true) × (moves n n (1 ∷ 0 ∷ 1 ∷ []) n (0 ∷ []) ≡ true) × (moves n n (n ∷ []) n (4 ∷ []) ≡ true))
-    (refl, refl, refl) (refl, refl, refl)
+cross-moves n dim = two-cases n dim Moves
+    (record { by-edge = refl; by-opposite = refl; by-last = refl }) (record { by-edge = refl; by-opposite = refl; by-last = refl })
 
 cross-beside : moves 3 3 (2 ∷ []) 3 (1 ∷ []) ≡ true
 unfolding computed moves
@@ -118,16 +121,16 @@ module _ {n : ℕ} {t hs fs : List ℕ} {nx : ℕ → ℕ} (C : Laying n t hs fs
     cross-along : link after 0 (crossing h) ≡ crossing (link t n h)
     unfolding walk spell
     cross-along = let top = dim .1 in
-        moved n n (0 ∷ []) (n ∷ []) (cross-moves n dim .0) (le-refl n) h i ∙ ap crossing (letter-link t nx n h (omega arith))
+        moved n n (0 ∷ []) (n ∷ []) (cross-moves n dim .by-edge) (le-refl n) h i ∙ ap crossing (letter-link t nx n h (omega arith))
 
-    cross-across : walk after (1 ∷ 0 ∷ 1 ∷ []) (crossing h) ≡ crossing (link t 0 h)
+    cross-across : walk after opposed (crossing h) ≡ crossing (link t 0 h)
     unfolding spell
     cross-across =
-        moved n n (1 ∷ 0 ∷ 1 ∷ []) (0 ∷ []) (cross-moves n dim .1) (le-refl n) h i ∙ ap crossing (letter-link t nx 0 h (omega arith))
+        moved n n opposed (0 ∷ []) (cross-moves n dim .by-opposite) (le-refl n) h i ∙ ap crossing (letter-link t nx 0 h (omega arith))
 
     cross-next : link after n (crossing h) ≡ crossing (nx h)
     unfolding walk spell
-    cross-next = moved n n (n ∷ []) (4 ∷ []) (cross-moves n dim .2) (le-refl n) h i ∙ ap crossing (letter-next t nx h)
+    cross-next = moved n n (n ∷ []) (4 ∷ []) (cross-moves n dim .by-last) (le-refl n) h i ∙ ap crossing (letter-next t nx h)
 
     cross-face : n ≡ 3 → link after 2 (crossing h) ≡ crossing (link t 1 h)
     unfolding walk spell
@@ -143,7 +146,7 @@ module _ {n : ℕ} {t hs fs : List ℕ} {nx : ℕ → ℕ} (C : Laying n t hs fs
         ∙ letter-link t nx n h (omega arith)
 
   crossing-lives : (h : ℕ) → In h hs → live after (crossing h) ≡ true
-  crossing-lives h i = laid-live C _ (live-role C n h (le-refl n) i)
+  crossing-lives h i = laid-live C _ (live-role (C .wall .lives) n h (le-refl n) i)
 
   -- x is the crossing edge's dart of a dart of the wall
   abbrev pub Crosses : ℕ → Type 0
@@ -164,7 +167,7 @@ module _ {n : ℕ} {t hs fs : List ℕ} {nx : ℕ → ℕ} (C : Laying n t hs fs
       step : (x y : ℕ) → Crosses x → SheetStep n after x y → Crosses y
       step x y (g, k, e) (along q) = (link t n g, C .wall .over g k, q ∙ ap (link after 0) e ∙ cross-along g k)
       step x y (g, k, e) (across q) = let two = dim .0 in
-          (link t 0 g, C .wall .along g 0 (omega arith) k, q ∙ ap (walk after (1 ∷ 0 ∷ 1 ∷ [])) e ∙ cross-across g k)
+          (link t 0 g, C .wall .along g 0 (omega arith) k, q ∙ ap (walk after opposed) e ∙ cross-across g k)
       step x y (g, k, e) (beside s) =
           let (f, l, q) = side-step g (s .by) k (s .allowed .0) (s .allowed .1) in
           (f, l, s .leads ∙ ap (link after (s .by)) e ∙ q)

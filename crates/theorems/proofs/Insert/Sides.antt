@@ -25,11 +25,11 @@ use Rattle.theorems.proofs.Maps.Tables.{mapTable, rule-at}
 use Rattle.theorems.proofs.Sewing.Side.{past, on-side, side-live, side-within, side-shrinks, straight-kept}
 use Rattle.theorems.proofs.Cells.Places.{same, same-eq}
 use Rattle.theorems.proofs.Cells.Chart.{block-straight}
-use Rattle.theorems.proofs.Layers.NewDarts.{new-in, new-one, not-new}
+use Rattle.theorems.proofs.Layers.NewDarts.{Live, old, new, new-in, new-one, not-new}
 use Rattle.theorems.proofs.Layers.Role.{roleDart}
 use Rattle.theorems.proofs.Insert.Laid.{Laying, spread, laid-wall, laid-kept}
 use Rattle.theorems.proofs.Insert.Role.{spell, letter-next, letter-link, roleTo, roleWord, role-link}
-use Rattle.theorems.proofs.Insert.Table.{computed, Live, old, new, live-laid}
+use Rattle.theorems.proofs.Insert.Table.{computed, live-laid}
 
 -- ---- the rows of a side, computed
 
@@ -249,6 +249,6 @@ module _ {n : ℕ} {t hs fs : List ℕ} {nx : ℕ → ℕ} (C : Laying n t hs fs
       by-role zero h b i = p-straight h i
       by-role (suc r) h b i = q-straight h i clear r b
 
-      go : (x : ℕ) → Live C x → Straight n after x
+      go : (x : ℕ) → Live n t hs fs x → Straight n after x
       go x (old l) = old-straight x l
       go x (new w) = subst (Straight n after) (sym (w .is)) (by-role (w .role) (w .of) (w .low) (w .member))

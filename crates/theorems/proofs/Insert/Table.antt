@@ -1,6 +1,6 @@
--- Insert keeps a map: the words of a map's rules lead from role to role (`role-walk`), and back to where they began; computed
+-- insert keeps a map (`laid-table`): the words of a map's rules lead from role to role (`role-walk`), and back to where they began; computed
 -- over the roles. The live slots after are the live ones before and the new darts (`Live`, `laid-ruled`).
-use Prim.Native.Nat.{ℕ, zero, suc, _+_, _≤_, _<_}
+use Prim.Native.Nat.{ℕ, suc, _+_, _≤_, _<_}
 use mathlib.Core.Path.{_≡_, refl, sym, ap, ap₂, _∙_}
 use mathlib.Core.Logic.{_⊎_, inl, inr, ⊎-elim}
 use mathlib.Core.Bool.{Bool, true, false, not, _&&_, _||_}
@@ -15,7 +15,6 @@ use Rattle.model.specs.Table.{slots, link, walk, live}
 use Rattle.model.specs.Insert.{laid}
 use Rattle.model.specs.Everything.{everything}
 use Rattle.model.specs.Meaning.Maps.{BlockTable, MapTable, Dim, Rule}
-use Rattle.model.specs.Meaning.Splits.{IsNew}
 use Rattle.model.specs.Meaning.Walls.{Wall}
 use Rattle.theorems.proofs.Lists.Scan.{test, if-eq, clash, and-l, and-r, below-at, or-cases}
 use Rattle.theorems.proofs.Lists.Ones.{in-or}
@@ -25,8 +24,8 @@ use Rattle.theorems.proofs.Sewing.Side.{past}
 use Rattle.theorems.proofs.Cells.Places.{same, same-eq}
 use Rattle.theorems.proofs.Cells.Chart.{Ruled, ruled-table, live-of, of-live, live-same}
 use Rattle.theorems.proofs.Operations.Frame.{insert-frame}
-use Rattle.theorems.proofs.Layers.NewDarts.{new-in, slot-new}
-use Rattle.theorems.proofs.Layers.Role.{roleDart}
+use Rattle.theorems.proofs.Layers.NewDarts.{Live, old, new, new-in, slot-new}
+use Rattle.theorems.proofs.Layers.Role.{roleDart, live-role}
 use Rattle.theorems.proofs.Insert.Laid.{Laying, spread, laid-slots, laid-whole, laid-kept}
 use Rattle.theorems.proofs.Insert.Role.{letter, spell, letter-next, letter-link, spell-append, keeps, keepsWall}
 use Rattle.theorems.proofs.Insert.Role.{letter-keeps, spell-keeps, roleTo, roleWord, role-link}
@@ -267,21 +266,12 @@ module _ {n : ℕ} {t hs fs : List ℕ} {nx : ℕ → ℕ} (C : Laying n t hs fs
 
   -- ---- the live slots after
 
-  pub data Live (x : ℕ) : Type 0 where
-    old : live t x ≡ true → Live x
-    new : IsNew n hs fs x → Live x
-
-  pub live-role : (r g : ℕ) → r ≤ n → In g hs → Live (role r g)
-  unfolding roleDart
-  live-role zero g b i = old (C .wall .lives g i)
-  live-role (suc r) g b i = new (record { role = r; of = g; low = b; member = i; is = refl })
-
-  role-goes : (r g j : ℕ) → r ≤ n → In g hs → j < 4 → (r ≡ 0 → j ≡ n) → Live (link after j (role r g))
+  role-goes : (r g j : ℕ) → r ≤ n → In g hs → j < 4 → (r ≡ 0 → j ≡ n) → Live n t hs fs (link after j (role r g))
   unfolding returns allLead
   role-goes r g j b i h made =
       let low = lead-low r j (and-l (leads n r j) _ (and-l (allLead n (j ∷ j ∷ []) r) _ (made-twice r j b h made))) in
       let m = spell-keeps dim (C .wall) (roleWord n r j) g (low .2) i in
-      rw (role-link C r g j b i h) (live-role (roleTo n r j) _ (low .1) m)
+      rw (role-link C r g j b i h) (live-role (C .wall .lives) (roleTo n r j) _ (low .1) m)
 
   -- link j of an old dart x: link n of a dart of the wall, or it stays
   Stays : ℕ → ℕ → Type 0
@@ -314,7 +304,7 @@ module _ {n : ℕ} {t hs fs : List ℕ} {nx : ℕ → ℕ} (C : Laying n t hs fs
       at-word : roleWord n (suc r) 3 ≡ [] → spell t nx (roleWord n (suc r) 3) g ≡ g
       at-word e = ap (λ (w : List ℕ). spell t nx w g) e
 
-  pub laid-ruled : Ruled n after Live
+  pub laid-ruled : Ruled n after (Live n t hs fs)
   unfolding roleDart Stays
   laid-ruled = record {
     few = let same = laid-slots C in let few = C .table .few in omega arith;
@@ -332,11 +322,11 @@ module _ {n : ℕ} {t hs fs : List ℕ} {nx : ℕ → ℕ} (C : Laying n t hs fs
       kept : (x j : ℕ) → live t x ≡ true → j < 4 → Stays x j → link after j x ≡ link t j x
       kept = laid-kept C
 
-      inside : (x : ℕ) → Live x → x < slots after
+      inside : (x : ℕ) → Live n t hs fs x → x < slots after
       inside x (old l) = rw (laid-slots C) (live-below (mapTable (C .table)) x l)
       inside x (new w) = rw (laid-slots C, w .is) (C .vacant .inside _ (new-in (spread C) (w .role) (w .of) (w .low) (w .member)))
 
-      other : (x : ℕ) → x < slots after → Live x ⊎ (live after x ≡ false)
+      other : (x : ℕ) → x < slots after → Live n t hs fs x ⊎ (live after x ≡ false)
       other x h =
           let low : x < slots t = rw (laid-slots C) at h in
           ⊎-elim (λ i. inl (new (slot-new (spread C) x i)))
@@ -345,19 +335,19 @@ module _ {n : ℕ} {t hs fs : List ℕ} {nx : ℕ → ℕ} (C : Laying n t hs fs
           let off : In x hs → ⊥ = λ i. clash (C .wall .lives x i) l in
           inr (live-same t after x (λ j b. insert-frame t (C .table .whole) x low n hs fs nx k j b (λ _. off)) ∙ l))) (in-or fs x)
 
-      goes : (x j : ℕ) → j < 4 → Live x → Live (link after j x)
+      goes : (x j : ℕ) → j < 4 → Live n t hs fs x → Live n t hs fs (link after j x)
       goes x j b (old l) = made-or x j (λ e i. role-goes 0 x j (omega arith) i b (λ _. e))
           (λ k. old (rw (kept x j l b k) (before x l .goes j b)))
       goes x j b (new w) = rw (w .is) (role-goes (suc (w .role)) (w .of) j (w .low) (w .member) b (λ z. absurd (omega arith)))
 
-      comes : (x j : ℕ) → j < 4 → Live x → link after j (link after j x) ≡ x
+      comes : (x j : ℕ) → j < 4 → Live n t hs fs x → link after j (link after j x) ≡ x
       comes x j b (old l) = made-or x j (λ e i. role-twice 0 x j (omega arith) i b (λ _. e))
           (λ k.
           let y = link t j x in
           ap (link after j) (kept x j l b k) ∙ kept y j (before x l .goes j b) b (stays-over x j l k) ∙ before x l .comes j b)
       comes x j b (new w) = rw (w .is) (role-twice (suc (w .role)) (w .of) j (w .low) (w .member) b (λ z. absurd (omega arith)))
 
-      cross : (x i j : ℕ) → i + 2 ≤ j → j ≤ n → Live x → link after j (link after i (link after j (link after i x))) ≡ x
+      cross : (x i j : ℕ) → i + 2 ≤ j → j ≤ n → Live n t hs fs x → link after j (link after i (link after j (link after i x))) ≡ x
       cross x i j ij jn (old l) = made-or x j (λ e m. role-cross 0 x i j (omega arith) m ij jn (λ _. e))
           (λ k.
           let top = dim .1 in
@@ -378,15 +368,15 @@ module _ {n : ℕ} {t hs fs : List ℕ} {nx : ℕ → ℕ} (C : Laying n t hs fs
       cross x i j ij jn (new w) =
           rw (w .is) (role-cross (suc (w .role)) (w .of) i j (w .low) (w .member) ij jn (λ z. absurd (omega arith)))
 
-      plane : (x : ℕ) → n ≡ 2 → Live x → link after 3 x ≡ x
+      plane : (x : ℕ) → n ≡ 2 → Live n t hs fs x → link after 3 x ≡ x
       plane x p (old l) = kept x 3 l (omega arith) (λ z. absurd (omega arith)) ∙ before x l .plane p
       plane x p (new w) = rw (w .is) (role-plane (w .role) (w .of) p (w .low) (w .member))
 
   pub laid-table : MapTable n (laid n t hs fs nx)
   laid-table = ruled-table dim (laid-whole C) laid-ruled
 
-  pub laid-live : (x : ℕ) → Live x → live (laid n t hs fs nx) x ≡ true
-  laid-live = live-of n after Live laid-ruled
+  pub laid-live : (x : ℕ) → Live n t hs fs x → live (laid n t hs fs nx) x ≡ true
+  laid-live = live-of n after (Live n t hs fs) laid-ruled
 
-  pub live-laid : (x : ℕ) → live (laid n t hs fs nx) x ≡ true → Live x
-  live-laid x l = of-live n after Live laid-ruled x (live-below laid-table x l) l
+  pub live-laid : (x : ℕ) → live (laid n t hs fs nx) x ≡ true → Live n t hs fs x
+  live-laid x l = of-live n after (Live n t hs fs) laid-ruled x (live-below laid-table x l) l

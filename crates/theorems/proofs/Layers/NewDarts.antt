@@ -1,9 +1,11 @@
 -- New darts in unused slots, n to each of some darts (`Spread`), as split and insert make them: the new dart r of the i-th dart is in
--- the slot n * i + r. `new-in`, `new-one` and `slot-new`: one new dart in each slot; `new-dart`, `new-role`: whose it is, and which.
+-- the slot n * i + r. `new-in`, `new-one` and `slot-new`: one new dart in each slot; `new-dart`, `new-role`: whose it is, and which;
+-- `Live`: what is live when they are there.
 use Prim.Native.Nat.{ℕ, _+_, _*_, _/_, _%_, _<_}
 use mathlib.Core.Path.{_≡_, sym, ap, _∙_}
+use mathlib.Core.Logic.{_⊎_, inl, inr}
 use mathlib.Core.Bool.{true}
-use mathlib.Core.List.{List, List·Memᴰ as In}
+use mathlib.Core.List.{List, List·Memᴰ as In, Memᴰ·cast as in-cast}
 use native.Mathlib.Omega.{arith}
 use lib.ListN.{length, getD}
 use Rattle.model.specs.Lists.{indexOf}
@@ -42,6 +44,11 @@ pub record Spread (n : ℕ) (t gs fs : List ℕ) : Type 0 where
   pub once : Distinct gs
   pub vacant : Vacant t fs
   pub enough : length fs ≡ n * length gs
+
+-- x is live when the new darts are there: it was before, or it is one of them
+pub data Live (n : ℕ) (t gs fs : List ℕ) (x : ℕ) : Type 0 where
+  old : live t x ≡ true → Live n t gs fs x
+  new : IsNew n gs fs x → Live n t gs fs x
 
 module _ {n : ℕ} {t gs fs : List ℕ} (S : Spread n t gs fs) where
   abbrev dim : Dim n
@@ -92,3 +99,8 @@ module _ {n : ℕ} {t gs fs : List ℕ} (S : Spread n t gs fs) where
   -- an old dart is none of them
   pub not-new : (x : ℕ) → live t x ≡ true → In x fs → ⊥
   not-new x l i = clash l (S .vacant .dead x i)
+
+  -- a live slot afterwards is a live one before, or a new slot
+  pub live-which : (x : ℕ) → Live n t gs fs x → (live t x ≡ true) ⊎ In x fs
+  live-which x (old l) = inl l
+  live-which x (new w) = inr (in-cast (w .is) (new-in (w .role) (w .of) (w .low) (w .member)))

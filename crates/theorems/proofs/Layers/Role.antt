@@ -9,7 +9,7 @@ use native.Mathlib.Omega.{arith}
 use lib.ListN.{getD}
 use lib.Dec.{eqb, ltb}
 use borrow.Author.Tests.{eqb-false, eq-eqb, ne-eqb, ltb-true, not-true}
-use Rattle.model.specs.Table.{link, walk}
+use Rattle.model.specs.Table.{link, walk, live}
 use Rattle.model.specs.NewDarts.{newDart}
 use Rattle.model.specs.Split.{newDartLink, splitBy}
 use Rattle.model.specs.Meaning.Maps.{BlockTable, Dim, Rule}
@@ -19,6 +19,7 @@ use Rattle.theorems.proofs.Lists.Scan.{and-l, and-r, or-cases, if-eq, b
 use Rattle.theorems.proofs.Maps.Dim.{two-cases}
 use Rattle.theorems.proofs.Maps.Tables.{mapTable, rule-at}
 use Rattle.theorems.proofs.Cells.Places.{same, same-eq}
+use Rattle.theorems.proofs.Layers.NewDarts.{Live, old, new}
 use Rattle.theorems.proofs.Layers.Splitting.{split-dart-link, new-link, split-kept}
 
 -- the opposite edge
@@ -56,6 +57,13 @@ roleDart n gs fs (suc r) g = newDart n gs fs r g
 pub last-role : (n : ℕ) → Dim n → (gs fs : List ℕ) (g : ℕ) → roleDart n gs fs n g ≡ newDart n gs fs (n - 1) g
 unfolding roleDart
 last-role n dim gs fs g = two-cases n dim (λ n. roleDart n gs fs n g ≡ newDart n gs fs (n - 1) g) refl refl
+
+-- the roles of live darts are live, when the new darts are there
+pub live-role : {n : ℕ} {t gs fs : List ℕ} → ((x : ℕ) → In x gs → live t x ≡ true) → (r g : ℕ) → r ≤ n → In g gs
+    → Live n t gs fs (roleDart n gs fs r g)
+unfolding roleDart
+live-role lives zero g b i = old (lives g i)
+live-role lives (suc r) g b i = new (record { role = r; of = g; low = b; member = i; is = refl })
 
 -- ---- words that keep to a sheet: of 1.0.1, and of links other than 1
 

@@ -5,7 +5,7 @@ use Prim.Native.Nat.{ℕ, _+_, _*_, _≤_, _<_}
 use mathlib.Core.Path.{_≡_, sym, ap, _∙_}
 use mathlib.Core.Logic.{_⊎_, inl, inr, _≢_, ⊎-elim}
 use mathlib.Core.Bool.{true}
-use mathlib.Core.List.{List, List·Memᴰ as In, Memᴰ·cast as in-cast}
+use mathlib.Core.List.{List, List·Memᴰ as In}
 use native.Mathlib.Omega.{arith}
 use lib.ListN.{length, getD}
 use lib.Seq.{getD-take}
@@ -32,10 +32,10 @@ use Rattle.theorems.proofs.Operations.Frame.{split-frame}
 use Rattle.theorems.proofs.Operations.Slots.{ones-rising, Filled, lowest-slots, lowest-first}
 use Rattle.theorems.proofs.Operations.Slots.{filled-count, filled-changes}
 use Rattle.theorems.proofs.Layers.Sheet.{sheet-own, sheet-least, sheet-live}
-use Rattle.theorems.proofs.Layers.NewDarts.{new-slot, new-in, new-one, slot-new}
+use Rattle.theorems.proofs.Layers.NewDarts.{old, new, new-slot, new-in, new-one, slot-new, live-which}
 use Rattle.theorems.proofs.Layers.Splitting.{splits-splitting, spread, split-slots, split-whole}
 use Rattle.theorems.proofs.Layers.Role.{roleTo, roleWord, roleDart, role-link, role-plane}
-use Rattle.theorems.proofs.Layers.SplitMap.{Live, old, new, split-live, live-split}
+use Rattle.theorems.proofs.Layers.SplitMap.{split-live, live-split}
 use Rattle.theorems.proofs.Layers.SplitBlock.{split-block}
 use Rattle.theorems.proofs.Layers.SplitCells.{two-cells, new-marked, cell-stays, all-cells}
 
@@ -143,12 +143,8 @@ module _ {n : ℕ} {t : List ℕ} {d : ℕ} (s : Splits n t d) where
     same = split-slots given;
     kept = λ x l. split-live given x (old l);
     made = λ x i. split-live given x (new (slot-new (spread given) x i));
-    only = λ x l. split (live-split given x l);
+    only = λ x l. live-which (spread given) x (live-split given x l);
   }
-    where
-      split : {x : ℕ} → Live given x → (live t x ≡ true) ⊎ In x (newSlots n t d)
-      split (old l) = inl l
-      split (new w) = inr (in-cast (w .is) (new-in (spread given) (w .role) (w .of) (w .low) (w .member)))
 
   pub split-lives : liveCount (splitTable n t d) ≡ liveCount t + n * count 1 (sheet n t d)
   split-lives = filled-count (split-lowest .vacant) split-filled ∙ ap (λ (k : ℕ). liveCount t + k) split-number

@@ -32,10 +32,10 @@ use Rattle.theorems.proofs.Sewing.Side.{on-side, side-own, side-far, si
 use Rattle.theorems.proofs.Cells.Places.{same, same-eq}
 use Rattle.theorems.proofs.Cells.Rows.{rowWalk, small, walk-keeps, walk-rows, rows-in}
 use Rattle.theorems.proofs.Cells.Chart.{block-straight, place-chart, place-zero, place-one}
-use Rattle.theorems.proofs.Layers.NewDarts.{new-in, new-one, not-new}
+use Rattle.theorems.proofs.Layers.NewDarts.{Live, old, new, new-in, new-one, not-new}
 use Rattle.theorems.proofs.Layers.Splitting.{spread, split-kept}
 use Rattle.theorems.proofs.Layers.Role.{roleTo, roleWord, roleDart, last-role, opposed, keepsSheet, sheet-walk, role-link}
-use Rattle.theorems.proofs.Layers.SplitMap.{Live, old, new, live-split}
+use Rattle.theorems.proofs.Layers.SplitMap.{live-split}
 use Rattle.theorems.proofs.Layers.Half.{half-size, in-half}
 
 -- ---- the rows of the roles, computed
@@ -292,6 +292,6 @@ module _ {n : ℕ} {t gs fs : List ℕ} (C : Splitting n t gs fs) where
           subst (Straight n after) (sym last) (last-straight h i))
           (λ e. new-straight r h (omega arith) i)
 
-      go : (x : ℕ) → Live C x → Straight n after x
+      go : (x : ℕ) → Live n t gs fs x → Straight n after x
       go x (old l) = old-straight x l
       go x (new w) = subst (Straight n after) (sym (w .is)) (by-role (w .role) (w .of) (w .low) (w .member))
