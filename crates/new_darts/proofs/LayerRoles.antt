@@ -1,7 +1,7 @@
 -- The new darts of insert, seen from a dart h of the wall: what `new_dart` asks (`wall-asked`) and finds (`wall-found`) for a dart of the
--- wall, which links of h (`own`, `along`, `over`) and next(h) (`after`) are such, and the links of the new darts (`links`).
+-- wall, which links of h (`own`, `along`, `over`) and next(h) (`after`) are such, and the links of the new darts (`links`, `p-back`).
 use Prim.Native.Nat.{ℕ, _+_, _*_, _≤_, _<_}
-use mathlib.Core.Path.{_≡_, sym, _∙_}
+use mathlib.Core.Path.{_≡_, sym, ap, _∙_}
 use mathlib.Core.List.{List}
 use native.Mathlib.Omega.{arith}
 use lib.ListN.{length, getD}
@@ -45,8 +45,8 @@ module _ {n : ℕ} {t m fresh places nexts : List ℕ} {role h : ℕ} (R : Layer
   pub along : (j : ℕ) → j + 2 ≤ n → Marked m (link t j h)
   along j low = drawn-of (R .inserts) .along h j low (R .dart)
 
-  pub over : Marked m (link t n h)
-  over = drawn-of (R .inserts) .over h (R .dart)
+  pub over : (i : ℕ) → n ≡ i → Marked m (link t i h)
+  over i e = rw e at (drawn-of (R .inserts) .over h (R .dart))
 
   pub after : Marked m (next n t m h)
   after = next-on (drawn-of (R .inserts)) h (R .dart)
@@ -67,3 +67,7 @@ module _ {n : ℕ} {t m fresh places nexts : List ℕ} {role h : ℕ} (R : Layer
 
   pub links : InsertLinks n t (insertTable n t m) (next n t m) (layerDart n t m 0) (layerDart n t m 1) (layerDart n t m 2) h
   links = insert-links (R .inserts) h (R .dart)
+
+  -- "p(h) is sewn to h by link" n
+  pub p-back : (i : ℕ) → n ≡ i → h ≡ link (insertTable n t m) i (layerDart n t m 0 h)
+  p-back i e = sym (ap (λ (j : ℕ). link (insertTable n t m) j (layerDart n t m 0 h)) (sym e) ∙ links .p-n)

@@ -2,6 +2,7 @@ pub mod Spreads
 pub mod News
 pub mod SplitRoles
 pub mod LayerRoles
+pub mod Which
 pub mod Placing
 pub mod Fronts
 pub mod Lists

@@ -132,26 +132,29 @@ module _ {n : ℕ} {insert : Bool} {t : List ℕ} {M : Made} {nexts darts fresh 
     -- ---- the changes
 
     -- of the k-th dart the link that leads to its first new one
-    pub dart-link : (k : ℕ) → k < size → {old new : ℕ} → old ≡ link t (changedLink n insert) (getD darts k 0)
-        → new ≡ newDart n (M .olds) (M .news) 0 (getD darts k 0)
-        → OneLink t u (getD darts k 0) (changedLink n insert) old new
-    dart-link k low before after = record {
-      inside = dart-inside k low;
-      index = spreads .index;
-      before = before;
-      after = after ∙ sym (spreads .first g (dart-in k low));
-      differ = λ e.
-          let lives = rule-at (mapTable B) g (dart-live k low) .goes (changedLink n insert) (spreads .index) in
-          let two = dim .0 in
-          let few = slot-low n dim k size 0 low (omega arith) in
-          let dead = ap (live t) (sym (new-dart-at k 0 low (omega arith))) ∙ new-dead (n * k + 0) few in
-          clash lives (ap (live t) (sym before ∙ e ∙ after) ∙ dead);
-      others = λ j h other. spreads .stays g j h
-          (λ i. clash (dart-live k low) (spreads .lowest .vacant .dead g i)) (λ z _. other z);
-    }
+    pub dart-link : (k : ℕ) → k < size → {i old new : ℕ} → i ≡ changedLink n insert → old ≡ link t i (getD darts k 0)
+        → new ≡ newDart n (M .olds) (M .news) 0 (getD darts k 0) → OneLink t u (getD darts k 0) i old new
+    dart-link k low is before after = rw is (change (rw is at before) after)
       where
-        g : ℕ
-        g = getD darts k 0
+        change : {old new : ℕ} → old ≡ link t (changedLink n insert) (getD darts k 0)
+            → new ≡ newDart n (M .olds) (M .news) 0 (getD darts k 0) → OneLink t u (getD darts k 0) (changedLink n insert) old new
+        change before after = record {
+          inside = dart-inside k low;
+          index = spreads .index;
+          before = before;
+          after = after ∙ sym (spreads .first g (dart-in k low));
+          differ = λ e.
+              let lives = rule-at (mapTable B) g (dart-live k low) .goes (changedLink n insert) (spreads .index) in
+              let two = dim .0 in
+              let few = slot-low n dim k size 0 low (omega arith) in
+              let dead = ap (live t) (sym (new-dart-at k 0 low (omega arith))) ∙ new-dead (n * k + 0) few in
+              clash lives (ap (live t) (sym before ∙ e ∙ after) ∙ dead);
+          others = λ j h other. spreads .stays g j h
+              (λ i. clash (dart-live k low) (spreads .lowest .vacant .dead g i)) (λ z _. other z);
+        }
+          where
+            g : ℕ
+            g = getD darts k 0
 
     -- a new dart has four links, where it had none
     pub new-links-change : (i r : ℕ) → i < size → r < n → (links : List ℕ)

@@ -1,40 +1,48 @@
 -- `new_darts::write` meets its contract. The loop's invariant: the new darts before that of the i-th dart with the role are behind
--- the pass, and p darts of S.
+-- the pass, and p old darts.
 use Prim.Native.Nat.{ℕ, _+_, _*_, _-_, _≤_, _<_}
 use mathlib.Core.Path.{_≡_, refl, ap}
+use mathlib.Core.Bool.{Bool}
+use mathlib.Core.List.{List}
 use native.Mathlib.Omega.{arith}
 use borrow.Author.Needs.{needs}
 use Rattle.model.specs.Journal.{cursor}
+use Rattle.model.specs.Meaning.Maps.{Dim}
 use Rattle.theorems.proofs.Lists.Scan.{if-lt}
 use Rattle.drafts.proofs.Passes.{pass-word}
+use Rattle.new_darts.specs.News.{Made}
 use Rattle.new_darts.specs.Drafting.{Writing, Drafting, DartsMet, NewMet}
-use Rattle.new_darts.proofs.Lists.{dart-inside, new-next-dart}
+use Rattle.new_darts.proofs.Lists.{spreads, dart-inside, new-next-dart}
 use Rattle.new_darts.proofs.Passing.{draft-none, draft-length, draft-same, draft-all}
 use Rattle.new_darts.proofs.write.Statement.{statement}
 use Rattle.new_darts.proofs.write.Tie as tie
 
 abbrev Inv-loop : tie.InvT-loop
-Inv-loop n table journal₀ darts fresh places size w₀ p₀ i₀ role₀ journal w p i role =
+Inv-loop n insert table journal₀ darts fresh places nexts size w₀ p₀ i₀ role₀ journal w p i role =
     (i ≤ size) × (role < n) × (i ≡ size → role ≡ 0)
-    × ((d : ℕ) → Writing n table d darts fresh places size journal₀
-    → Drafting n table d darts fresh places size journal₀ p (n * i + role) w journal)
+    × ((M : Made) → Writing n insert table M nexts darts fresh places size journal₀
+    → Drafting n insert table M nexts darts fresh places size journal₀ p (n * i + role) w journal)
 
 abbrev μ-loop : tie.MeasureT-loop
-μ-loop n table journal₀ darts fresh places size w₀ p₀ i₀ role₀ journal w p i role = 4 * (size - i) + (3 - role)
+μ-loop n insert table journal₀ darts fresh places nexts size w₀ p₀ i₀ role₀ journal w p i role = 4 * (size - i) + (3 - role)
+
+dim-of : {n : ℕ} {insert : Bool} {t : List ℕ} {M : Made} {nexts darts fresh places : List ℕ} {size : ℕ} {j : List ℕ}
+    → Writing n insert t M nexts darts fresh places size j → Dim n
+dim-of W = spreads (W .makes) (W .listed) .table .dim
 
 -- the function's entry, from where the loop stands, and the pass as it stands there
 abbrev start : tie.At-loop Inv-loop μ-loop → tie.Start Inv-loop μ-loop
-start l = l .before .before .before .before .before .before .before
+start l = l .before .before .before .before .before .before .before .before
 
 draft : (l : tie.At-loop Inv-loop μ-loop) →
     let s = start l in
     let a = s .args in
-    Drafting (a .n) (a .table .now) (s .pre .d) (a .darts .now) (a .fresh .now) (a .places .now) (a .size) (a .journal .now)
+    Drafting (a .n) (a .insert) (a .table .now) (s .pre .made) (a .nexts .now) (a .darts .now) (a .fresh .now) (a .places .now) (a .size) (a .journal .now)
     (l .loop .p) (a .n * l .loop .i + l .loop .role) (l .loop .w) (l .loop .journal)
-draft l = let some = start l .pre in l .loop .inv .3 (some .d) (some .is)
+draft l = let some = start l .pre in l .loop .inv .3 (some .made) (some .is)
 
 slice-read-w : tie.Need-slice-read-w Inv-loop μ-loop
-slice-read-w c = let long = c .before .before .before .before .before .before .pre .is .rule .long in omega arith
+slice-read-w c = let long = c .before .before .before .before .before .before .before .pre .is .rule .long in omega arith
 
 cast-w : tie.Need-cast-w Inv-loop μ-loop
 cast-w c = omega (arith, c .slice-known2 .given 0)
@@ -45,15 +53,15 @@ add-w c = omega (arith, c .slice-known2 .given 0)
 loop-holds : tie.Need-loop-holds Inv-loop μ-loop
 unfolding cursor
 loop-holds c =
-    let s = c .before .before .before .before .before .before in
-    let two = s .pre .is .listed .splits .dart .table .dim .0 in
-    (omega arith, omega arith, λ e. refl, λ d W. draft-same (draft-none W) _ (omega arith))
+    let s = c .before .before .before .before .before .before .before in
+    let two = dim-of (s .pre .is) .0 in
+    (omega arith, omega arith, λ e. refl, λ M W. draft-same (draft-none W) _ (omega arith))
 
 write-new-requires : tie.Need-write-new-requires Inv-loop μ-loop
 write-new-requires c κs =
     let i = c .before in
     let l = i .before in
-    record { d = _; j = _; draft = draft l; dart = i .loop-test .taken; role = l .loop .inv .1 }
+    record { made = _; j = _; draft = draft l; dart = i .loop-test .taken; role = l .loop .inv .1 }
 
 -- a turn, from where its new dart is written
 abbrev turn : tie.After-write-new Inv-loop μ-loop → tie.In-loop Inv-loop μ-loop
@@ -62,18 +70,18 @@ turn c = c .before .before
 met : (c : tie.After-write-new Inv-loop μ-loop) →
     let l = turn c .before in
     let a = start l .args in
-    (d : ℕ) → Writing (a .n) (a .table .now) d (a .darts .now) (a .fresh .now) (a .places .now) (a .size) (a .journal .now)
-    → NewMet (a .n) (a .table .now) d (a .darts .now) (a .fresh .now) (a .places .now) (a .size) (a .journal .now) (l .loop .p)
-    (a .n * l .loop .i + l .loop .role) (l .loop .w) (c .write-new .result) (c .write-new .last .1 .1 .0)
-met c d W = c .write-new .ensures d _ (turn c .before .loop .inv .3 d W)
+    (M : Made) → Writing (a .n) (a .insert) (a .table .now) M (a .nexts .now) (a .darts .now) (a .fresh .now) (a .places .now) (a .size) (a .journal .now)
+    → NewMet (a .n) (a .insert) (a .table .now) M (a .nexts .now) (a .darts .now) (a .fresh .now) (a .places .now) (a .size) (a .journal .now) (l .loop .p)
+    (a .n * l .loop .i + l .loop .role) (l .loop .w) (c .write-new .result) (c .write-new .last .1 .1 .1 .0)
+met c M W = c .write-new .ensures M _ (turn c .before .loop .inv .3 M W)
 
 some-met : (c : tie.After-write-new Inv-loop μ-loop) →
     let l = turn c .before in
     let s = start l in
     let a = s .args in
-    NewMet (a .n) (a .table .now) (s .pre .d) (a .darts .now) (a .fresh .now) (a .places .now) (a .size) (a .journal .now) (l .loop .p)
-    (a .n * l .loop .i + l .loop .role) (l .loop .w) (c .write-new .result) (c .write-new .last .1 .1 .0)
-some-met c = let some = start (turn c .before) .pre in met c (some .d) (some .is)
+    NewMet (a .n) (a .insert) (a .table .now) (s .pre .made) (a .nexts .now) (a .darts .now) (a .fresh .now) (a .places .now) (a .size) (a .journal .now) (l .loop .p)
+    (a .n * l .loop .i + l .loop .role) (l .loop .w) (c .write-new .result) (c .write-new .last .1 .1 .1 .0)
+some-met c = let some = start (turn c .before) .pre in met c (some .made) (some .is)
 
 -- the words are few
 few : (c : tie.After-write-new Inv-loop μ-loop) →
@@ -116,7 +124,7 @@ loop-less c =
     let l = i .before in
     let more = i .loop-test .taken in
     let low = l .loop .inv .1 in
-    let three = start l .pre .is .listed .splits .dart .table .dim .1 in
+    let three = dim-of (start l .pre .is) .1 in
     omega arith
 
 loop-again : tie.Need-loop-again Inv-loop μ-loop
@@ -124,9 +132,9 @@ loop-again c =
     let w = c .before .before .before in
     let i = turn w in
     let l = i .before in
-    let two = start l .pre .is .listed .splits .dart .table .dim .0 in
+    let two = dim-of (start l .pre .is) .0 in
     let last = c .if1 .taken in
-    (omega arith, omega arith, λ e. refl, λ d W. draft-same (met w d W .draft) _ (new-next-dart (W .listed) (l .loop .i) (l .loop .role) last))
+    (omega arith, omega arith, λ e. refl, λ M W. draft-same (met w M W .draft) _ (new-next-dart (W .makes) (W .listed) (l .loop .i) (l .loop .role) last))
 
 loop-less-2 : tie.Need-loop-less-2 Inv-loop μ-loop
 loop-less-2 c =
@@ -134,7 +142,7 @@ loop-less-2 c =
     let l = i .before in
     let low = l .loop .inv .1 in
     let other = c .if1 .left in
-    let three = start l .pre .is .listed .splits .dart .table .dim .1 in
+    let three = dim-of (start l .pre .is) .1 in
     omega arith
 
 loop-again-2 : tie.Need-loop-again-2 Inv-loop μ-loop
@@ -145,7 +153,7 @@ loop-again-2 c =
     let more = i .loop-test .taken in
     let low = l .loop .inv .1 in
     let other = c .if1 .left in
-    (omega arith, omega arith, λ e. absurd (omega arith), λ d W. draft-same (met w d W .draft) _ (omega arith))
+    (omega arith, omega arith, λ e. absurd (omega arith), λ M W. draft-same (met w M W .draft) _ (omega arith))
 
 -- all new darts are behind the pass
 all : (c : tie.After-loop Inv-loop μ-loop) →
@@ -165,37 +173,37 @@ write-darts-requires : tie.Need-write-darts-requires Inv-loop μ-loop
 write-darts-requires c κs =
     let e = c .before in
     let all = all e in
-    record { n = _; d = _; j = _; q = _; draft = draft (e .before); next = λ k on few. absurd (omega arith) }
+    record { made = _; nexts = _; j = _; q = _; draft = draft (e .before); next = λ k on few. absurd (omega arith) }
 
--- and so are the darts of S
+-- and so are the old ones
 done : (c : tie.After-write-darts Inv-loop μ-loop) →
     let e = c .before .before in
     let l = e .before in
     let a = start l .args in
-    (d : ℕ) → Writing (a .n) (a .table .now) d (a .darts .now) (a .fresh .now) (a .places .now) (a .size) (a .journal .now)
-    → DartsMet (a .n) (a .table .now) d (a .darts .now) (a .fresh .now) (a .places .now) (a .size) (a .journal .now) (l .loop .p)
-    (a .n * l .loop .i + l .loop .role) (l .loop .w) 4294967295 (c .write-darts .result) (c .write-darts .last .1 .0)
-done c d W =
+    (M : Made) → Writing (a .n) (a .insert) (a .table .now) M (a .nexts .now) (a .darts .now) (a .fresh .now) (a .places .now) (a .size) (a .journal .now)
+    → DartsMet (a .n) (a .insert) (a .table .now) M (a .nexts .now) (a .darts .now) (a .fresh .now) (a .places .now) (a .size) (a .journal .now) (l .loop .p)
+    (a .n * l .loop .i + l .loop .role) (l .loop .w) 4294967295 (c .write-darts .result) (c .write-darts .last .1 .1 .1 .0)
+done c M W =
     let e = c .before .before in
     let all = all e in
-    c .write-darts .ensures _ _ _ _ (e .before .loop .inv .3 d W) (λ k on few. absurd (omega arith))
+    c .write-darts .ensures _ _ _ _ (e .before .loop .inv .3 M W) (λ k on few. absurd (omega arith))
 
 same-length : tie.Need-same-length Inv-loop μ-loop
 same-length c =
     let m = c .before .before in
     let some = start (m .before .before .before) .pre in
-    draft-length (done m (some .d) (some .is) .draft)
+    draft-length (done m (some .made) (some .is) .draft)
 
 returns : tie.Need-returns Inv-loop μ-loop
-returns c = λ d W.
+returns c = λ M W.
     let m = c .before .before in
     let e = m .before .before in
     let a = start (e .before) .args in
-    let M = done m d W in
-    let most = W .listed .splits .dart .table .few in
-    draft-all (M .draft)
+    let N = done m M W in
+    let most = spreads (W .makes) (W .listed) .table .few in
+    draft-all (N .draft)
     (if-lt (m .write-darts .result) (a .size)
-    (λ low. let next = M .next low in let inside = dart-inside (W .listed) _ low in absurd (omega arith)) (λ h. h)) (all e)
+    (λ low. let next = N .next low in let inside = dart-inside (W .makes) (W .listed) _ low in absurd (omega arith)) (λ h. h)) (all e)
 
 pub write-spec : {M : Type 1} → statement M
 write-spec =

@@ -1,12 +1,9 @@
 -- `new_darts::layer::p_links` meets its contract.
-use Prim.Native.Nat.{ℕ, _≤_}
-use mathlib.Core.Path.{_≡_, refl, sym, ap, _∙_}
+use Prim.Native.Nat.{_≤_}
+use mathlib.Core.Path.{_≡_, refl, sym, _∙_}
 use native.Mathlib.Omega.{arith}
-use Rattle.model.specs.Table.{link}
-use Rattle.model.specs.Insert.{insertTable}
-use Rattle.model.specs.Meaning.Walls.{layerDart}
 use Rattle.new_darts.proofs.News.{four-links}
-use Rattle.new_darts.proofs.LayerRoles.{link-asked, along, wall-asked, wall-found, links}
+use Rattle.new_darts.proofs.LayerRoles.{link-asked, along, wall-asked, wall-found, links, p-back}
 use Rattle.new_darts.proofs.layer.p_links.Statement.{statement}
 use Rattle.new_darts.proofs.layer.p_links.Tie as tie
 
@@ -58,7 +55,7 @@ returns c = λ m R.
     (wall-found R (side .before .link-in .ensures) (along R 0 two) _ (omega arith) (side .new-dart .ensures) ∙ sym (links R .p-0))
     (wall-found R (over .link-in2 .ensures) (along R 1 (omega arith)) _ (omega arith) (c .new-dart3 .ensures) ∙ sym (links R .p-1 three))
     (wall-found R refl (R .dart) _ (omega arith) (own .new-dart2 .ensures) ∙ sym (links R .p-2 three))
-    (sym (ap (λ (i : ℕ). link (insertTable _ _ m) i (layerDart _ _ m 0 _)) (sym three) ∙ links R .p-n))
+    (p-back R 3 three)
 
 new-dart-requires-4 : tie.Need-new-dart-requires-4
 unfolding both
@@ -77,7 +74,7 @@ returns-2 c = λ m R.
     four-links _ _
     (wall-found R (side .before .link-in .ensures) (along R 0 (dim .0)) _ (omega arith) (side .new-dart .ensures) ∙ sym (links R .p-0))
     (wall-found R refl (R .dart) _ (omega arith) (own .new-dart2 .ensures) ∙ sym (links R .plane-p-1 flat))
-    (sym (ap (λ (i : ℕ). link (insertTable _ _ m) i (layerDart _ _ m 0 _)) (sym flat) ∙ links R .p-n))
+    (p-back R 2 flat)
     (wall-found R refl (R .dart) _ (omega arith) (c .new-dart4 .ensures) ∙ sym (links R .plane-p-3 flat))
 
 pub p-links-spec : {M : Type 1} → statement M
