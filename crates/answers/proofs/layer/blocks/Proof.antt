@@ -7,10 +7,10 @@ use Rattle.answers.proofs.layer.blocks.Statement.{statement}
 use Rattle.answers.proofs.layer.blocks.Tie as tie
 
 least-wrong-requires : tie.Need-least-wrong-requires
-least-wrong-requires c κs = c .before .before .pre
+least-wrong-requires c κs = c .before .pre
 
 slots-requires : tie.Need-slots-requires
-slots-requires c κs = table-short _ (c .before .before .before .pre .1)
+slots-requires c κs = table-short _ (c .before .before .pre .1)
 
 returns : tie.Need-returns
 returns c =

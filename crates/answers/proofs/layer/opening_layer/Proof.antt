@@ -46,7 +46,7 @@ blocks-requires c κs =
 
 returns-3 : tie.Need-returns-3
 unfolding layerChecks openingChecks mapChecks
-returns-3 c = settles-last (dart (c .before)) refl (c .blocks .ensures)
+returns-3 c = settles-last (dart (c .before)) refl (c .blocks2 .ensures)
 
 pub opening-layer-spec : {M : Type 1} → statement M
 opening-layer-spec =

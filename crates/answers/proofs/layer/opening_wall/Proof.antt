@@ -32,7 +32,7 @@ blocks-requires c κs =
 
 returns-2 : tie.Need-returns-2
 unfolding wallChecks openingChecks mapChecks
-returns-2 c = settles-last (opened (c .before)) refl (c .blocks .ensures)
+returns-2 c = settles-last (opened (c .before)) refl (c .blocks2 .ensures)
 
 pub opening-wall-spec : {M : Type 1} → statement M
 opening-wall-spec = tie.close (tie.spec opening-requires returns blocks-requires returns-2)
