@@ -32,7 +32,7 @@ ghost use Rattle.new_darts.specs.Drafting.{Drafting, ToDarts, DartsMet, 
 // Lists the lowest unused slots of a map, `new` of them; whether there are so many. There are not where `live` slots are live and with
 // these they are more than all slots.
 pub fn find_slots(table: &[u32], fresh: &mut [u16], new: u32, live: u32) -> bool
-    requires { ⌜ (tableOk (now table) ≡ pass) × (Told (now table)) × (new + live ≤ 262144)
+    requires { ⌜ (tableOk (now table) ≡ pass) × (Told (now table)) × (new + live ≤ 1048576)
         × (new + live ≤ slots (now table) → new ≤ length (now fresh)) ⌝ }
     ensures { λ r. ⌜ SlotsFound (now (table .entry)) new live (now (fresh .entry)) (now (fresh .exit)) r ⌝ }
 {
