@@ -333,27 +333,43 @@ static void draw_round_cells(const request *q, rng *r)
         marks[d] = inside[d] != inside[to(q, d, q->n)];
 }
 
-/* A wall, or what might be one. */
+/* What some of the links of a wall reach from d: most often it is not closed. */
+static void draw_part(const request *q, uint32_t d, rng *r)
+{
+    static uint32_t found[MAX_SLOTS];
+    mark_reached(q, d, wall_links(q) & ~(UINT32_C(1) << rng_below(r, 4)), marks, found);
+}
+
+static void draw_anything(const request *q, rng *r)
+{
+    for (uint32_t d = 0; d < slots_of(q); d++)
+        marks[d] = (uint8_t)rng_below(r, 2);
+}
+
+enum wall { ONE, FEW, BENT, WHOLE, ROUND_CELLS, PART, ANYTHING };
+
+static void draw_one(const request *q, enum wall wall, uint32_t d, rng *r)
+{
+    if (wall == ROUND_CELLS)
+        draw_round_cells(q, r);
+    else if (wall == PART)
+        draw_part(q, d, r);
+    else if (wall == ANYTHING)
+        draw_anything(q, r);
+    else
+        draw_from(q, d, wall == ONE ? 1 : wall == WHOLE ? slots_of(q) : 1 + rng_below(r, 4),
+                  wall == BENT, r);
+}
+
+/* A wall, or more than one, or what might be one. */
 static void draw(request *q, rng *r)
 {
-    uint32_t slots = slots_of(q), kind = rng_below(r, 16);
-    memset(marks, 0, slots + 1);
+    enum wall wall = ONE_OF(r, ONE, ONE, FEW, BENT, BENT, BENT, WHOLE, WHOLE, WHOLE, WHOLE, WHOLE,
+                            WHOLE, ROUND_CELLS, ROUND_CELLS, ROUND_CELLS, PART, ANYTHING);
+    memset(marks, 0, slots_of(q) + 1);
     q->i = q->n;
-    if (slots == 0)
-        return;
-    for (uint32_t walls = ONE_OF(r, 1, 1, 1, 1, 1, 2, 2, 3); walls > 0; walls--) {
-        uint32_t d = some_dart(q, one_in(r, 16) ? EITHER : SEWN, r), few = 1 + rng_below(r, 4);
-        if (kind < 2)
-            draw_from(q, d, 1, 0, r);
-        else if (kind < 8)
-            draw_from(q, d, slots, 0, r);
-        else if (kind < 12)
-            draw_from(q, d, few, kind < 11, r);
-    }
-    if (kind >= 12 && kind < 15)
-        draw_round_cells(q, r);
-    for (uint32_t d = 0; kind == 15 && d < slots; d++)
-        marks[d] = (uint8_t)rng_below(r, 2);
+    for (uint32_t walls = ONE_OF(r, 1, 1, 1, 1, 1, 2, 2, 3); slots_of(q) > 0 && walls > 0; walls--)
+        draw_one(q, wall, some_dart(q, one_in(r, 16) ? EITHER : SEWN, r), r);
 }
 
 /* ---------------------------------------------------------------- a call */
