@@ -998,14 +998,13 @@ INLINE answer split_in(int n, uint32_t *restrict table, uint32_t slots, uint8_t 
 /* Whether each mark is 0 or 1, and 1 only on live slots, where seen is 1. */
 static int drawn(const uint8_t *marks, uint32_t slots)
 {
+    uint64_t wrong = 0;
     uint32_t at = 0;
     for (; slots - at >= 8; at += 8)
-        if (eight(marks + at) & ~eight(seen + at))
-            return 0;
+        wrong |= eight(marks + at) & ~eight(seen + at);
     for (; at < slots; at++)
-        if (marks[at] & ~seen[at])
-            return 0;
-    return 1;
+        wrong |= (uint64_t)(marks[at] & ~seen[at]);
+    return wrong == 0;
 }
 
 /* 29 or 30 for the wall in list, or 0. */
