@@ -265,10 +265,11 @@ uint32_t phl_split(uint32_t n, uint32_t *table, size_t table_len,
  * darts in the lowest unused slots: p(h), which is sewn to h by link n, q(h), and for n = 3 r(h).
  * Marks: they stay. Place: the first new slot. Count: darts added.
  *
- * To take the layer out again, remove it at q(h) (n = 2), which is p(h).1, or at r(h) (n = 3), which
- * is p(h).2.1; place is p of the first dart of the wall. That gives back the table of before, entry
- * for entry. To mark the wall: phl_orbit of a dart there, with the mask 5 (n = 2) or 11 (n = 3), marks
- * its edge or face; join what it marks for each one.
+ * To take the layer out again: phl_remove at q(h) (n = 2), which is p(h).1, or at r(h) (n = 3), which
+ * is p(h).2.1, where place is p(h) for the first h. Given room in the journal, it gives back the
+ * table of before, entry for entry.
+ * To mark a wall: phl_orbit from a dart of it, with the mask 5 (n = 2) or 11 (n = 3), marks its edge
+ * or face; join what it marks for each of them.
  * Numbers: 1 2 3 4 5 24 25 26 8 28 29 30 31 32 14 15. */
 uint32_t phl_insert(uint32_t n, uint32_t *table, size_t table_len,
                     const uint8_t *marks, size_t marks_len,
