@@ -68,31 +68,66 @@ fn insert_in(
     }
 }
 
-// insert on a larger table, where the checks up to 8 have passed. As it calls itself it has a stack frame of its own, which small tables
-// and refusals do not pay for; the table fits, so it never does.
+// insert on a small table, where the checks up to 8 have passed. As it calls itself it has a stack frame of its own, so that the stack has one
+// size of buffers only; the table fits, so it never does.
+fn insert_small(n: u32, table: &mut [u32], marks: &[u8], journal: &mut [u32], tag: u32) -> Answer
+    requires { ⌜ (inOrder (openingChecks n (now table) (now marks) (now journal)) ≡ pass) × (slots (now table) ≤ 2048) ⌝ }
+    ensures { λ r. ⌜ outcome r (now (table .exit)) (now (marks .entry)) (now (journal .exit))
+        ≡ insertCall n (now (table .entry)) (now (marks .entry)) (now (journal .entry)) tag ⌝ }
+{
+    if !reading::table_fits(table) {
+        insert_small(n, table, marks, journal, tag);
+        return numbers::WRONG_TABLE_LENGTH;
+    }
+    let mut queue = [0u16; SMALL];
+    let mut nexts = [0u16; SMALL];
+    let mut places = [0u16; SMALL];
+    insert_in(
+        n,
+        table,
+        marks,
+        journal,
+        tag,
+        &mut queue,
+        &mut nexts,
+        &mut places,
+    )
+}
+
+// insert on a larger table, where the checks up to 8 have passed. It has a stack frame of its own as well.
+fn insert_middle(n: u32, table: &mut [u32], marks: &[u8], journal: &mut [u32], tag: u32) -> Answer
+    requires { ⌜ (inOrder (openingChecks n (now table) (now marks) (now journal)) ≡ pass) × (slots (now table) ≤ 16384) ⌝ }
+    ensures { λ r. ⌜ outcome r (now (table .exit)) (now (marks .entry)) (now (journal .exit))
+        ≡ insertCall n (now (table .entry)) (now (marks .entry)) (now (journal .entry)) tag ⌝ }
+{
+    if !reading::table_fits(table) {
+        insert_middle(n, table, marks, journal, tag);
+        return numbers::WRONG_TABLE_LENGTH;
+    }
+    let mut queue = [0u16; MIDDLE];
+    let mut nexts = [0u16; MIDDLE];
+    let mut places = [0u16; MIDDLE];
+    insert_in(
+        n,
+        table,
+        marks,
+        journal,
+        tag,
+        &mut queue,
+        &mut nexts,
+        &mut places,
+    )
+}
+
+// insert on any table, where the checks up to 8 have passed. It has a stack frame of its own as well.
 fn insert_large(n: u32, table: &mut [u32], marks: &[u8], journal: &mut [u32], tag: u32) -> Answer
-    requires { ⌜ inOrder (openingChecks n (now table) (now marks) (now journal)) ≡ pass ⌝ }
+    requires { ⌜ (inOrder (openingChecks n (now table) (now marks) (now journal)) ≡ pass) × (slots (now table) ≤ 65536) ⌝ }
     ensures { λ r. ⌜ outcome r (now (table .exit)) (now (marks .entry)) (now (journal .exit))
         ≡ insertCall n (now (table .entry)) (now (marks .entry)) (now (journal .entry)) tag ⌝ }
 {
     if !reading::table_fits(table) {
         insert_large(n, table, marks, journal, tag);
         return numbers::WRONG_TABLE_LENGTH;
-    }
-    if table.len() <= 4 * MIDDLE {
-        let mut queue = [0u16; MIDDLE];
-        let mut nexts = [0u16; MIDDLE];
-        let mut places = [0u16; MIDDLE];
-        return insert_in(
-            n,
-            table,
-            marks,
-            journal,
-            tag,
-            &mut queue,
-            &mut nexts,
-            &mut places,
-        );
     }
     let mut queue = [0u16; LARGE];
     let mut nexts = [0u16; LARGE];
@@ -125,19 +160,10 @@ pub fn insert(n: u32, table: &mut [u32], marks: &[u8], journal: &mut [u32], tag:
         return opened;
     }
     if table.len() <= 4 * SMALL {
-        let mut queue = [0u16; SMALL];
-        let mut nexts = [0u16; SMALL];
-        let mut places = [0u16; SMALL];
-        return insert_in(
-            n,
-            table,
-            marks,
-            journal,
-            tag,
-            &mut queue,
-            &mut nexts,
-            &mut places,
-        );
+        return insert_small(n, table, marks, journal, tag);
+    }
+    if table.len() <= 4 * MIDDLE {
+        return insert_middle(n, table, marks, journal, tag);
     }
     insert_large(n, table, marks, journal, tag)
 }
