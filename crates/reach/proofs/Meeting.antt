@@ -12,8 +12,10 @@ use lib.Seq.{getD-set-same, getD-set-other}
 use borrow.Author.Tests.{eq-eqb, ne-eqb}
 use Rattle.model.specs.Lists.{count}
 use Rattle.model.specs.Table.{slots, link, live}
+use Rattle.model.specs.Meaning.Maps.{MapTable}
 use Rattle.theorems.proofs.Lists.Scan.{if-eq, test, count-change}
 use Rattle.theorems.proofs.Maps.Rules.{live-in}
+use Rattle.theorems.proofs.Maps.Tables.{rule-at}
 use Rattle.reach.specs.Search.{Search, searchOf, meet, follow, followBelow}
 use Rattle.reach.specs.Given.{Linked, Room, Meeting}
 use Rattle.reach.proofs.Marks.{Found}
@@ -130,6 +132,9 @@ module _ (size : ℕ) (s : Search) (y : ℕ) (b : y < size) (space : Room size (
       }
 
 -- ---- the links of a live dart
+
+pub linked : {n : ℕ} {t : List ℕ} → MapTable n t → Linked t
+linked T = record { fits = T .whole; few = T .few; goes = λ x i l b. rule-at T x l .goes i b }
 
 module _ (t : List ℕ) (linked : Linked t) (x : ℕ) (h : live t x ≡ true) (i : ℕ) (l : i < 4) where
   pub link-in : link t i x < slots t

@@ -17,7 +17,7 @@ use Rattle.theorems.proofs.Sets.Least.{orbit-is}
 use Rattle.theorems.proofs.Maps.Dim.{two-cases}
 use Rattle.theorems.proofs.Maps.Tables.{live-below, rule-at}
 use Rattle.reach.specs.Search.{searchOf}
-use Rattle.reach.specs.Given.{Given, Linked}
+use Rattle.reach.specs.Given.{Given}
 use Rattle.reach.proofs.Flooding.{Step, Spread, Flooding, begun, least-by}
 
 -- a mask below 2^(n+1) permits links 0..n only
@@ -31,13 +31,6 @@ mask-index n mask i dim = two-cases n dim (λ n. mask < 2 ^ (n + 1) → i < 4 �
     (λ low four b. omega arith)
 
 module _ {n : ℕ} {t m q : List ℕ} {mask d : ℕ} (g : Given n t m q d) (bound : mask < 2 ^ (n + 1)) where
-  pub linked : Linked t
-  linked = record {
-    fits = g .table .whole;
-    few = g .table .few;
-    goes = λ x i l b. rule-at (g .table) x l .goes i b;
-  }
-
   same : (x y : ℕ) → ByLink t (λ j. (j ≤ n) × (bit mask j ≡ true)) x y ↔ Step (bit mask) (link t) 4 x y
   same x y = (
     λ s.
@@ -54,7 +47,7 @@ module _ {n : ℕ} {t m q : List ℕ} {mask d : ℕ} (g : Given n t m q d) (boun
   pub spread : Spread (slots t) (bit mask) (link t) 4 (λ x. live t x ≡ true) d (orbit n t mask d)
   spread = record {
     below = λ x l. live-below (g .table) x l;
-    goes = λ x i l b _. linked .goes x i l b;
+    goes = λ x i l b _. rule-at (g .table) x l .goes i b;
     start = g .start;
     least = least-by (λ x. Unit {0}) (λ x _. tt) (λ x y _ _. tt) (λ x y _. same x y) (orbit-is n t d mask);
   }

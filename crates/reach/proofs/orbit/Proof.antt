@@ -7,7 +7,8 @@ use Rattle.model.specs.Table.{slots, link}
 use Rattle.model.specs.Orbit.{bit, orbit}
 use Rattle.reach.specs.Search.{Search, searchOf}
 use Rattle.reach.proofs.Flooding.{Flooding, Gone, gone-none, flooding-space, flooding-fits, found-on, turned, ended}
-use Rattle.reach.proofs.Reached.{linked, spread, begin-asks, begins}
+use Rattle.reach.proofs.Meeting.{linked}
+use Rattle.reach.proofs.Reached.{spread, begin-asks, begins}
 use Rattle.reach.proofs.orbit.Statement.{statement}
 use Rattle.reach.proofs.orbit.Tie as tie
 
@@ -63,7 +64,7 @@ expand-requires c κs =
     let (g, bound) = start (first a) .pre in
     let f = a .loop .inv .0 in
     record {
-      linked = linked g bound;
+      linked = linked (g .table);
       space = flooding-space (now a) f;
       lives = found-on (spread g bound) (now a) f (a .loop .head) (i .loop-test .taken);
     }

@@ -32,17 +32,17 @@ use Rattle.theorems.proofs.Insert.Turn.{Drawn, moves-on, next-on, next-
 
 -- ---- 28 and 29
 
+pub marked-live : (t m : List ℕ) → length m ≡ slots t → drawn t m ≡ true → (x : ℕ) → Marked m x → live t x ≡ true
+unfolding drawn
+marked-live t m long drawing x h =
+    let low = marked-in m x h in
+    let row = below-at (λ d. eqb (getD m d 0) 0 || (eqb (getD m d 0) 1 && live t d)) (slots t) drawing x (rw long at low) in
+    ⊎-elim (λ e. absurd (let z = eqb-true (getD m x 0) 0 e in omega arith)) (and-r (eqb (getD m x 0) 1) (live t x))
+    (or-cases (eqb (getD m x 0) 0) _ row)
+
 module _ {n : ℕ} {t : List ℕ} (m : List ℕ) (B : BlockTable n t) (long : length m ≡ slots t) (drawing : drawn t m ≡ true)
     (enclosing : enclosed n t m ≡ true) where
-  lives : (x : ℕ) → Marked m x → live t x ≡ true
-  unfolding drawn
-  lives x h =
-      let low = marked-in m x h in
-      let row = below-at (λ d. eqb (getD m d 0) 0 || (eqb (getD m d 0) 1 && live t d)) (slots t) drawing x (rw long at low) in
-      ⊎-elim (λ e. absurd (let z = eqb-true (getD m x 0) 0 e in omega arith)) (and-r (eqb (getD m x 0) 1) (live t x))
-      (or-cases (eqb (getD m x 0) 0) _ row)
-
-  some-dart : 0 < length (ones m)
+  pub some-dart : 0 < length (ones m)
   unfolding enclosed
   some-dart = ltb-true _ _ (and-l (ltb 0 (length (ones m))) _ enclosing)
 
@@ -56,7 +56,7 @@ module _ {n : ℕ} {t : List ℕ} (m : List ℕ) (B : BlockTable n t) (long : le
   pub drawn-by : Drawn n t m
   drawn-by = record {
     table = B;
-    lives = lives;
+    lives = marked-live t m long drawing;
     along = λ x j far. closed x j (omega arith) (omega arith);
     over = λ x. let two = B .dim .0 in closed x n (le-refl n) (omega arith);
   }
@@ -174,7 +174,7 @@ module _ {n : ℕ} {t m : List ℕ} (I : Inserts n t m) where
   rule = rule-at (mapTable B)
 
   lives-on : (x : ℕ) → Marked m x → live t x ≡ true
-  lives-on = lives m B (I .long) (I .drawn) (I .enclosed)
+  lives-on = marked-live t m (I .long) (I .drawn)
 
   -- not empty
   pub wall-some : 0 < length (ones m)

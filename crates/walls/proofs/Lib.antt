@@ -1,0 +1,2 @@
+pub mod Passing
+pub mod Drawings
