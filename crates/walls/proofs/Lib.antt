@@ -1,3 +1,5 @@
 pub mod Passing
 pub mod Drawings
 pub mod Nexting
+pub mod Joints
+pub mod Flooded

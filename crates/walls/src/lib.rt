@@ -168,7 +168,7 @@ fn turns_well(n: u32, table: &[u32], next: &[u16], h: u32) -> bool
     let flat = (link_in(table, n as usize, a) == b) & (a != over);
     if n == 3 {
         let along = link_in(table, 0, h);
-        flat & (a != along) & (a != link_in(table, 3, along))
+        flat & (a != along) & (a != link_in(table, n as usize, along))
     } else {
         flat
     }
