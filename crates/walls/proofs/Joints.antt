@@ -65,16 +65,16 @@ module _ {n : ℕ} {t m : List ℕ} (C : Closed n t m) (h : ℕ) (i : Marked m h
       free a =
           let own = next-free D h a in
           let off : link t n (nx h) ≢ nx over = λ q.
-              clash (rw (eq-eqb (nx h) h own, eq-eqb (nx over) over (sym q ∙ ap (link t n) own))) e in
+          clash (rw (eq-eqb (nx h) h own, eq-eqb (nx over) over (sym q ∙ ap (link t n) own))) e in
           rw (a, ne-eqb _ _ off)
 
       met : endsFree n t m h ≡ false → nextOver n t m h ≡ level
       met a = test (endsFree n t m over)
           (λ b.
           let off : link t n (nx h) ≢ nx over = λ q.
-              let same : nx h ≡ h
-              = sym (comes (nx h) (next-on D h i)) ∙ ap (link t n) (q ∙ next-free D over b) ∙ comes h i in
-              clash (next-own D h i .0 same) a in
+          let same : nx h ≡ h
+          = sym (comes (nx h) (next-on D h i)) ∙ ap (link t n) (q ∙ next-free D over b) ∙ comes h i in
+          clash (next-own D h i .0 same) a in
           rw (a, b, ne-eqb _ _ off))
           (λ b. rw (a, b))
 

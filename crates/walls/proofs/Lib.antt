@@ -3,3 +3,4 @@ pub mod Drawings
 pub mod Nexting
 pub mod Joints
 pub mod Flooded
+pub mod Verdicts

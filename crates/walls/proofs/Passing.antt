@@ -1,12 +1,12 @@
 -- A test of each number of a list that stands in the first words of a slice: `passed-all`, `passed-not`. The darts of a wall in a slice:
--- `listed-marked`, `listed-at`, `listed-all`, `listed-not`.
+-- `listed-marked`, `listed-at`, `listed-all`, `listed-not`. Words that are 0: `zeros-front`.
 use Prim.Native.Nat.{ℕ, _+_, _≤_, _<_}
 use mathlib.Core.Path.{_≡_, sym, ap, _∙_, subst}
 use mathlib.Core.Bool.{Bool, true, false}
 use mathlib.Core.List.{List, List·Memᴰ as In}
 use native.Mathlib.Omega.{arith}
-use lib.ListN.{length, getD, take, length-take}
-use lib.Seq.{getD-take}
+use lib.ListN.{length, getD, take, replicate, length-take, length-replicate, getD-replicate}
+use lib.Seq.{getD-take, length-take-le, ext-getD}
 use Rattle.model.specs.Lists.{ones, indexOf, allOf}
 use Rattle.model.specs.Meaning.Sets.{Marked}
 use Rattle.theorems.proofs.Lists.Scan.{test, clash, if-eq}
@@ -64,9 +64,23 @@ module _ {m : List ℕ} {size : ℕ} {hs : List ℕ} (L : Listed m size hs) wher
       let at = getD-index (ones m) h 0 (ones-in m h i) in
       (j, omega arith, sym (getD-take size hs j 0 (omega arith)) ∙ ap (λ (l : List ℕ). getD l j 0) (L .front) ∙ at)
 
+  pub listed-first : 0 < length (ones m) → getD hs 0 0 ≡ getD (ones m) 0 0
+  listed-first some =
+      let number = L .number in
+      sym (getD-take size hs 0 0 (omega arith)) ∙ ap (λ (l : List ℕ). getD l 0 0) (L .front)
+
   -- a test of each dart
   pub listed-all : {p : ℕ → Bool} {k : ℕ} → Passed p hs k → size ≤ k → allOf p (ones m) ≡ true
   listed-all {p} P end = rw (L .front) at (passed-all p hs size listed-room P end)
 
   pub listed-not : (p : ℕ → Bool) (k : ℕ) → k < size → p (getD hs k 0) ≡ false → allOf p (ones m) ≡ false
   listed-not p k low fails = rw (L .front) at (passed-not p hs size listed-room k low fails)
+
+-- ---- words that are 0
+
+pub zeros-front : (k : ℕ) (l : List ℕ) → k ≤ length l → ((x : ℕ) → x < k → getD l x 0 ≡ 0) → take k l ≡ replicate k 0
+zeros-front k l room clear =
+    let long = length-take-le k l room in
+    ext-getD 0 (take k l) (replicate k 0) (long ∙ sym (length-replicate k 0)) (λ x low.
+    let inside : x < k = omega arith in
+    getD-take k l x 0 inside ∙ clear x inside ∙ sym (getD-replicate k x 0 0 inside))
