@@ -1,3 +1,4 @@
 pub mod Marks
 pub mod Meeting
 pub mod Flooding
+pub mod Reached

@@ -1,9 +1,9 @@
 -- The steps of one dart: what `meet`, `follow` and `followBelow` do, that they only add to what is found (`Later`), that the queue has room
--- for it (`room-meet`), and the loop over the links (`Going`).
+-- for it (`room-meet`), and the loop over the steps (`Going`).
 use Prim.Native.Nat.{ℕ, suc, _+_, _*_, _≤_, _<_}
 use mathlib.Core.Path.{_≡_, refl, sym, ap, _∙_}
 use mathlib.Core.Logic.{_⊎_, inl, inr, ⊎-elim}
-use mathlib.Core.Bool.{true, false}
+use mathlib.Core.Bool.{Bool, true, false}
 use mathlib.Core.List.{List}
 use native.Mathlib.Numerals.{add-one}
 use native.Mathlib.Omega.{arith}
@@ -12,11 +12,12 @@ use lib.Seq.{getD-set-same, getD-set-other}
 use borrow.Author.Tests.{eq-eqb, ne-eqb}
 use Rattle.model.specs.Lists.{count}
 use Rattle.model.specs.Table.{slots, link, live}
-use Rattle.model.specs.Orbit.{bit}
+use Rattle.model.specs.Meaning.Maps.{MapTable}
 use Rattle.theorems.proofs.Lists.Scan.{if-eq, test, count-change}
 use Rattle.theorems.proofs.Maps.Rules.{live-in}
+use Rattle.theorems.proofs.Maps.Tables.{rule-at}
 use Rattle.reach.specs.Search.{Search, searchOf, meet, follow, followBelow}
-use Rattle.reach.specs.Given.{Linked, Room, Stepping, Meeting}
+use Rattle.reach.specs.Given.{Linked, Room, Meeting}
 use Rattle.reach.proofs.Marks.{Found}
 
 -- the first r words of the queue are the darts that have a mark, and as many
@@ -108,7 +109,7 @@ meet-own y s l =
 
 -- ---- room in the queue
 
-module _ (t : List ℕ) (s : Search) (y : ℕ) (b : y < slots t) (space : Room t (s .marks) (s .queue) (s .found)) where
+module _ (size : ℕ) (s : Search) (y : ℕ) (b : y < size) (space : Room size (s .marks) (s .queue) (s .found)) where
   -- for a dart without a mark
   pub room-left : getD (s .marks) y 0 ≡ 0 → s .found < length (s .queue)
   room-left e =
@@ -117,15 +118,13 @@ module _ (t : List ℕ) (s : Search) (y : ℕ) (b : y < slots t) (space : Room t
       let r = space .room in
       omega arith
 
-  pub meet-asks : Linked t → Meeting (s .marks) (s .queue) (s .found) y
-  meet-asks linked =
-      let few = linked .few in
-      record { inside = rw (space .long) b; few = omega arith; space = room-left }
+  pub meet-asks : size ≤ 65536 → Meeting (s .marks) (s .queue) (s .found) y
+  meet-asks few = record { inside = rw (space .long) b; few = omega arith; space = room-left }
 
-  room-meet : Room t (meet y s .marks) (meet y s .queue) (meet y s .found)
+  room-meet : Room size (meet y s .marks) (meet y s .queue) (meet y s .found)
   room-meet = if-eq (getD (s .marks) y 0) 0 (λ e. rw (meet-new y s e) (new e)) (λ e. rw (meet-old y s e) space)
     where
-      new : getD (s .marks) y 0 ≡ 0 → Room t (set (s .marks) y 1) (set (s .queue) (s .found) y) (s .found + 1)
+      new : getD (s .marks) y 0 ≡ 0 → Room size (set (s .marks) y 1) (set (s .queue) (s .found) y) (s .found + 1)
       new e = record {
         long = length-set (s .marks) y 1 ∙ space .long;
         room = rw length-set (space .room);
@@ -133,6 +132,9 @@ module _ (t : List ℕ) (s : Search) (y : ℕ) (b : y < slots t) (space : Room t
       }
 
 -- ---- the links of a live dart
+
+pub linked : {n : ℕ} {t : List ℕ} → MapTable n t → Linked t
+linked T = record { fits = T .whole; few = T .few; goes = λ x i l b. rule-at T x l .goes i b }
 
 module _ (t : List ℕ) (linked : Linked t) (x : ℕ) (h : live t x ≡ true) (i : ℕ) (l : i < 4) where
   pub link-in : link t i x < slots t
@@ -143,54 +145,47 @@ module _ (t : List ℕ) (linked : Linked t) (x : ℕ) (h : live t x ≡ true) (i
 
 -- ---- the steps
 
-module _ (t : List ℕ) (mask x : ℕ) (s : Search) (i : ℕ) where
-  pub follow-takes : bit mask i ≡ true → follow t mask x i s ≡ meet (link t i x) s
+module _ (p : ℕ → Bool) (f : ℕ → ℕ → ℕ) (x : ℕ) (s : Search) (i : ℕ) where
+  pub follow-takes : p i ≡ true → follow p f x i s ≡ meet (f i x) s
   unfolding follow
   follow-takes e = rw (e, follow)
 
-  pub follow-skips : bit mask i ≡ false → follow t mask x i s ≡ s
+  pub follow-skips : p i ≡ false → follow p f x i s ≡ s
   unfolding follow
   follow-skips e = rw (e, follow)
 
-  pub follow-later : Later s (follow t mask x i s)
-  follow-later = test (bit mask i) (λ e. rw (follow-takes e) (meet-later (link t i x) s))
-      (λ e. rw (follow-skips e) (later-same s))
+  pub follow-later : Later s (follow p f x i s)
+  follow-later = test (p i) (λ e. rw (follow-takes e) (meet-later (f i x) s)) (λ e. rw (follow-skips e) (later-same s))
 
--- ---- the loop over the links
+-- ---- the loop over the steps
 
--- the links of x below i have been followed, from the search a to s
-pub record Going (t : List ℕ) (mask x : ℕ) (a s : Search) (i : ℕ) : Type 0 where
-  pub few : i ≤ 4
-  pub gone : s ≡ followBelow t mask x i a
-  pub space : Room t (s .marks) (s .queue) (s .found)
+-- the steps of x below i, of k, have been followed, from the search a to s
+pub record Going (size : ℕ) (p : ℕ → Bool) (f : ℕ → ℕ → ℕ) (k x : ℕ) (a s : Search) (i : ℕ) : Type 0 where
+  pub few : i ≤ k
+  pub gone : s ≡ followBelow p f x i a
+  pub space : Room size (s .marks) (s .queue) (s .found)
   pub wide : length (s .queue) ≡ length (a .queue)
 
-pub going-from : {t : List ℕ} {mask x : ℕ} (a : Search)
-    → Stepping t (a .marks) (a .queue) (a .found) x → Going t mask x a a 0
+pub going-from : {size : ℕ} {p : ℕ → Bool} {f : ℕ → ℕ → ℕ} {k x : ℕ} (a : Search)
+    → Room size (a .marks) (a .queue) (a .found) → Going size p f k x a a 0
 unfolding followBelow
-going-from a stepping = record { few = omega arith; gone = refl; space = stepping .space; wide = refl }
+going-from a space = record { few = omega arith; gone = refl; space = space; wide = refl }
 
-module _ {t : List ℕ} {mask x : ℕ} {a s : Search} {i : ℕ}
-    (stepping : Stepping t (a .marks) (a .queue) (a .found) x) (going : Going t mask x a s i) where
-  pub going-stepping : Stepping t (s .marks) (s .queue) (s .found) x
-  going-stepping = record { linked = stepping .linked; space = going .space; lives = stepping .lives }
-
-  pub going-on : (s′ : Search) → i < 4 → s′ ≡ follow t mask x i s → Going t mask x a s′ (i + 1)
+module _ {size : ℕ} {p : ℕ → Bool} {f : ℕ → ℕ → ℕ} {k x : ℕ} {a s : Search} {i : ℕ} (going : Going size p f k x a s i) where
+  pub going-on : (s′ : Search) → i < k → f i x < size → s′ ≡ follow p f x i s → Going size p f k x a s′ (i + 1)
   unfolding followBelow
-  going-on s′ l q = rw (q, add-one) (record {
+  going-on s′ l b q = rw (q, add-one) (record {
     few = l;
-    gone = ap (follow t mask x i) (going .gone);
-    space = test (bit mask i)
-        (λ e.
-        let b = link-in t (stepping .linked) x (stepping .lives) i l in
-        rw (follow-takes t mask x s i e) (room-meet t s (link t i x) b (going .space)))
-        (λ e. rw (follow-skips t mask x s i e) (going .space));
-    wide = follow-later t mask x s i .wide ∙ going .wide;
+    gone = ap (follow p f x i) (going .gone);
+    space = test (p i)
+        (λ e. rw (follow-takes p f x s i e) (room-meet size s (f i x) b (going .space)))
+        (λ e. rw (follow-skips p f x s i e) (going .space));
+    wide = follow-later p f x s i .wide ∙ going .wide;
   })
 
-  -- all links
-  pub going-all : 4 ≤ i → s ≡ followBelow t mask x 4 a
-  going-all h = let f = going .few in let e : i ≡ 4 = omega arith in rw e at (going .gone)
+  -- all steps
+  pub going-all : k ≤ i → s ≡ followBelow p f x k a
+  going-all h = let few = going .few in let e : i ≡ k = omega arith in rw e at (going .gone)
 
-  pub going-long : length (s .marks) ≡ length (a .marks)
-  going-long = going .space .long ∙ sym (stepping .space .long)
+  pub going-long : Room size (a .marks) (a .queue) (a .found) → length (s .marks) ≡ length (a .marks)
+  going-long space = going .space .long ∙ sym (space .long)

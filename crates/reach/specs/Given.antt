@@ -21,16 +21,16 @@ pub record Linked (t : List ℕ) : Type 0 where
   pub few : slots t ≤ 65536
   pub goes : (x i : ℕ) → live t x ≡ true → i < 4 → live t (link t i x) ≡ true
 
--- behind the queue's first r words there is room for each slot that has no mark
-pub record Room (t m q : List ℕ) (r : ℕ) : Type 0 where
-  pub long : length m ≡ slots t
-  pub room : slots t ≤ length q
-  pub number : r + count 0 m ≡ slots t
+-- behind the queue's first r words there is room for each slot, of `size`, that has no mark
+pub record Room (size : ℕ) (m q : List ℕ) (r : ℕ) : Type 0 where
+  pub long : length m ≡ size
+  pub room : size ≤ length q
+  pub number : r + count 0 m ≡ size
 
 -- for the steps of x
 pub record Stepping (t m q : List ℕ) (r x : ℕ) : Type 0 where
   pub linked : Linked t
-  pub space : Room t m q r
+  pub space : Room (slots t) m q r
   pub lives : live t x ≡ true
 
 -- for a dart y that is met: a word can hold it, and where it has no mark the queue has room for it

@@ -1,11 +1,10 @@
--- The flood as the code does it: marks, and a queue of the darts found. `meet`, `follow` and `followBelow` are its steps.
+-- A flood as the code does it: marks, and a queue of the darts found. From x it goes to f 0 x, f 1 x, .., as far as p permits them.
+-- `meet`, `follow` and `followBelow` are its parts.
 use Prim.Native.Nat.{ℕ, zero, suc, _+_}
-use mathlib.Core.Bool.{true, false}
+use mathlib.Core.Bool.{Bool, true, false}
 use mathlib.Core.List.{List}
 use lib.ListN.{getD, set}
 use lib.Dec.{eqb}
-use Rattle.model.specs.Table.{link}
-use Rattle.model.specs.Orbit.{bit}
 
 -- the darts found are the queue's first words, `found` of them
 pub record Search : Type 0 where
@@ -24,11 +23,11 @@ meet y s =
       | false ↦ s
     ]
 
--- link i of x is met, if the mask permits it
-unfoldable pub follow : List ℕ → ℕ → ℕ → ℕ → Search → Search
-follow t mask x i s = elim (bit mask i) [ true ↦ meet (link t i x) s | false ↦ s ]
+-- step i of x is met, if it is permitted
+unfoldable pub follow : (ℕ → Bool) → (ℕ → ℕ → ℕ) → ℕ → ℕ → Search → Search
+follow p f x i s = elim (p i) [ true ↦ meet (f i x) s | false ↦ s ]
 
--- the links of x below i, from the lowest
-unfoldable pub followBelow : List ℕ → ℕ → ℕ → ℕ → Search → Search
-followBelow t mask x zero s = s
-followBelow t mask x (suc i) s = follow t mask x i (followBelow t mask x i s)
+-- the steps of x below i, from the lowest
+unfoldable pub followBelow : (ℕ → Bool) → (ℕ → ℕ → ℕ) → ℕ → ℕ → Search → Search
+followBelow p f x zero s = s
+followBelow p f x (suc i) s = follow p f x i (followBelow p f x i s)

@@ -3,7 +3,8 @@ ghost use mathlib.Core.Path.{_≡_};
 ghost use Prim.Native.Nat.{_+_, _^_, _<_};
 ghost use lib.ListN.{length, set, replicate};
 ghost use Rattle.model.specs.Lists.{count};
-ghost use Rattle.model.specs.Orbit.{orbit};
+ghost use Rattle.model.specs.Table.{link};
+ghost use Rattle.model.specs.Orbit.{bit, orbit};
 ghost use Rattle.reach.specs.Search.{searchOf, meet, follow, followBelow};
 ghost use Rattle.reach.specs.Given.{Given, Stepping, Meeting};
 
@@ -34,7 +35,7 @@ fn follow(
 ) -> usize
     requires { ⌜ (Stepping (now table) (now marks) (now queue) tail x) × (i < 4) ⌝ }
     ensures { λ r. ⌜ searchOf (now (marks .exit)) (now (queue .exit)) r
-        ≡ follow (now (table .entry)) mask x i (searchOf (now (marks .entry)) (now (queue .entry)) tail) ⌝ }
+        ≡ follow (bit mask) (link (now (table .entry))) x i (searchOf (now (marks .entry)) (now (queue .entry)) tail) ⌝ }
 {
     if (mask >> i) % 2 == 1 {
         let y = reading::link_in(table, i as usize, x);
@@ -55,7 +56,7 @@ fn expand(
 ) -> usize
     requires { ⌜ Stepping (now table) (now marks) (now queue) from x ⌝ }
     ensures { λ r. ⌜ searchOf (now (marks .exit)) (now (queue .exit)) r
-        ≡ followBelow (now (table .entry)) mask x 4 (searchOf (now (marks .entry)) (now (queue .entry)) from) ⌝ }
+        ≡ followBelow (bit mask) (link (now (table .entry))) x 4 (searchOf (now (marks .entry)) (now (queue .entry)) from) ⌝ }
 {
     let mut tail = from;
     let mut i = 0;

@@ -1,6 +1,6 @@
--- The unused slots, lowest first: the places of the ones of a list, listed one by one (`listing-none`, `listing-more`) until all are
--- passed or as many are listed as are wanted (`listing-first`).
-use Prim.Native.Nat.{ℕ, suc, _+_, _≤_, _<_}
+-- The places of the ones of a list, listed one by one (`listing-none`, `listing-more`, `listing-over`) until all are passed
+-- (`listing-all`) or as many are listed as are wanted (`listing-first`). The unused slots, lowest first, are such places.
+use Prim.Native.Nat.{ℕ, zero, suc, _+_, _-_, _≤_, _<_}
 use mathlib.Core.Path.{_≡_, refl, sym, ap, _∙_, subst}
 use mathlib.Core.Logic.{_⊎_, inl, inr}
 use mathlib.Core.Bool.{Bool, true, false, _&&_}
@@ -15,6 +15,7 @@ use Rattle.model.specs.Lists.{tabulate, onesFrom, ones}
 use Rattle.model.specs.Table.{unused, slots, link, live}
 use Rattle.theorems.proofs.Lists.Scan.{test, if-eq, and-l, and-r, clash, length-tab, getD-tab}
 use Rattle.theorems.proofs.Maps.Rules.{live-by}
+use Rattle.scans.specs.Clear.{Clear, Skips}
 use Rattle.scans.specs.Lowest.{Lists, Entered}
 use Rattle.reading.specs.Told.{Told}
 
@@ -36,6 +37,15 @@ ones-more m x low =
     let at : 0 + length (take x m) ≡ x = omega arith in
     ap (λ (k : ℕ). ones (take k m)) (add-one x) ∙ ap ones (take-suc m x 0 low) ∙ ones-append 0 (take x m) (getD m x 0 ∷ [])
     ∙ ap (λ (k : ℕ). ones (take x m) ++ onesFrom k (getD m x 0 ∷ [])) at
+
+-- marks that are 0 add none
+ones-over : (m : List ℕ) (x k : ℕ) → x + k ≤ length m → Clear m x (x + k) → ones (take (x + k) m) ≡ ones (take x m)
+ones-over m x zero inside clear = let here : x + zero ≡ x = omega arith in rw here
+ones-over m x (suc k) inside clear =
+    let next : x + suc k ≡ x + k + 1 = omega arith in
+    let here = clear (x + k) (omega arith) (omega arith) in
+    ap (λ (y : ℕ). ones (take y m)) next ∙ ones-more m (x + k) (omega arith)
+    ∙ rw (ne-eqb (getD m (x + k) 0) 1 (λ e. omega arith), append-nil) (ones-over m x k (omega arith) (λ z low high. clear z low (omega arith)))
 
 ones-front : (m : List ℕ) (x : ℕ) → take (length (ones (take x m))) (ones m) ≡ ones (take x m)
 ones-front m x =
@@ -76,10 +86,23 @@ module _ {m : List ℕ} {x r : ℕ} {words₀ words : List ℕ} (G : Listing m x
     few = let most = entered-few b r s (E .size) in omega arith;
   }
 
+  -- marks that are 0 are passed
+  pub listing-over : {y : ℕ} → Skips m x y → Listing m y r words₀ words
+  listing-over {y} S =
+      let on = S .onward in
+      let within = S .within in
+      let sum : x + (y - x) ≡ y = omega arith in
+      let same = ones-over m x (y - x) (omega arith) (λ z low high. S .clear z low (omega arith)) in
+      let few = G .few in
+      record { lists = rw (ap (λ (k : ℕ). ones (take k m)) (sym sum) ∙ same) (G .lists); few = omega arith }
+
+  pub listing-all : length m ≤ x → Lists (ones m) r words₀ words
+  listing-all end = subst (λ (k : List ℕ). Lists (ones k) r words₀ words) (take-all x m end) (G .lists)
+
   -- all places are passed, or as many are listed as are wanted
   pub listing-first : (want : ℕ) → r ≤ want → (length m ≤ x) ⊎ (want ≤ r) → Lists (take want (ones m)) r words₀ words
   listing-first want most (inl end) =
-      let L = subst (λ (k : List ℕ). Lists (ones k) r words₀ words) (take-all x m end) (G .lists) in
+      let L = listing-all end in
       let size = L .size in
       rw (take-all want (ones m) (omega arith)) L
   listing-first want most (inr full) =

@@ -1,8 +1,9 @@
-// Passes over all slots: marks cleared, marks of 0 passed over 32 at a time, and the lowest unused slots listed.
+// Passes over all slots: marks cleared, marks of 0 passed over 32 at a time, the darts with the mark 1 and the lowest unused slots listed.
 ghost use mathlib.Core.Path.{_≡_};
 ghost use mathlib.Core.Bool.{true};
 ghost use Prim.Native.Nat.{_+_, _<_, _≤_, min};
 ghost use lib.ListN.{length, take, replicate};
+ghost use Rattle.model.specs.Lists.{ones};
 ghost use Rattle.model.specs.Table.{slots, unusedSlots};
 ghost use Rattle.model.specs.Checks.{pass, tableOk};
 ghost use Rattle.reading.specs.Told.{Told};
@@ -62,7 +63,7 @@ pub fn skip_clear(marks: &[u8], x: usize) -> usize
     }
 }
 
-// ---- unused slots
+// ---- lists
 
 // Where x is listed, it becomes the word r; how many are listed then.
 fn enter(words: &mut [u16], r: u32, x: u32, listed: bool) -> u32
@@ -75,6 +76,20 @@ fn enter(words: &mut [u16], r: u32, x: u32, listed: bool) -> u32
     } else {
         r
     }
+}
+
+// Lists the slots with the mark 1, rising; how many they are.
+pub fn list_ones(marks: &[u8], words: &mut [u16]) -> u32
+    requires { ⌜ (length (now marks) ≤ 65536) × (length (now marks) ≤ length (now words)) ⌝ }
+    ensures { λ r. ⌜ Lists (ones (now (marks .entry))) r (now (words .entry)) (now (words .exit)) ⌝ }
+{
+    let mut r: u32 = 0;
+    let mut x = skip_blocks(marks, 0);
+    while x < marks.len() {
+        r = enter(words, r, x as u32, marks[x] == 1);
+        x = skip_clear(marks, x + 1);
+    }
+    r
 }
 
 // Lists the lowest unused slots of a map, rising, at most `want` of them; how many they are.

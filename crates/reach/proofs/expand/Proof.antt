@@ -3,13 +3,15 @@ use Prim.Native.Nat.{_-_}
 use native.Mathlib.Omega.{arith}
 use borrow.Author.Needs.{needs}
 use Rattle.reach.specs.Search.{searchOf}
-use Rattle.reach.proofs.Meeting.{Going, going-from, going-stepping, going-on, going-all, going-long}
+use Rattle.model.specs.Table.{slots, link}
+use Rattle.model.specs.Orbit.{bit}
+use Rattle.reach.proofs.Meeting.{Going, going-from, going-on, going-all, going-long, link-in}
 use Rattle.reach.proofs.expand.Statement.{statement}
 use Rattle.reach.proofs.expand.Tie as tie
 
 abbrev Inv-loop : tie.InvT-loop
 Inv-loop table marks₀ queue₀ from mask x tail₀ i₀ marks queue tail i =
-    Going table mask x (searchOf marks₀ queue₀ from) (searchOf marks queue tail) i
+    Going (slots table) (bit mask) (link table) 4 x (searchOf marks₀ queue₀ from) (searchOf marks queue tail) i
 
 abbrev μ-loop : tie.MeasureT-loop
 μ-loop table marks₀ queue₀ from mask x tail₀ i₀ marks queue tail i = 4 - i
@@ -21,14 +23,15 @@ start a = a .before .before .before .before
 loop-holds : tie.Need-loop-holds Inv-loop μ-loop
 loop-holds c =
     let p = c .before .before .before in
-    going-from (searchOf (p .args .marks .now) (p .args .queue .now) (p .args .from)) (p .pre)
+    going-from (searchOf (p .args .marks .now) (p .args .queue .now) (p .args .from)) (p .pre .space)
 
 follow-requires : tie.Need-follow-requires Inv-loop μ-loop
 follow-requires c κs =
     let i = c .before .before in
     let a = i .before in
+    let p = start a .pre in
     let l = i .loop-test .taken in
-    (going-stepping (start a .pre) (a .loop .inv), omega arith)
+    (record { linked = p .linked; space = a .loop .inv .space; lives = p .lives }, omega arith)
 
 add-i : tie.Need-add-i Inv-loop μ-loop
 add-i c = search needs
@@ -41,18 +44,19 @@ loop-again c =
     let f = c .before .before .before .before in
     let i = f .before .before .before in
     let a = i .before in
+    let p = start a .pre in
     let l = i .loop-test .taken in
-    going-on (start a .pre) (a .loop .inv) (searchOf (f .follow .last .1 .0) (f .follow .last .1 .1 .0) (f .follow .result))
-    (omega arith) (f .follow .ensures)
+    going-on (a .loop .inv) (searchOf (f .follow .last .1 .0) (f .follow .last .1 .1 .0) (f .follow .result)) (omega arith)
+    (link-in _ (p .linked) _ (p .lives) _ (omega arith)) (f .follow .ensures)
 
 same-length : tie.Need-same-length Inv-loop μ-loop
-same-length c = let a = c .before in going-long (start a .pre) (a .loop .inv)
+same-length c = let a = c .before in going-long (a .loop .inv) (start a .pre .space)
 
 same-length-2 : tie.Need-same-length-2 Inv-loop μ-loop
 same-length-2 c = c .before .loop .inv .wide
 
 returns : tie.Need-returns Inv-loop μ-loop
-returns c = let a = c .before in going-all (start a .pre) (a .loop .inv) (c .loop-test .left)
+returns c = going-all (c .before .loop .inv) (c .loop-test .left)
 
 pub expand-spec : {M : Type 1} → statement M
 expand-spec =

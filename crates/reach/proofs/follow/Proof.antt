@@ -33,7 +33,7 @@ meet-requires c κs =
     let t = p .args .table .now in
     let to = link-in t (s .linked) (p .args .x) (s .lives) (p .args .i) low in
     let is = l .link-in .ensures in
-    meet-asks t (first p) (l .link-in .result) (omega arith) (s .space) (s .linked)
+    meet-asks _ (first p) (l .link-in .result) (omega arith) (s .space) (s .linked .few)
 
 same-length : tie.Need-same-length
 same-length c = search needs

@@ -3,16 +3,19 @@ use mathlib.Core.Path.{_≡_, refl, sym, ap, _∙_}
 use Prim.Native.Nat.{_-_, _≤_}
 use native.Mathlib.Omega.{arith}
 use lib.ListN.{length}
-use Rattle.model.specs.Table.{slots}
+use Rattle.model.specs.Table.{slots, link}
+use Rattle.model.specs.Orbit.{bit, orbit}
 use Rattle.reach.specs.Search.{Search, searchOf}
-use Rattle.reach.proofs.Flooding.{Flooding, Gone, gone-none, begin-asks, begun, fits, steps-ask, turned, ended}
+use Rattle.reach.proofs.Flooding.{Flooding, Gone, gone-none, flooding-space, flooding-fits, found-on, turned, ended}
+use Rattle.reach.proofs.Meeting.{linked}
+use Rattle.reach.proofs.Reached.{spread, begin-asks, begins}
 use Rattle.reach.proofs.orbit.Statement.{statement}
 use Rattle.reach.proofs.orbit.Tie as tie
 
 abbrev Inv-loop : tie.InvT-loop
 Inv-loop n table marks₀ queue₀ mask d head₀ tail₀ marks queue head tail =
-    Flooding n table mask d (searchOf marks queue tail) × Gone table mask (searchOf marks queue tail) head
-    × (length queue ≡ length queue₀)
+    Flooding (slots table) d (orbit n table mask d) (searchOf marks queue tail)
+    × Gone (bit mask) (link table) 4 (searchOf marks queue tail) head × (length queue ≡ length queue₀)
 
 abbrev μ-loop : tie.MeasureT-loop
 μ-loop n table marks₀ queue₀ mask d head₀ tail₀ marks queue head tail = slots table - head
@@ -34,7 +37,7 @@ now a = searchOf (a .loop .marks) (a .loop .queue) (a .loop .tail)
 inside : (a : At) →
     let k = slots (start (first a) .args .table .now) in
     (a .loop .tail ≤ k) × (k ≤ 65536) × (a .loop .tail ≤ length (a .loop .queue))
-inside a = let (g, bound) = start (first a) .pre in fits g bound (now a) (a .loop .inv .0)
+inside a = let (few, room) = flooding-fits (now a) (a .loop .inv .0) in (few, start (first a) .pre .0 .table .few, room)
 
 begin-requires : tie.Need-begin-requires Inv-loop μ-loop
 begin-requires c κs = let (g, bound) = c .before .before .before .before .before .pre in begin-asks g bound
@@ -43,7 +46,7 @@ loop-holds : tie.Need-loop-holds Inv-loop μ-loop
 loop-holds c =
     let b = c .before .before .before .before in
     let (g, bound) = start b .pre in
-    (begun g bound (b .begin .ensures), gone-none _ _ _, refl)
+    (begins g bound (b .begin .ensures), gone-none _ _ _ _, refl)
 
 mul-x : tie.Need-mul-x Inv-loop μ-loop
 mul-x c = let i = inside (c .before) in omega arith
@@ -59,7 +62,12 @@ expand-requires c κs =
     let i = c .before .before .before in
     let a = i .before in
     let (g, bound) = start (first a) .pre in
-    steps-ask g bound (now a) (a .loop .inv .0) (a .loop .head) (i .loop-test .taken)
+    let f = a .loop .inv .0 in
+    record {
+      linked = linked (g .table);
+      space = flooding-space (now a) f;
+      lives = found-on (spread g bound) (now a) f (a .loop .head) (i .loop-test .taken);
+    }
 
 -- a turn's beginning, from its end
 abbrev turn : tie.After-slice-known7 Inv-loop μ-loop → tie.In-loop Inv-loop μ-loop
@@ -75,7 +83,7 @@ loop-again : tie.Need-loop-again Inv-loop μ-loop
 loop-again c =
     let a = turn c .before in
     let (g, bound) = start (first a) .pre in
-    let (f, gone, wide) = turned g bound (now a) (a .loop .head) (turn c .loop-test .taken) (a .loop .inv .0) (a .loop .inv .1) in
+    let (f, gone, wide) = turned (spread g bound) (now a) (a .loop .head) (turn c .loop-test .taken) (a .loop .inv .0) (a .loop .inv .1) in
     let e = c .before .before .before .before .expand .ensures in
     (rw e f, rw e gone, ap (λ (s : Search). length (s .queue)) e ∙ wide ∙ a .loop .inv .2)
 
@@ -95,7 +103,7 @@ returns : tie.Need-returns Inv-loop μ-loop
 returns c =
     let a = c .before in
     let (g, bound) = start (first a) .pre in
-    ended g bound (now a) (a .loop .head) (c .loop-test .left) (a .loop .inv .0) (a .loop .inv .1)
+    ended (spread g bound) (now a) (a .loop .head) (c .loop-test .left) (a .loop .inv .0) (a .loop .inv .1)
 
 pub orbit-spec : {M : Type 1} → statement M
 orbit-spec =

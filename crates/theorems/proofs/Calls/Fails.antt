@@ -28,14 +28,13 @@ use Rattle.model.specs.Meaning.Numbers.{JournalRule, StepFails}
 use Rattle.model.specs.Meaning.Pairings.{Pairing}
 use Rattle.model.specs.Meaning.Sets.{Marked}
 use Rattle.model.specs.Meaning.Sheets.{Crossing}
-use Rattle.model.specs.Meaning.Walls.{BadMark, Leaves, Needed}
+use Rattle.model.specs.Meaning.Walls.{BadMark, Leaves, Needed, Drawn}
 use Rattle.theorems.proofs.Lists.Scan.{clash, or-false}
 use Rattle.theorems.proofs.Maps.Rules.{map-of, of-map}
 use Rattle.theorems.proofs.Maps.Broken.{broken-first, of-broken}
 use Rattle.theorems.proofs.Cells.Exact.{block-exactly}
 use Rattle.theorems.proofs.Sewing.Pairing.{paired-exactly}
 use Rattle.theorems.proofs.Layers.Sheet.{crosses-some}
-use Rattle.theorems.proofs.Insert.Turn.{Drawn}
 use Rattle.theorems.proofs.Insert.Fails.{drawn-false, enclosed-false, sewn-wall-false, turns-false, connected-false}
 use Rattle.theorems.proofs.History.Broken.{unbroken-exactly}
 use Rattle.theorems.proofs.Calls.Tests.{not-fails, and-fails, or-fails, leb-fails, ltb-fails, eqb-fails, eqb-holds}

@@ -31,12 +31,11 @@ use Rattle.model.specs.Meaning.Maps.{Dim, MapTable, BlockTable}
 use Rattle.model.specs.Meaning.Pairings.{OnSide, Sewable}
 use Rattle.model.specs.Meaning.Sets.{Marked}
 use Rattle.model.specs.Meaning.Sheets.{BlockDart}
-use Rattle.model.specs.Meaning.Walls.{Inserts}
+use Rattle.model.specs.Meaning.Walls.{Drawn, Inserts}
 use Rattle.theorems.proofs.Lists.Scan.{clash, test, and-l, and-r, or-cases}
 use Rattle.theorems.proofs.Maps.Rules.{map-of}
 use Rattle.theorems.proofs.Maps.Broken.{each-rule, some-broken, of-broken}
 use Rattle.theorems.proofs.Cells.Exact.{block-of}
-use Rattle.theorems.proofs.Insert.Turn.{Drawn}
 use Rattle.theorems.proofs.Insert.Wall.{drawn-by}
 use Rattle.theorems.proofs.Calls.Tests.{or-holds}
 use Rattle.theorems.proofs.Calls.Checks.{must-at-0, not-pass, passed-at, passed-number, passed-append}
@@ -135,7 +134,7 @@ table-of n t a b c =
     let long = table-pass t b in
     record { dim = dim; whole = long .0; few = long .1; map = map-of n t (dim .1) (map-pass n t (dim .1) c) }
 
-block-table-of : (n : ℕ) (t : List ℕ) → dimOk n ≡ pass → tableOk t ≡ pass → RulesPass n t → blockOk n t ≡ pass → BlockTable n t
+pub block-table-of : (n : ℕ) (t : List ℕ) → dimOk n ≡ pass → tableOk t ≡ pass → RulesPass n t → blockOk n t ≡ pass → BlockTable n t
 block-table-of n t a b c d = block-of n t (table-of n t a b c) (block-pass n t d)
 
 pub record AddPassed (n : ℕ) (t : List ℕ) : Type 0 where

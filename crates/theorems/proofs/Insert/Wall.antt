@@ -19,7 +19,7 @@ use Rattle.model.specs.Wall.{endsFree, next, drawn, closedAt, enclosed, sewnWal
 use Rattle.model.specs.Wall.{wallTable, wallReached, connected}
 use Rattle.model.specs.Meaning.Maps.{BlockTable, Dim, Rule}
 use Rattle.model.specs.Meaning.Sets.{Marked, Bits, LeastSet, Least, ByLink}
-use Rattle.model.specs.Meaning.Walls.{Wall, Clear, Joined, Inserts}
+use Rattle.model.specs.Meaning.Walls.{Drawn, WallStep, Wall, Clear, Joined, Inserts}
 use Rattle.theorems.proofs.Lists.Scan.{if-eq, if-lt, and-l, and-r, and-i, or-cases, below-at}
 use Rattle.theorems.proofs.Lists.Ones.{getD-in, ones-of, ones-in, each-at, marked-pass}
 use Rattle.theorems.proofs.Sets.Closure.{closure-least, marked-in}
@@ -28,20 +28,20 @@ use Rattle.theorems.proofs.Maps.Rules.{link-retable, slots-retable, at-
 use Rattle.theorems.proofs.Maps.Tables.{mapTable, rule-at}
 use Rattle.theorems.proofs.Sewing.Side.{on-side, side-own, side-far}
 use Rattle.theorems.proofs.Cells.Chart.{block-straight}
-use Rattle.theorems.proofs.Insert.Turn.{Drawn, moves-on, next-on, next-back, next-far, next-free}
+use Rattle.theorems.proofs.Insert.Turn.{moves-on, next-on, next-back, next-far, next-free}
 
 -- ---- 28 and 29
 
+pub marked-live : (t m : List ℕ) → length m ≡ slots t → drawn t m ≡ true → (x : ℕ) → Marked m x → live t x ≡ true
+unfolding drawn
+marked-live t m long drawing x h =
+    let low = marked-in m x h in
+    let row = below-at (λ d. eqb (getD m d 0) 0 || (eqb (getD m d 0) 1 && live t d)) (slots t) drawing x (rw long at low) in
+    ⊎-elim (λ e. absurd (let z = eqb-true (getD m x 0) 0 e in omega arith)) (and-r (eqb (getD m x 0) 1) (live t x))
+    (or-cases (eqb (getD m x 0) 0) _ row)
+
 module _ {n : ℕ} {t : List ℕ} (m : List ℕ) (B : BlockTable n t) (long : length m ≡ slots t) (drawing : drawn t m ≡ true)
     (enclosing : enclosed n t m ≡ true) where
-  lives : (x : ℕ) → Marked m x → live t x ≡ true
-  unfolding drawn
-  lives x h =
-      let low = marked-in m x h in
-      let row = below-at (λ d. eqb (getD m d 0) 0 || (eqb (getD m d 0) 1 && live t d)) (slots t) drawing x (rw long at low) in
-      ⊎-elim (λ e. absurd (let z = eqb-true (getD m x 0) 0 e in omega arith)) (and-r (eqb (getD m x 0) 1) (live t x))
-      (or-cases (eqb (getD m x 0) 0) _ row)
-
   bits : Bits m
   unfolding drawn
   bits x = if-lt x (slots t)
@@ -50,7 +50,7 @@ module _ {n : ℕ} {t : List ℕ} (m : List ℕ) (B : BlockTable n t) (long : le
       ⊎-elim (λ e. inl (eqb-true _ _ e)) (λ e. inr (eqb-true _ _ (and-l (eqb (getD m x 0) 1) _ e))) (or-cases (eqb (getD m x 0) 0) _ row))
       (λ high. inl (List·getD-eq-default m 0 (omega arith)))
 
-  some-dart : 0 < length (ones m)
+  pub some-dart : 0 < length (ones m)
   unfolding enclosed
   some-dart = ltb-true _ _ (and-l (ltb 0 (length (ones m))) _ enclosing)
 
@@ -64,16 +64,12 @@ module _ {n : ℕ} {t : List ℕ} (m : List ℕ) (B : BlockTable n t) (long : le
   pub drawn-by : Drawn n t m
   drawn-by = record {
     table = B;
-    lives = lives;
+    lives = marked-live t m long drawing;
     along = λ x j far. closed x j (omega arith) (omega arith);
     over = λ x. let two = B .dim .0 in closed x n (le-refl n) (omega arith);
   }
 
 -- ---- 32
-
--- y is one step away from x: by a link 0..n-2 or n, or by next
-abbrev pub WallStep : ℕ → List ℕ → List ℕ → ℕ → ℕ → Type 0
-WallStep n t m x y = ByLink t (λ j. (j ≤ n) × (j ≢ n - 1)) x y ⊎ (y ≡ next n t m x)
 
 module _ (n : ℕ) (t m : List ℕ) (dim : Dim n) (whole : length t ≡ 4 * slots t) where
   joint-slots : slots (wallTable n t m) ≡ slots t
@@ -182,7 +178,7 @@ module _ {n : ℕ} {t m : List ℕ} (I : Inserts n t m) where
   rule = rule-at (mapTable B)
 
   lives-on : (x : ℕ) → Marked m x → live t x ≡ true
-  lives-on = lives m B (I .long) (I .drawn) (I .enclosed)
+  lives-on = marked-live t m (I .long) (I .drawn)
 
   -- not empty
   pub wall-some : 0 < length (ones m)

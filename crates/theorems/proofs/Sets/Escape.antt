@@ -1,6 +1,7 @@
 -- A walk whose step is one-to-one on a set of slots, and that begins where no step of the set leads, leaves the set: `escapes`.
+-- A walk that leaves comes nearer to its end with each step: `step-nearer`.
 use Prim.Native.Nat.{ℕ, zero, suc, _+_, _≤_, _<_}
-use mathlib.Core.Path.{_≡_, refl, ap, _∙_}
+use mathlib.Core.Path.{_≡_, refl, sym, ap, _∙_}
 use mathlib.Core.Logic.{_⊎_, inl, inr, ⊎-elim}
 use mathlib.Core.Bool.{Bool, true, false}
 use mathlib.Core.List.{List, [], _∷_, List·Memᴰ as In, List·Memᴰ·not-nil as not-nil, List·Memᴰ·cases-cons as in-cons}
@@ -9,7 +10,7 @@ use native.Mathlib.Omega.{arith}
 use lib.ListN.{length, replicate, getD-replicate}
 use Rattle.model.specs.Lists.{count}
 use Rattle.model.specs.Meaning.Lists.{Distinct, none, more}
-use Rattle.theorems.proofs.Lists.Scan.{test}
+use Rattle.theorems.proofs.Lists.Scan.{test, clash}
 use Rattle.theorems.proofs.Sets.Pigeon.{distinct-le}
 
 count-ones : (n : ℕ) → count 1 (replicate n 1) ≡ n
@@ -79,3 +80,56 @@ module _ {size : ℕ} {set : ℕ → Bool} {step : ℕ → ℕ} {start : ℕ} (w
 
   pub escapes : set (leave set step size start) ≡ false
   escapes = leave-out size start [] begin (omega arith)
+
+-- ---- the walk step by step
+
+-- how many steps from y lead out of the set, of as many as the fuel allows
+unfoldable pub stepsOut : (ℕ → Bool) → (ℕ → ℕ) → ℕ → ℕ → ℕ
+stepsOut set step zero y = 0
+stepsOut set step (suc fuel) y = elim (set y) [ true ↦ suc (stepsOut set step fuel (step y)) | false ↦ 0 ]
+
+module _ (set : ℕ → Bool) (step : ℕ → ℕ) where
+  -- the walk from y leaves the set within the fuel
+  abbrev pub Leaves : ℕ → ℕ → Type 0
+  Leaves fuel y = set (leave set step fuel y) ≡ false
+
+  pub leave-stops : (fuel y : ℕ) → set y ≡ false → leave set step fuel y ≡ y
+  unfolding leave
+  leave-stops zero y e = refl
+  leave-stops (suc fuel) y e = rw (e, leave)
+
+  leave-on : (fuel y : ℕ) → set y ≡ true → leave set step (suc fuel) y ≡ leave set step fuel (step y)
+  unfolding leave
+  leave-on fuel y e = rw (e, leave)
+
+  steps-on : (fuel y : ℕ) → set y ≡ true → stepsOut set step (suc fuel) y ≡ suc (stepsOut set step fuel (step y))
+  unfolding stepsOut
+  steps-on fuel y e = rw (e, stepsOut)
+
+  -- more fuel than it takes changes nothing
+  more-fuel : (fuel y : ℕ) → Leaves fuel y
+      → (leave set step (suc fuel) y ≡ leave set step fuel y) × (stepsOut set step (suc fuel) y ≡ stepsOut set step fuel y)
+  unfolding leave stepsOut
+  more-fuel zero y e = (leave-stops 1 y e, rw (e, stepsOut))
+  more-fuel (suc fuel) y e =
+      let rec = more-fuel fuel (step y) in
+      test (set y)
+      (λ h.
+      let on = leave-on fuel y h in
+      let (same, near) = rec (ap set (sym on) ∙ e) in
+      (leave-on (suc fuel) y h ∙ same ∙ sym on, steps-on (suc fuel) y h ∙ ap suc near ∙ sym (steps-on fuel y h)))
+      (λ h. (leave-stops (suc (suc fuel)) y h ∙ sym (leave-stops (suc fuel) y h), rw (h, stepsOut)))
+
+  -- the walk ends where it ends from y, and fewer steps are left from z
+  pub record Nearer (fuel y z : ℕ) : Type 0 where
+    pub same : leave set step fuel z ≡ leave set step fuel y
+    pub fewer : stepsOut set step fuel z < stepsOut set step fuel y
+
+  pub step-nearer : (fuel y : ℕ) → Leaves fuel y → set y ≡ true → Nearer fuel y (step y)
+  unfolding leave
+  step-nearer zero y e h = absurd (clash h e)
+  step-nearer (suc fuel) y e h =
+      let on = leave-on fuel y h in
+      let (same, near) = more-fuel fuel (step y) (ap set (sym on) ∙ e) in
+      let far = steps-on fuel y h in
+      record { same = same ∙ sym on; fewer = omega arith }

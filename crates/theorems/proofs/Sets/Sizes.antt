@@ -1,5 +1,6 @@
 -- Sizes of sets of slots: a map of one set to another compares them.
--- `size-into`: by a one-to-one map; `size-onto`: by one that meets each slot. `length-ones`: the places of the ones are as many, and no more than the slots (`ones-few`).
+-- `size-into`: by a one-to-one map; `size-onto`: by one that meets each slot. `size-within`: a set within another that is no larger has
+-- all of it. `length-ones`: the places of the ones are as many, and no more than the slots (`ones-few`).
 use Prim.Native.Nat.{ℕ, suc, _≤_}
 use mathlib.Core.Path.{_≡_, refl, sym, ap, _∙_}
 use mathlib.Core.Logic.{_≢_}
@@ -7,12 +8,13 @@ use mathlib.Core.Bool.{Bool, true, false}
 use mathlib.Core.List.{List, [], _∷_, map, List·Memᴰ as In, List·Memᴰ·head as here, List·Memᴰ·tail as there}
 use mathlib.Core.List.{Memᴰ·cast as in-cast, Memᴰ·map as in-map}
 use native.Mathlib.Omega.{arith}
-use lib.ListN.{length, set, length-map}
+use lib.ListN.{length, getD, set, length-map}
 use lib.Seq.{getD-set-other}
 use lib.Dec.{eqb}
 use Rattle.model.specs.Lists.{count, onesFrom, ones}
 use Rattle.model.specs.Meaning.Lists.{Distinct, more}
 use Rattle.model.specs.Meaning.Sets.{Marked}
+use Rattle.theorems.proofs.Lists.Scan.{if-eq}
 use Rattle.theorems.proofs.Lists.Ones.{ones-of, ones-in, ones-distinct}
 use Rattle.theorems.proofs.Sets.Pigeon.{count-most, count-drop, cover}
 
@@ -53,3 +55,11 @@ module _ (f : ℕ → ℕ) where
         let all : (y : ℕ) → Marked r y → In y (map f (ones s))
         = λ y h. let x = onto y h in in-cast (sym (x .2)) (in-map f (ones-in s (x .0) (x .1))) in
         rw (length-map (ones s) f, length-ones s 0) at (cover (map f (ones s)) r all)
+
+-- a set within another that is no larger has all of it
+pub size-within : (r s : List ℕ) → ((x : ℕ) → Marked r x → Marked s x) → count 1 s ≤ count 1 r → (x : ℕ) → Marked s x → Marked r x
+size-within r s within few x i = if-eq (getD r x 0) 1 (λ e. e) (λ out.
+    let one = count-drop s x i in
+    let most = size-into (λ y. y) r (set s x 0) (λ y z _ _ e. e)
+    (λ y k. getD-set-other s x y 0 0 (λ e. out (ap (λ (z : ℕ). getD r z 0) (sym e) ∙ k)) ∙ within y k) in
+    absurd (omega arith))
