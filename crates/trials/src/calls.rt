@@ -9,11 +9,11 @@ use crate::stage;
 use crate::stage::Stage;
 
 // With a word of the journal and a value for it: that is its value for this call.
-pub fn call(s: Stage, row: Row, table: &mut [u32], journal: &mut [u32]) {
+pub fn call(s: Stage, row: Row, table: &mut [u32], drawn: &mut [u8], journal: &mut [u32]) {
     let at = word_of(row);
     let kept = stage::word(journal, at);
     stage::put(journal, at, row.c);
-    lend(s, asked(row), table, journal);
+    lend(s, asked(row), table, drawn, journal);
     stage::put(journal, at, kept);
 }
 
@@ -33,7 +33,7 @@ fn asked(row: Row) -> Row {
     }
     Row {
         kind: if row.kind >= lines::UNDO_WITH {
-            row.kind - 2
+            row.kind - 3
         } else {
             row.kind
         },
@@ -43,10 +43,23 @@ fn asked(row: Row) -> Row {
     }
 }
 
-// Each call is lent marks that are 9.
-fn lend(s: Stage, row: Row, table: &mut [u32], journal: &mut [u32]) {
+// Each call is lent marks that are 9, but insert those that are drawn.
+fn lend(s: Stage, row: Row, table: &mut [u32], drawn: &mut [u8], journal: &mut [u32]) {
+    if row.kind == lines::INSERT {
+        lend_some(s, row, table, drawn, journal);
+    } else {
+        lend_nines(s, row, table, journal);
+    }
+}
+
+fn lend_nines(s: Stage, row: Row, table: &mut [u32], journal: &mut [u32]) {
     let mut marks = [9u8; 65537];
-    let slots = few(&marks, s.marks);
+    lend_some(s, row, table, &mut marks, journal);
+}
+
+// The first of these marks are lent.
+fn lend_some(s: Stage, row: Row, table: &mut [u32], marks: &mut [u8], journal: &mut [u32]) {
+    let slots = few(marks, s.marks);
     ask(s.n, s.tag, row, table, &mut marks[..slots], journal);
 }
 
@@ -62,7 +75,7 @@ fn few(marks: &[u8], most: usize) -> usize
 }
 
 fn ask(n: u32, tag: u32, row: Row, table: &mut [u32], marks: &mut [u8], journal: &mut [u32]) {
-    let a = requests::request(n, table, marks, journal, row.kind, tag, row.a, row.b, row.c);
+    let a = requests::any_request(n, table, marks, journal, row.kind, tag, row.a, row.b, row.c);
     shows::answer(a.number, a.place, a.count);
     left(row.kind, table, marks, journal);
 }
@@ -81,7 +94,7 @@ fn left(kind: u32, table: &[u32], marks: &[u8], journal: &[u32]) {
 
 fn has_marks(kind: u32) -> bool {
     match kind {
-        lines::ORBIT | lines::SHEET | lines::REMOVE | lines::SPLIT => true,
+        lines::ORBIT | lines::SHEET | lines::REMOVE | lines::SPLIT | lines::INSERT => true,
         _ => false,
     }
 }

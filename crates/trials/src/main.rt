@@ -12,36 +12,37 @@ mod lines;
 mod shows;
 mod stage;
 
-// The largest table of 01 has 262,144 words.
+// The largest table of 01 has 262,144 words. The marks are those that `mark` lines draw.
 fn main() {
     let mut table = [0u32; 262148];
+    let mut marks = [0u8; 65537];
     let mut journal = [0u32; 8192];
-    play(&mut table, &mut journal);
+    play(&mut table, &mut marks, &mut journal);
 }
 
 // As many lines as a script may have; behind its end there is nothing to do.
-fn play(table: &mut [u32], journal: &mut [u32]) {
+fn play(table: &mut [u32], marks: &mut [u8], journal: &mut [u32]) {
     let mut s = stage::EMPTY;
     let mut left: u32 = 65536;
     while left > 0 {
-        s = turn(s, table, journal);
+        s = turn(s, table, marks, journal);
         left -= 1;
     }
 }
 
-fn turn(s: Stage, table: &mut [u32], journal: &mut [u32]) -> Stage {
+fn turn(s: Stage, table: &mut [u32], marks: &mut [u8], journal: &mut [u32]) -> Stage {
     let row = lines::heard();
     let now = stage::next(s, row);
-    lend(now, row, table, journal);
+    lend(now, row, table, marks, journal);
     shows::line_end(row.kind);
     now
 }
 
-// The beginnings of the buffers are lent.
-fn lend(s: Stage, row: Row, table: &mut [u32], journal: &mut [u32]) {
+// The beginnings of table and journal are lent.
+fn lend(s: Stage, row: Row, table: &mut [u32], marks: &mut [u8], journal: &mut [u32]) {
     let entries = few(table, s.entries);
     let words = few(journal, s.words);
-    act(s, row, &mut table[..entries], &mut journal[..words]);
+    act(s, row, &mut table[..entries], marks, &mut journal[..words]);
 }
 
 // So many words; if there are not so many, a question mark and none.
@@ -55,11 +56,12 @@ fn few(words: &[u32], most: usize) -> usize
     0
 }
 
-fn act(s: Stage, row: Row, table: &mut [u32], journal: &mut [u32]) {
+fn act(s: Stage, row: Row, table: &mut [u32], marks: &mut [u8], journal: &mut [u32]) {
     if row.kind < lines::LINKS {
-        calls::call(s, row, table, journal);
+        calls::call(s, row, table, marks, journal);
     } else {
         stage::set_table(row, table);
+        stage::set_marks(row, marks);
         stage::set_journal(row, journal);
         shows::show(row, table, journal);
     }

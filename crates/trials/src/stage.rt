@@ -55,7 +55,7 @@ pub fn next(s: Stage, row: Row) -> Stage {
     }
 }
 
-// ---- what a line does to the words that are lent
+// ---- what a line does to the words and marks that are lent
 
 // A scene has unused slots.
 pub fn set_table(row: Row, table: &mut [u32]) {
@@ -74,6 +74,16 @@ pub fn set_journal(row: Row, journal: &mut [u32]) {
         lines::SCENE => fresh(journal),
         lines::WRITE => put(journal, row.b as usize, row.c),
         lines::FILL => fill(journal, row.a as usize, row.b as usize, row.c),
+        _ => {}
+    }
+}
+
+// The marks that insert is lent.
+pub fn set_marks(row: Row, marks: &mut [u8]) {
+    let kind = row.kind;
+    match kind {
+        lines::SCENE => draw(marks, 0, marks.len(), 0),
+        lines::MARK => draw(marks, row.a as usize, row.b as usize, (row.c % 256) as u8),
         _ => {}
     }
 }
@@ -102,6 +112,18 @@ fn tile(table: &mut [u32], first: u32, width: u32) {
 fn fill(words: &mut [u32], a: usize, e: usize, value: u32) {
     for k in a..e {
         put(words, k, value);
+    }
+}
+
+fn draw(marks: &mut [u8], a: usize, e: usize, mark: u8) {
+    for k in a..e {
+        put_mark(marks, k, mark);
+    }
+}
+
+fn put_mark(marks: &mut [u8], at: usize, mark: u8) {
+    if at < marks.len() {
+        marks[at] = mark;
     }
 }
 
