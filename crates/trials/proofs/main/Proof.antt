@@ -10,7 +10,10 @@ slice-aggregate-play : tie.Need-slice-aggregate-play
 slice-aggregate-play c = sym (length-replicate {A = ℕ} 262148 0)
 
 slice-aggregate-play-2 : tie.Need-slice-aggregate-play-2
-slice-aggregate-play-2 c = sym (length-replicate {A = ℕ} 8192 0)
+slice-aggregate-play-2 c = sym (length-replicate {A = ℕ} 65537 0)
+
+slice-aggregate-play-3 : tie.Need-slice-aggregate-play-3
+slice-aggregate-play-3 c = sym (length-replicate {A = ℕ} 8192 0)
 
 play-requires : tie.Need-play-requires
 play-requires c κs = search needs
@@ -19,4 +22,4 @@ returns : tie.Need-returns
 returns c = search needs
 
 pub main-spec : {M : Type 1} → statement M
-main-spec = tie.close (tie.spec slice-aggregate-play slice-aggregate-play-2 play-requires returns)
+main-spec = tie.close (tie.spec slice-aggregate-play slice-aggregate-play-2 slice-aggregate-play-3 play-requires returns)

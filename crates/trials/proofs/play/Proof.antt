@@ -6,10 +6,11 @@ use Rattle.trials.proofs.play.Statement.{statement}
 use Rattle.trials.proofs.play.Tie as tie
 
 abbrev Inv-loop : tie.InvT-loop
-Inv-loop table₀ journal₀ s₀ left₀ table journal s left = (length table ≡ length table₀) × (length journal ≡ length journal₀)
+Inv-loop table₀ marks₀ journal₀ s₀ left₀ table marks journal s left =
+    (length table ≡ length table₀) × (length marks ≡ length marks₀) × (length journal ≡ length journal₀)
 
 abbrev μ-loop : tie.MeasureT-loop
-μ-loop table₀ journal₀ s₀ left₀ table journal s left = left
+μ-loop table₀ marks₀ journal₀ s₀ left₀ table marks journal s left = left
 
 loop-holds : tie.Need-loop-holds Inv-loop μ-loop
 loop-holds c = search needs
@@ -32,6 +33,9 @@ same-length c = search needs
 same-length-2 : tie.Need-same-length-2 Inv-loop μ-loop
 same-length-2 c = search needs
 
+same-length-3 : tie.Need-same-length-3 Inv-loop μ-loop
+same-length-3 c = search needs
+
 returns : tie.Need-returns Inv-loop μ-loop
 returns c = search needs
 
@@ -48,4 +52,5 @@ play-spec =
     loop-again
     same-length
     same-length-2
+    same-length-3
     returns)
