@@ -9,7 +9,7 @@
 
 DEFINE_RUN(run_yard, yard_)
 
-enum { SLOTS = MAX_SLOTS + 1, WORDS = 8192, LINE = 1000, MOST_NUMBERS = 3 };
+enum { SLOTS = MAX_SLOTS + 1, WORDS = 443000, LINE = 1000, MOST_NUMBERS = 3 };
 
 static uint32_t table[4 * SLOTS], journal[WORDS];
 static uint8_t marks[SLOTS], drawn[SLOTS];
@@ -96,6 +96,8 @@ static void play_tile(uint32_t first, uint32_t width)
 {
     for (size_t k = 4 * (size_t)(first + width); k < given.table_len; k++)
         table[k] = table[k - 4 * (size_t)width] + width;
+    for (size_t d = (size_t)first + width; d < given.table_len / 4; d++)
+        drawn[d] = drawn[d - width];
 }
 
 /* Whether the line has this first word and so many numbers. */

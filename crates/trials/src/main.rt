@@ -16,7 +16,7 @@ mod stage;
 fn main() {
     let mut table = [0u32; 262148];
     let mut marks = [0u8; 65537];
-    let mut journal = [0u32; 8192];
+    let mut journal = [0u32; 443000];
     play(&mut table, &mut marks, &mut journal);
 }
 
@@ -61,7 +61,7 @@ fn act(s: Stage, row: Row, table: &mut [u32], marks: &mut [u8], journal: &mut [u
         calls::call(s, row, table, marks, journal);
     } else {
         stage::set_table(row, table);
-        stage::set_marks(row, marks);
+        stage::set_marks(row, table.len() / 4, marks);
         stage::set_journal(row, journal);
         shows::show(row, table, journal);
     }

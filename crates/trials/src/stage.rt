@@ -78,12 +78,13 @@ pub fn set_journal(row: Row, journal: &mut [u32]) {
     }
 }
 
-// The marks that insert is lent.
-pub fn set_marks(row: Row, marks: &mut [u8]) {
+// The marks that insert is lent; those of the table's slots are tiled with it.
+pub fn set_marks(row: Row, slots: usize, marks: &mut [u8]) {
     let kind = row.kind;
     match kind {
         lines::SCENE => draw(marks, 0, marks.len(), 0),
         lines::MARK => draw(marks, row.a as usize, row.b as usize, (row.c % 256) as u8),
+        lines::TILE => tile_marks(marks, row.b, row.c, slots),
         _ => {}
     }
 }
@@ -119,6 +120,20 @@ fn draw(marks: &mut [u8], a: usize, e: usize, mark: u8) {
     for k in a..e {
         put_mark(marks, k, mark);
     }
+}
+
+// The marks behind the `width` ones from `first` on repeat these.
+fn tile_marks(marks: &mut [u8], first: u32, width: u32, e: usize) {
+    let back = width as usize;
+    let from = (first as usize) + back;
+    for k in from..e {
+        let mark = mark_at(marks, std::num::wrapping_sub_usize(k, back));
+        put_mark(marks, k, mark);
+    }
+}
+
+fn mark_at(marks: &[u8], at: usize) -> u8 {
+    if at < marks.len() { marks[at] } else { 0 }
 }
 
 fn put_mark(marks: &mut [u8], at: usize, mark: u8) {

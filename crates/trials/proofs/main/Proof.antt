@@ -13,7 +13,7 @@ slice-aggregate-play-2 : tie.Need-slice-aggregate-play-2
 slice-aggregate-play-2 c = sym (length-replicate {A = ℕ} 65537 0)
 
 slice-aggregate-play-3 : tie.Need-slice-aggregate-play-3
-slice-aggregate-play-3 c = sym (length-replicate {A = ℕ} 8192 0)
+slice-aggregate-play-3 c = sym (length-replicate {A = ℕ} 443000 0)
 
 play-requires : tie.Need-play-requires
 play-requires c κs = search needs
