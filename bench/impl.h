@@ -8,10 +8,10 @@
 #include "../include/phlernsap.h"
 #include "yardstick.h"
 
-enum call { CHECK, ORBIT, SHEET, ADD, SEW, UNSEW, REMOVE, SPLIT, UNDO, REDO, CALLS };
+enum call { CHECK, ORBIT, SHEET, ADD, SEW, UNSEW, REMOVE, SPLIT, INSERT, UNDO, REDO, CALLS };
 
 static const char *const call_name[CALLS] = {
-    "check", "orbit", "sheet", "add", "sew", "unsew", "remove", "split", "undo", "redo",
+    "check", "orbit", "sheet", "add", "sew", "unsew", "remove", "split", "insert", "undo", "redo",
 };
 
 typedef struct { uint32_t no, place, count; } answer;
@@ -58,6 +58,9 @@ typedef struct {
         case SPLIT:                                                                               \
             return PREFIX##split(q->n, q->table, q->table_len, q->marks, q->marks_len,            \
                                  q->journal, q->journal_len, q->tag, q->d, place, count);         \
+        case INSERT:                                                                              \
+            return PREFIX##insert(q->n, q->table, q->table_len, q->marks, q->marks_len,           \
+                                  q->journal, q->journal_len, q->tag, place, count);              \
         case UNDO:                                                                                \
             return PREFIX##undo(q->n, q->table, q->table_len, q->journal, q->journal_len, place,  \
                                 count);                                                           \

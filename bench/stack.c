@@ -56,10 +56,20 @@ static void measure(enum call call, uint32_t n, uint32_t slots, uint32_t i, uint
     printf("stack %s %u %u %zu number %u\n", call_name[call], n, slots, whole - base, q.i);
 }
 
+/* A wall where split cut the cells, its new darts being those from `first` on: the last of each n. */
+static void draw_cut(uint32_t n, uint32_t first, uint32_t slots)
+{
+    memset(marks, 0, slots);
+    for (uint32_t d = first + n - 1; d < slots && map_live(table, d); d += n)
+        marks[d] = 1;
+}
+
 /* Each call on a grid that leaves at least half of the slots unused. */
 static void measure_all(uint32_t n, const uint32_t grid[3], uint32_t slots)
 {
+    uint32_t place, count, d, e;
     map_grid(n, grid, table, slots);
+    uint32_t first = map_count_live(table, slots);
     journal[0] = journal[1] = 2;
     measure(CHECK, n, slots, 0, 0, 0);
     measure(ORBIT, n, slots, 0, 0, 0);
@@ -67,11 +77,14 @@ static void measure_all(uint32_t n, const uint32_t grid[3], uint32_t slots)
     measure(SPLIT, n, slots, 0, 0, 0);
     measure(UNDO, n, slots, 0, 0, 0);
     measure(REDO, n, slots, 0, 0, 0);
+    draw_cut(n, first, slots);
+    measure(INSERT, n, slots, 0, 0, 0);
+    request q = {UNDO, n, table, 4 * (size_t)slots, marks, slots, journal, MAX_JOURNAL,
+                 0, 0, 0, 0, 0};
+    run_test(&q, &place, &count);
     measure(REMOVE, n, slots, 0, 0, 0);
     measure(ADD, n, slots, 0, 0, 0);
-    uint32_t place, count, d, e;
-    request q = {ADD, n, table, 4 * (size_t)slots, marks, slots, journal, MAX_JOURNAL,
-                 0, 0, 0, 0, 0};
+    q.call = ADD;
     run_test(&q, &place, &count);
     d = place;
     run_test(&q, &place, &count);

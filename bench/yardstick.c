@@ -58,6 +58,7 @@ static uint32_t list[2 * MAX_SLOTS];     /* slots, rising */
 static uint32_t fresh[MAX_SLOTS];        /* unused slots, rising */
 static uint32_t where[MAX_SLOTS];        /* a word per slot */
 static uint32_t pairs[MAX_SLOTS][2];     /* a side and its partners */
+static uint32_t nexts[MAX_SLOTS];        /* next of each dart of a wall */
 
 /* ---------------------------------------------------------------- eight bytes at a time */
 
@@ -915,7 +916,7 @@ static uint32_t find_fresh(uint32_t slots, uint32_t need)
     return found;
 }
 
-/* New dart j (0 for a, 1 for b, 2 for c) of the sheet dart g. */
+/* New dart j (0 for a or p, 1 for b or q, 2 for c or r) of the dart g of a sheet or wall. */
 INLINE uint32_t new_dart(uint32_t g, uint32_t j)
 {
     return fresh[where[g] + j];
@@ -929,6 +930,22 @@ INLINE void set_row(uint32_t *table, uint32_t d, uint32_t l0, uint32_t l1, uint3
     r[1] = l1;
     r[2] = l2;
     r[3] = l3;
+}
+
+/* The triples of the old darts in list, whose links i were as in work, and of the new ones in
+ * fresh: two rising lists merged. */
+INLINE void put_old_and_new(uint32_t *restrict rec, const uint32_t *restrict table, uint32_t size,
+                            uint32_t need, uint32_t i)
+{
+    uint32_t q = 0;
+    for (uint32_t r = 0; r < size; r++) {
+        uint32_t g = list[r];
+        while (q < need && fresh[q] < g)
+            rec = put_new_row(rec, table, fresh[q++]);
+        rec = put(rec, 4 * g + i, work[r], ROW(table, g)[i]);
+    }
+    while (q < need)
+        rec = put_new_row(rec, table, fresh[q++]);
 }
 
 INLINE answer split_in(int n, uint32_t *restrict table, uint32_t slots, uint8_t *restrict marks,
@@ -972,20 +989,167 @@ INLINE answer split_in(int n, uint32_t *restrict table, uint32_t slots, uint8_t 
         row[0] = a;
     }
 
-    /* The record: two rising lists merged. */
-    uint32_t q = 0;
-    for (uint32_t r = 0; r < s.size; r++) {
-        uint32_t g = list[r];
-        while (q < need && fresh[q] < g)
-            rec = put_new_row(rec, table, fresh[q++]);
-        rec = put(rec, 4 * g, work[r], ROW(table, g)[0]);
-    }
-    while (q < need)
-        rec = put_new_row(rec, table, fresh[q++]);
+    put_old_and_new(rec, table, s.size, need, 0);
     return accept(fresh[0], need);
 }
 
-/* Gates 1 to 4 of remove and split: 0 or the number. */
+/* ---------------------------------------------------------------- insert */
+
+/* Whether each mark is 0 or 1, and 1 only on live slots, where seen is 1. */
+static int drawn(const uint8_t *marks, uint32_t slots)
+{
+    uint64_t wrong = 0;
+    uint32_t at = 0;
+    for (; slots - at >= 8; at += 8)
+        wrong |= eight(marks + at) & ~eight(seen + at);
+    for (; at < slots; at++)
+        wrong |= (uint64_t)(marks[at] & ~seen[at]);
+    return wrong == 0;
+}
+
+/* 29 or 30 for the wall in list, or 0. */
+INLINE uint32_t wall_fault(int n, const uint32_t *restrict table, const uint8_t *restrict marks,
+                           uint32_t size)
+{
+    int closed = size > 0, sewn = 1;
+    for (uint32_t x = 0; x < size; x++) {
+        const uint32_t *r = ROW(table, list[x]);
+        closed &= marks[r[0]] & marks[r[n]] & (n == 2 || marks[r[1]]);
+        sewn &= r[n] != list[x];
+    }
+    return !closed ? 29 : !sewn ? 30 : 0;
+}
+
+/* The wall dart that the turn from h meets, or h if a free side ends the turn: it never comes back
+ * to h otherwise, since no dart of a block cell is its own link n-1. */
+INLINE uint32_t turn_from(int n, const uint32_t *restrict table, const uint8_t *restrict marks,
+                          uint32_t h)
+{
+    uint32_t x = ROW(table, h)[n - 1];
+    while (!marks[x]) {
+        uint32_t y = ROW(table, x)[n];
+        if (y == x)
+            return h;
+        x = ROW(table, y)[n - 1];
+    }
+    return x;
+}
+
+/* Next of each dart of the wall. A turn leads back the way it came, and for n = 3 link 0 of h turns
+ * along with h, so each way is gone once; each dart outside the wall is on at most two of them. */
+INLINE void find_nexts(int n, const uint32_t *restrict table, const uint8_t *restrict marks,
+                       uint32_t size)
+{
+    for (uint32_t x = 0; x < size; x++)
+        nexts[list[x]] = NONE;
+    for (uint32_t x = 0; x < size; x++) {
+        uint32_t h = list[x];
+        if (nexts[h] != NONE)
+            continue;
+        uint32_t k = turn_from(n, table, marks, h);
+        nexts[h] = k;
+        nexts[k] = h;
+        if (n == 3) {
+            nexts[ROW(table, h)[0]] = ROW(table, k)[0];
+            nexts[ROW(table, k)[0]] = ROW(table, h)[0];
+        }
+    }
+}
+
+/* Whether what is needed of next holds. Where h and h.n both end free, next is the dart itself and
+ * passes too: h is not n-free, nor h.0, and its side is not folded. */
+INLINE int nexts_fit(int n, const uint32_t *table, uint32_t size)
+{
+    int fit = 1;
+    for (uint32_t x = 0; x < size; x++) {
+        const uint32_t *r = ROW(table, list[x]);
+        uint32_t k = nexts[list[x]];
+        fit &= (ROW(table, k)[n] == nexts[r[n]]) & (k != r[n]);
+        if (n == 3)
+            fit &= (k != r[0]) & (k != ROW(table, r[0])[n]);
+    }
+    return fit;
+}
+
+/* Whether links 0..n-2, n and next connect the wall: side by side, each once, from one to those
+ * that next leads to. Next goes along with link n, and for n = 3 with link 0, so one dart of each
+ * edge of a side is enough. seen is 2 where it was; then it is 1 again. */
+INLINE int wall_connected(int n, const uint32_t *restrict table, uint32_t size)
+{
+    uint32_t len = 0, reached = 0;
+    work[len++] = list[0];
+    while (len > 0) {
+        uint32_t h = work[--len];
+        if (seen[h] == 2)
+            continue;
+        for (int edge = 0; edge < (n == 3 ? 4 : 1); edge++) {
+            uint32_t g = ROW(table, h)[0];
+            seen[h] = seen[ROW(table, h)[n]] = seen[g] = seen[ROW(table, g)[n]] = 2;
+            reached += 4;
+            if (seen[nexts[h]] != 2)
+                work[len++] = nexts[h];
+            if (n == 2 && seen[nexts[g]] != 2)
+                work[len++] = nexts[g];
+            h = ROW(table, g)[1];
+        }
+    }
+    for (uint32_t x = 0; x < size; x++)
+        seen[list[x]] = 1;
+    return reached == size;
+}
+
+INLINE answer insert_in(int n, uint32_t *restrict table, uint32_t slots,
+                        const uint8_t *restrict marks, uint32_t *restrict journal,
+                        size_t journal_len, uint32_t tag)
+{
+    uint32_t fault = block_fault(n, table, slots);
+    if (fault != NONE)
+        return map_ok((uint32_t)n, table, slots) ? refuse_at(8, fault)
+                                                 : not_a_map((uint32_t)n, table, slots);
+    if (!drawn(marks, slots))
+        return refuse(28);
+    uint32_t size = gather(marks, slots, list), no = wall_fault(n, table, marks, size);
+    if (no)
+        return refuse(no);
+    find_nexts(n, table, marks, size);
+    if (!nexts_fit(n, table, size))
+        return refuse(31);
+    if (!wall_connected(n, table, size))
+        return refuse(32);
+    uint32_t need = NEW(n) * size;
+    if (find_fresh(slots, need) < need)
+        return refuse(14);
+    uint32_t *rec = begin_record(journal, journal_len, tag, size * (1 + 4 * NEW(n)));
+    if (!rec)
+        return refuse(15);
+
+    /* where[h] is the place of p(h) in fresh. One pass: link n of h is read by h alone, before it is
+     * written. The old values stay in work. */
+    for (uint32_t x = 0; x < size; x++)
+        where[list[x]] = NEW(n) * x;
+    for (uint32_t x = 0; x < size; x++) {
+        uint32_t h = list[x], k = nexts[h], *row = ROW(table, h);
+        const uint32_t *f = fresh + NEW(n) * x;
+        uint32_t p = f[0], q = f[1];
+        if (n == 3) {
+            uint32_t r = f[2];
+            set_row(table, p, new_dart(row[0], 0), new_dart(row[1], 0), q, h);
+            set_row(table, q, new_dart(row[0], 1), r, p, new_dart(k, 1));
+            set_row(table, r, new_dart(row[3], 2), q, new_dart(row[1], 2), new_dart(k, 2));
+        } else {
+            set_row(table, p, new_dart(row[0], 0), q, h, p);
+            set_row(table, q, new_dart(row[2], 1), p, new_dart(k, 1), q);
+        }
+        work[x] = row[n];
+        row[n] = p;
+    }
+    put_old_and_new(rec, table, size, need, (uint32_t)n);
+    return accept(fresh[0], need);
+}
+
+/* ---------------------------------------------------------------- the calls with a layer */
+
+/* Gates 1 to 4 of remove, split and insert: 0 or the number. */
 static uint32_t layer_gate(uint32_t n, size_t table_len, size_t marks_len,
                            const uint32_t *journal, size_t journal_len)
 {
@@ -1020,6 +1184,20 @@ uint32_t YARD(split)(uint32_t n, uint32_t *table, size_t table_len,
     uint32_t slots = (uint32_t)marks_len;
     return give(n == 3 ? split_in(3, table, slots, marks, journal, journal_len, tag, d)
                        : split_in(2, table, slots, marks, journal, journal_len, tag, d),
+                place, count);
+}
+
+uint32_t YARD(insert)(uint32_t n, uint32_t *table, size_t table_len,
+                      const uint8_t *marks, size_t marks_len,
+                      uint32_t *journal, size_t journal_len, uint32_t tag,
+                      uint32_t *place, uint32_t *count)
+{
+    uint32_t no = layer_gate(n, table_len, marks_len, journal, journal_len);
+    if (no)
+        return give(refuse(no), place, count);
+    uint32_t slots = (uint32_t)marks_len;
+    return give(n == 3 ? insert_in(3, table, slots, marks, journal, journal_len, tag)
+                       : insert_in(2, table, slots, marks, journal, journal_len, tag),
                 place, count);
 }
 

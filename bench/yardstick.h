@@ -37,6 +37,11 @@ uint32_t yard_split(uint32_t n, uint32_t *table, size_t table_len,
                    uint8_t *marks, size_t marks_len, uint32_t *journal, size_t journal_len,
                    uint32_t tag, uint32_t d, uint32_t *place, uint32_t *count);
 
+uint32_t yard_insert(uint32_t n, uint32_t *table, size_t table_len,
+                    const uint8_t *marks, size_t marks_len,
+                    uint32_t *journal, size_t journal_len, uint32_t tag,
+                    uint32_t *place, uint32_t *count);
+
 uint32_t yard_undo(uint32_t n, uint32_t *table, size_t table_len,
                   uint32_t *journal, size_t journal_len,
                   uint32_t *place, uint32_t *count);

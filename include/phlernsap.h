@@ -1,8 +1,9 @@
-/* phlernsap.h - a proved topology kernel for hexahedral blocking: ten calls over lent buffers.
- * Version 1.0.
+/* phlernsap.h - a proved topology kernel for hexahedral blocking: eleven calls over lent buffers.
+ * Version 1.1.
  *
  * This file is the manual for programs in C and C++. docs/REFERENCE.md has the same with drawings,
- * examples/c has programs: three_quads.c, and grid.c, which builds and cuts 2 x 2 x 2 hexahedra.
+ * examples/c has programs: three_quads.c; grid.c, which builds and cuts 2 x 2 x 2 hexahedra; and
+ * insert.c, which puts a layer in along a wall.
  *
  *
  * 1. To build
@@ -34,10 +35,16 @@
  *   side      of d for link i: all that is reached from d by the links j <= n that differ from i by
  *             2 or more. For i = n it is an edge of a quad (2 darts), or a face of a block (8).
  *   block map a map in which each cell is a quad (a hexahedron), and no side for link n is sewn onto
- *             itself. phl_sheet, phl_remove and phl_split ask for one.
+ *             itself. phl_sheet, phl_remove, phl_split and phl_insert ask for one.
  *   sheet     of d: the least set of darts that has d and with each dart g also g.0, the opposite
  *             edge g.1.0.1, and g.2 .. g.n: all edges that are parallel to d's, from cell to cell.
- *   layer     the cells that a sheet goes through: what phl_remove takes out and phl_split cuts.
+ *   layer     the cells that a sheet goes through: what phl_remove takes out, phl_split cuts and
+ *             phl_insert puts in.
+ *   wall      what a caller marks for phl_insert: edges between two quads (n = 2), or faces between
+ *             two blocks (n = 3), each with the darts on both sides of it.
+ *   next      of a dart h of a wall: where the wall goes on at h's vertex (n = 2) or edge (n = 3).
+ *             The turn from h goes link n-1, then n and n-1 by turns, from cell to cell. It ends at
+ *             the first dart of the wall, which is next(h), or at one that is n-free: h ends free.
  *
  *
  * 3. The numbering of a new cell
@@ -70,7 +77,8 @@
  * 4. Buffers
  *
  *   table    table_len entries, four to a slot; at most PHL_MAX_ENTRIES. Fill it with PHL_UNUSED.
- *   marks    marks_len bytes, one to a slot: marks_len = table_len / 4. What they hold is not read.
+ *   marks    marks_len bytes, one to a slot: marks_len = table_len / 4. phl_insert reads them and
+ *            never writes them; for every other call what they hold does not matter.
  *   journal  journal_len words, 2 to PHL_MAX_JOURNAL. To begin: journal[0] = journal[1] = PHL_FRESH.
  *            Word 0 is the cursor, word 1 the end; from then on only the calls write it.
  *   place, count   where the call stores place and count.
@@ -92,18 +100,19 @@
  *
  * 6. Steps, undo and redo
  *
- * phl_add, phl_sew, phl_unsew, phl_remove and phl_split are operations. An accepted one is a step: it
- * writes a record of the k entries that it changed at the journal's cursor, PHL_RECORD_WORDS(k) =
- * 3k+3 words: k, the tag, k triples (entry, old value, new value) by rising entry, k. Cursor and end
- * go behind it, so what was undone before is gone. phl_undo and phl_redo put values back and move the
- * cursor. The tag is any number of the caller's, to name the step by: undo and redo give it back as
- * place. How many entries change:
+ * phl_add, phl_sew, phl_unsew, phl_remove, phl_split and phl_insert are operations. An accepted one is
+ * a step: it writes a record of the k entries that it changed at the journal's cursor,
+ * PHL_RECORD_WORDS(k) = 3k+3 words: k, the tag, k triples (entry, old value, new value) by rising
+ * entry, k. Cursor and end go behind it, so what was undone before is gone. phl_undo and phl_redo put
+ * values back and move the cursor. The tag is any number of the caller's, to name the step by: undo
+ * and redo give it back as place. How many entries change:
  *
  *     phl_add      32 (n = 2), 192 (n = 3)
  *     phl_sew      2 for each dart of the side: for i = n 4 (n = 2), 16 (n = 3)
  *     phl_unsew    the same (for a side sewn onto itself, 1 for each)
  *     phl_remove   4 for each dart removed, the marks 1 and 2, and 1 for each mark 3
  *     phl_split    9 (n = 2) or 13 (n = 3) for each dart of the sheet
+ *     phl_insert   9 (n = 2) or 13 (n = 3) for each dart of the wall
  *
  * From a map and a fresh journal, whatever calls with the same n follow, the table is what the steps
  * that stand make of the first table; undo is refused (16) exactly if none stands, redo exactly if
@@ -133,10 +142,11 @@
 extern "C" {
 #endif
 
-/* The version: MAJOR changes where a program, a table or a journal of before may not fit any more. */
+/* The version: MAJOR changes where a program, a table or a journal of before may not fit any more,
+ * MINOR where something is new. 1.1 has phl_insert and its numbers. */
 #define PHL_VERSION_MAJOR 1
-#define PHL_VERSION_MINOR 0
-#define PHL_VERSION "1.0"
+#define PHL_VERSION_MINOR 1
+#define PHL_VERSION "1.1"
 
 /* Each entry of an unused slot. */
 #define PHL_UNUSED UINT32_C(4294967295)
@@ -174,6 +184,15 @@ enum phl_number {
     PHL_OUT_OF_RANGE = 6,        /* i above n, or mask above 2^(n+1) - 1 */
     PHL_NOT_LIVE = 7,            /* d or e is not a live slot */
     PHL_NO_BLOCK_MAP = 8,        /* not a block map; place: the least slot in a wrong cell */
+    PHL_WRONG_MARK = 28,         /* a mark is neither 0 nor 1, or an unused slot has the mark 1 */
+    PHL_NO_WALL = 29,            /* no mark is 1, or a link 0 .. n-2 or n leads off the wall */
+    PHL_WALL_FREE = 30,          /* a dart of the wall is n-free */
+    PHL_WALL_ENDS_OR_CROSSES = 31,
+                                 /* the wall ends inside, branches, crosses itself or turns back. At
+                                    each dart h of it, h and h.n must both end free, or
+                                    next(h).n = next(h.n), where next(h) is not h.n, nor for n = 3
+                                    h.0 or h.0.n */
+    PHL_WALL_NOT_CONNECTED = 32, /* the links 0 .. n-2, n and next do not connect the wall */
     PHL_SAME_SIDE = 9,           /* e is in d's side */
     PHL_NOT_FREE = 10,           /* d or e is not i-free */
     PHL_FREE = 11,               /* d is i-free */
@@ -239,6 +258,23 @@ uint32_t phl_remove(uint32_t n, uint32_t *table, size_t table_len,
 uint32_t phl_split(uint32_t n, uint32_t *table, size_t table_len,
                    uint8_t *marks, size_t marks_len, uint32_t *journal, size_t journal_len,
                    uint32_t tag, uint32_t d, uint32_t *place, uint32_t *count);
+
+/* Inserts a layer of new cells along a wall, one for each edge (n = 2) or face (n = 3) of it. The wall
+ * is the darts with the mark 1; all others have the mark 0. It may begin and end where the map ends,
+ * or be closed; it may not cross itself or end inside. Each dart h of the wall, rising, gets n new
+ * darts in the lowest unused slots: p(h), which is sewn to h by link n, q(h), and for n = 3 r(h).
+ * Marks: they stay. Place: the first new slot. Count: darts added.
+ *
+ * To take the layer out again: phl_remove at q(h) (n = 2), which is p(h).1, or at r(h) (n = 3), which
+ * is p(h).2.1, where place is p(h) for the first h. Given room in the journal, it gives back the
+ * table of before, entry for entry.
+ * To mark a wall: phl_orbit from a dart of it, with the mask 5 (n = 2) or 11 (n = 3), marks its edge
+ * or face; join what it marks for each of them.
+ * Numbers: 1 2 3 4 5 24 25 26 8 28 29 30 31 32 14 15. */
+uint32_t phl_insert(uint32_t n, uint32_t *table, size_t table_len,
+                    const uint8_t *marks, size_t marks_len,
+                    uint32_t *journal, size_t journal_len, uint32_t tag,
+                    uint32_t *place, uint32_t *count);
 
 /* Takes back the newest step that stands: puts back the old values of the record before the cursor.
  * Place: the step's tag. Count: entries changed. Numbers: 1 2 4 5 24 25 26 16 17. */

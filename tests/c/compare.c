@@ -4,9 +4,9 @@
  *
  * A round is a table, a journal and a run of calls on them; some calls are given something bad.
  * Both are lent the same buffers: number, place, count and all of table, marks and journal must
- * come out alike, and what stands before and behind each buffer must stay. Each number that the
- * header lists for a call must come up, so that no part of the comparison is empty, and no other
- * may. numbers.h, which the script `run` makes, has the header's lines "Numbers:" as strings, with
+ * come out alike, and what stands before and behind each buffer must stay. What an insert changed
+ * must come back, by remove and by undo. Each number that the header lists for a call must come up,
+ * so that no part of the comparison is empty, and no other may. numbers.h, which the script `run` makes, has the header's lines "Numbers:" as strings, with
  * a blank before and behind each number. */
 #include <inttypes.h>
 #include <stdio.h>
@@ -131,7 +131,7 @@ static void must_be_same(const request *q, buffer yard, buffer library)
 
 /* ---------------------------------------------------------------- one call */
 
-enum { PAST_NUMBERS = 27 };
+enum { PAST_NUMBERS = 33 };
 
 static unsigned long came_up[CALLS][PAST_NUMBERS];
 
@@ -146,7 +146,8 @@ static int listed(enum call call, uint32_t number)
 /* What the header says of every refusal; c has the buffers as they were left. */
 static void must_be_a_refusal(const request *q, const request *c, answer a)
 {
-    int not_a_map = a.no == PHL_LINK_NOT_LIVE || a.no >= PHL_LINK_NOT_RETURNED;
+    int not_a_map = a.no == PHL_LINK_NOT_LIVE || a.no == PHL_LINK_NOT_RETURNED
+                 || a.no == PHL_PAIR_NOT_RETURNING || a.no == PHL_LINK_3_NOT_FREE;
     int leaves_marks = a.no == PHL_CROSSES_ITSELF || a.no == PHL_TOO_FEW_SLOTS
                     || a.no == PHL_NO_ROOM;
     if (a.place != 0 && !not_a_map && a.no != PHL_NO_BLOCK_MAP)
@@ -191,6 +192,8 @@ static answer held(const request *q, const size_t shift[BUFFERS], request *left)
         fail_text(q, "both", "a number", "that the header does not list for this call");
     if (a[YARD].no != PHL_ACCEPTED)
         must_be_a_refusal(q, &c[YARD], a[YARD]);
+    if (q->call == INSERT && memcmp(q->marks, c[YARD].marks, q->marks_len) != 0)
+        fail_text(q, "both", "marks", "are written by insert");
     came_up[q->call][a[YARD].no]++;
     *left = c[YARD];
     return a[YARD];
@@ -198,7 +201,7 @@ static answer held(const request *q, const size_t shift[BUFFERS], request *left)
 
 /* ---------------------------------------------------------------- rounds */
 
-static int is_operation(enum call call) { return ADD <= call && call <= SPLIT; }
+static int is_operation(enum call call) { return ADD <= call && call <= INSERT; }
 
 /* The buffers of q become what the call left. */
 static void keep(const request *q, const request *left)
@@ -207,10 +210,35 @@ static void keep(const request *q, const request *left)
     memcpy(q->journal, left->journal, 4 * q->journal_len);
 }
 
+/* The buffers of q are as an accepted insert left them, with the answer a; the table was `before`.
+ * Undo gives that back, and so does removing the new sheet. */
+static void must_come_back(const request *q, const size_t shift[BUFFERS], answer a,
+                           const uint32_t *before)
+{
+    static uint32_t fresh[PHL_MAX_JOURNAL];
+    request back = *q, left;
+    uint32_t p = a.place, darts = a.count / q->n;
+    back.call = UNDO;
+    answer b = held(&back, shift, &left);
+    if (b.no != PHL_ACCEPTED || b.place != q->tag
+        || memcmp(left.table, before, 4 * q->table_len) != 0)
+        fail_text(&back, "both", "undo", "does not take insert back");
+    back.call = REMOVE;
+    back.d = q->n == 2 ? q->table[4 * p + 1] : q->table[4 * q->table[4 * p + 2] + 1];
+    back.journal = fresh;
+    back.journal_len = 2 + PHL_RECORD_WORDS(4 * a.count + darts);
+    fresh[0] = fresh[1] = PHL_FRESH;
+    b = held(&back, shift, &left);
+    if (b.no != PHL_ACCEPTED || b.count != a.count
+        || memcmp(left.table, before, 4 * q->table_len) != 0)
+        fail_text(&back, "both", "remove", "does not take insert back");
+}
+
 /* One call, good or bad. An accepted operation is now and then held again, with a journal that has
  * just room for its record, or a word too few. */
 static void turn(const request *scene, rng *r)
 {
+    static uint32_t before[TABLE_ROOM];
     request q = *scene, left;
     size_t shift[BUFFERS];
     for (int which = 0; which < BUFFERS; which++)
@@ -229,8 +257,12 @@ static void turn(const request *scene, rng *r)
             a = held(&q, shift, &left);
         }
     }
-    if (a.no == PHL_ACCEPTED)
+    if (a.no == PHL_ACCEPTED) {
+        memcpy(before, q.table, 4 * q.table_len);
         keep(&q, &left);
+        if (q.call == INSERT)
+            must_come_back(&q, shift, a, before);
+    }
     scene_mend(a.no != PHL_ACCEPTED);
 }
 
@@ -292,8 +324,8 @@ static void try_null_pointers(void)
 /* How often each call gave each number; 0 if some number never came up. */
 static int tell_numbers(void)
 {
-    static const uint32_t order[] = {0, 1,  2,  3,  4,  5,  24, 25, 26, 6, 7,
-                                     8, 9, 10, 11, 12, 13, 14, 15, 16, 17};
+    static const uint32_t order[] = {0,  1,  2,  3,  4,  5,  24, 25, 26, 6,  7,  8,  28,
+                                     29, 30, 31, 32, 9,  10, 11, 12, 13, 14, 15, 16, 17};
     const size_t len = sizeof order / sizeof *order;
     int complete = 1;
     printf("%-6s", "");

@@ -23,6 +23,7 @@ uint32_t call_each(void)
     sum += phl_unsew(2, table, ENTRIES, journal, WORDS, TAG, 2, 5, &place, &count);
     sum += phl_remove(2, table, ENTRIES, marks, SLOTS, journal, WORDS, TAG, 0, &place, &count);
     sum += phl_split(2, table, ENTRIES, marks, SLOTS, journal, WORDS, TAG, 0, &place, &count);
+    sum += phl_insert(2, table, ENTRIES, marks, SLOTS, journal, WORDS, TAG, &place, &count);
     sum += phl_undo(2, table, ENTRIES, journal, WORDS, &place, &count);
     sum += phl_redo(2, table, ENTRIES, journal, WORDS, &place, &count);
     return sum;
@@ -49,6 +50,11 @@ int kind_of(uint32_t x)
     case PHL_OUT_OF_RANGE:
     case PHL_NOT_LIVE:
     case PHL_NO_BLOCK_MAP:
+    case PHL_WRONG_MARK:
+    case PHL_NO_WALL:
+    case PHL_WALL_FREE:
+    case PHL_WALL_ENDS_OR_CROSSES:
+    case PHL_WALL_NOT_CONNECTED:
     case PHL_SAME_SIDE:
     case PHL_NOT_FREE:
     case PHL_FREE:

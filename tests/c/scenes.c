@@ -25,12 +25,36 @@ static uint32_t one_of(rng *r, const uint32_t *values, size_t len)
 
 /* ---------------------------------------------------------------- tables */
 
+/* Sews the far end of a grid to its near end along an axis; for n = 2 it may be turned over, so that
+ * a twisted band is made. */
+static void close_grid(uint32_t n, const uint32_t size[3], uint32_t axis, int turned, uint32_t *to)
+{
+    static const uint32_t far2[2] = {5, 2}, near2[2] = {4, 0};
+    static const uint32_t far3[3] = {25, 10, 4}, near3[3] = {24, 8, 0};
+    const uint32_t step[3] = {1, size[0], size[0] * size[1]};
+    for (uint32_t c = 0; c < size[0] * size[1] * size[2]; c++) {
+        uint32_t at[3] = {c % size[0], c / step[1] % size[1], c / step[2]};
+        uint32_t d = cell_darts(n) * c + (n == 2 ? far2 : far3)[axis], first, e;
+        if (at[axis] + 1 != size[axis])
+            continue;
+        at[axis] = 0;
+        if (turned)
+            at[1 - axis] = size[1 - axis] - 1 - at[1 - axis];
+        first = at[0] + step[1] * at[1] + step[2] * at[2];
+        e = cell_darts(n) * first + (n == 2 ? near2 : near3)[axis];
+        map_glue(n, to, d, turned ? to[4 * e] : e);
+    }
+}
+
 static void make_grid(uint32_t n, uint32_t cells, uint32_t *to, uint32_t slots, rng *r)
 {
     uint32_t size[3] = {1, 1, 1};
     for (uint32_t axis = 0; axis < n; axis++)
         size[axis] += rng_below(r, cells / (size[0] * size[1] * size[2]));
     map_grid(n, size, to, slots);
+    for (uint32_t axis = 0; axis < n; axis++)
+        if (one_in(r, 4))
+            close_grid(n, size, axis, n == 2 && one_in(r, 2), to);
 }
 
 /* Two rings or more, which two links make. The first two may be sewn, if they are faces; else some
@@ -180,7 +204,7 @@ request scene_new(rng *r, uint32_t about)
     uint32_t n = ONE_OF(r, 2, 3, about == 0 ? 2 : 3), k = cell_darts(n), slots, cells;
     if (about == 0) {
         cells = rng_below(r, n == 2 ? 7 : 5);
-        slots = k * cells + rng_below(r, n == 2 ? 32 : 112);
+        slots = k * cells + rng_below(r, n == 2 ? 48 : 160);
     } else {
         slots = about - 8 + rng_below(r, 17);
         if (slots > MAX_SLOTS)
@@ -231,6 +255,125 @@ static uint32_t dart_beside(const request *q, uint32_t d, rng *r)
     return d;
 }
 
+/* ---------------------------------------------------------------- walls */
+
+/* Link i of d; d itself, if that is no slot. */
+static uint32_t to(const request *q, uint32_t d, uint32_t i)
+{
+    uint32_t e = q->table[4 * d + i];
+    return e < slots_of(q) ? e : d;
+}
+
+/* The live darts that the links of the mask reach from d and that are not 1 yet get 1 in bytes; they
+ * go to found. Gives their number. */
+static uint32_t mark_reached(const request *q, uint32_t d, uint32_t mask, uint8_t *bytes,
+                             uint32_t *found)
+{
+    uint32_t len = 0;
+    if (bytes[d] == 1 || !map_live(q->table, d))
+        return 0;
+    bytes[d] = 1;
+    found[len++] = d;
+    for (uint32_t x = 0; x < len; x++) {
+        for (uint32_t i = 0; i < 4; i++) {
+            uint32_t e = to(q, found[x], i);
+            if ((mask >> i & 1) && bytes[e] != 1 && map_live(q->table, e)) {
+                bytes[e] = 1;
+                found[len++] = e;
+            }
+        }
+    }
+    return len;
+}
+
+/* The links 0 .. n-2 and n: they reach an edge of quads, or a face of blocks, from both sides. */
+static uint32_t wall_links(const request *q) { return q->n == 2 ? 5 : 11; }
+
+/* Where a wall may go on from its dart h, after so many cells: straight on after one, in a grid. */
+static uint32_t turned(const request *q, uint32_t h, uint32_t cells)
+{
+    uint32_t x = to(q, h, q->n - 1);
+    for (; cells > 0 && to(q, x, q->n) != x; cells--)
+        x = to(q, to(q, x, q->n), q->n - 1);
+    return x;
+}
+
+/* A wall from d on, of so many edges or faces at most, side by side. It goes straight on, or bends. */
+static void draw_from(const request *q, uint32_t d, uint32_t most, int bends, rng *r)
+{
+    static uint32_t ends[MAX_SLOTS + 1], found[MAX_SLOTS];
+    uint32_t head = 0, len = 1;
+    ends[0] = d;
+    for (; head < len && most > 0; head++) {
+        uint32_t size = mark_reached(q, ends[head], wall_links(q), marks, found);
+        most -= size > 0;
+        for (uint32_t x = 0; x < size; x++) {
+            uint32_t e = turned(q, found[x], bends ? rng_below(r, 4) : 1);
+            if (marks[e] != 1 && to(q, e, q->n) != e)
+                ends[len++] = e;
+        }
+    }
+}
+
+/* The wall between some of the cells and the others. */
+static void draw_round_cells(const request *q, rng *r)
+{
+    static uint8_t inside[MARKS_ROOM], seen[MARKS_ROOM];
+    static uint32_t found[MAX_SLOTS];
+    uint32_t slots = slots_of(q), of = ONE_OF(r, 2, 3, 6);
+    memset(inside, 0, slots);
+    memset(seen, 0, slots);
+    for (uint32_t d = 0; d < slots; d++) {
+        uint32_t size = mark_reached(q, d, (UINT32_C(1) << q->n) - 1, seen, found);
+        uint8_t in = (uint8_t)one_in(r, of);
+        for (uint32_t x = 0; x < size; x++)
+            inside[found[x]] = in;
+    }
+    for (uint32_t d = 0; d < slots; d++)
+        marks[d] = inside[d] != inside[to(q, d, q->n)];
+}
+
+/* What some of the links of a wall reach from d: most often it is not closed. */
+static void draw_part(const request *q, uint32_t d, rng *r)
+{
+    static uint32_t found[MAX_SLOTS];
+    mark_reached(q, d, wall_links(q) & ~(UINT32_C(1) << rng_below(r, 4)), marks, found);
+}
+
+static void draw_anything(const request *q, rng *r)
+{
+    for (uint32_t d = 0; d < slots_of(q); d++)
+        marks[d] = (uint8_t)rng_below(r, 2);
+}
+
+enum wall { ONE, FEW, BENT, WHOLE, ROUND_CELLS, PART, ANYTHING };
+
+static void draw_one(const request *q, enum wall wall, uint32_t d, rng *r)
+{
+    if (wall == ROUND_CELLS)
+        draw_round_cells(q, r);
+    else if (wall == PART)
+        draw_part(q, d, r);
+    else if (wall == ANYTHING)
+        draw_anything(q, r);
+    else
+        draw_from(q, d, wall == ONE ? 1 : wall == WHOLE ? slots_of(q) : 1 + rng_below(r, 4),
+                  wall == BENT, r);
+}
+
+/* A wall, or more than one, or what might be one. */
+static void draw(request *q, rng *r)
+{
+    enum wall wall = ONE_OF(r, ONE, ONE, FEW, BENT, BENT, BENT, WHOLE, WHOLE, WHOLE, WHOLE, WHOLE,
+                            WHOLE, ROUND_CELLS, ROUND_CELLS, ROUND_CELLS, PART, ANYTHING);
+    memset(marks, 0, slots_of(q) + 1);
+    q->i = q->n;
+    for (uint32_t walls = ONE_OF(r, 1, 1, 1, 1, 1, 2, 2, 3); slots_of(q) > 0 && walls > 0; walls--)
+        draw_one(q, wall, some_dart(q, one_in(r, 16) ? EITHER : SEWN, r), r);
+}
+
+/* ---------------------------------------------------------------- a call */
+
 void scene_ask(request *q, rng *r)
 {
     enum wish wish = one_in(r, 8) ? EITHER : FREE;
@@ -239,6 +382,8 @@ void scene_ask(request *q, rng *r)
         q->call = ADD;
     if (one_in(r, 4) && journal[0] < journal[1])
         q->call = REDO;
+    if (one_in(r, 8))
+        q->call = INSERT;
     if (q->call == UNSEW && wish == FREE)
         wish = SEWN;
     q->tag = any(r);
@@ -247,6 +392,8 @@ void scene_ask(request *q, rng *r)
     q->mask = rng_below(r, UINT32_C(2) << q->n);
     q->d = some_dart(q, q->call == SEW || q->call == UNSEW ? wish : EITHER, r);
     q->e = one_in(r, 8) ? dart_beside(q, q->d, r) : some_dart(q, wish, r);
+    if (q->call == INSERT)
+        draw(q, r);
 }
 
 /* ---------------------------------------------------------------- spoiling */
@@ -313,6 +460,13 @@ static void spoil_argument(request *q, rng *r)
     }
 }
 
+/* The next call draws its marks anew: they need not be put back. */
+static void spoil_mark(const request *q, rng *r)
+{
+    uint32_t d = rng_below(r, slots_of(q) + 1), mark = marks[d];
+    marks[d] = (uint8_t)ONE_OF(r, 0, 1, mark ^ 1, 2, 3, 128, 255);
+}
+
 /* An entry leads elsewhere: to a slot, to none, or it is as in an unused slot. */
 static void spoil_entry(const request *q, rng *r)
 {
@@ -377,6 +531,8 @@ void scene_spoil(request *q, rng *r)
         q->n = ONE_OF(r, 0, 1, 4, 9, NONE, 2, 3);
     else if (what == 1)
         spoil_length(q, r);
+    else if (what == 2 && q->call == INSERT)
+        spoil_mark(q, r);
     else if (what == 2)
         spoil_argument(q, r);
     else if (what == 3)

@@ -12,7 +12,7 @@ DEFINE_RUN(run_yard, yard_)
 enum { SLOTS = MAX_SLOTS + 1, WORDS = 8192, LINE = 1000, MOST_NUMBERS = 3 };
 
 static uint32_t table[4 * SLOTS], journal[WORDS];
-static uint8_t marks[SLOTS];
+static uint8_t marks[SLOTS], drawn[SLOTS];
 
 /* What the calls are given from here on. */
 static request given = {CHECK, 0, table, 0, marks, 0, journal, 0, 0, 0, 0, 0, 0};
@@ -55,16 +55,18 @@ static void show_marks(const request *q)
 
 static int has_marks(enum call call)
 {
-    return call == ORBIT || call == SHEET || call == REMOVE || call == SPLIT;
+    return call == ORBIT || call == SHEET || call == REMOVE || call == SPLIT || call == INSERT;
 }
 
 /* ---------------------------------------------------------------- lines */
 
-/* A call, on marks that are 9. */
+/* A call, on marks that are 9; insert, on those that are drawn. */
 static void play_call(request q)
 {
     uint32_t no, place = 0, count = 0;
     memset(marks, 9, sizeof marks);
+    if (q.call == INSERT)
+        memcpy(marks, drawn, sizeof marks);
     no = run_yard(&q, &place, &count);
     printf(": number %u, place %u, count %u", (unsigned)no, (unsigned)place, (unsigned)count);
     if (q.call >= ADD) {
@@ -85,6 +87,7 @@ static void play_scene(void)
     given.journal_len = number[2];
     given.tag = 0;
     map_clear(table, number[1]);
+    memset(drawn, 0, sizeof drawn);
     for (uint32_t k = 0; k < number[2]; k++)
         journal[k] = k < 2 ? PHL_FRESH : 9;
 }
@@ -106,7 +109,7 @@ static int is(const char *line, const char *word, int count)
 /* Whether the line is a call; its arguments go to q. */
 static int is_call(const char *line, request *q)
 {
-    static const int arguments[CALLS] = {0, 2, 1, 0, 3, 2, 1, 1, 0, 0};
+    static const int arguments[CALLS] = {0, 2, 1, 0, 3, 2, 1, 1, 0, 0, 0};
     for (int call = 0; call < CALLS; call++) {
         if (!is(line, call_name[call], arguments[call]))
             continue;
@@ -159,6 +162,9 @@ static void play(const char *line)
     else if (is(line, "fill", 3)) {
         for (uint32_t k = a; k < b; k++)
             journal[k] = c;
+    } else if (is(line, "mark", 3)) {
+        for (uint32_t k = a; k < b && k < SLOTS; k++)
+            drawn[k] = (uint8_t)c;
     } else if (is(line, "tile", 2))
         play_tile(a, b);
     else if (is(line, "links", 1))

@@ -1,15 +1,15 @@
 -- What an opening's answer says of the first checks of a call, as the model lists them: `opened-table` for check,
 -- `opened-marks` for orbit, `opened-journal` for add, undo and redo, `opened-side` for sew and unsew, `opened-sheet` for sheet,
--- `opened-layer` for remove and split.
+-- `opened-layer` for remove and split, `opened-wall` for insert.
 use Prim.Native.Nat.{ℕ}
 use mathlib.Core.Path.{_≡_, subst}
 use mathlib.Core.Bool.{Bool, true}
 use mathlib.Core.List.{List, [], _∷_, _++_}
-use Rattle.model.specs.Checks.{Check, andThen, inOrder, must, dimOk, tableOk, marksOk, journalOk, mapChecks, indexOk, dartOk}
+use Rattle.model.specs.Checks.{Check, andThen, inOrder, must, dimOk, tableOk, marksOk, journalOk, mapChecks, indexOk, dartOk, blockOk}
 use Rattle.model.specs.Checks.{sheetChecks, layerChecks}
 use Rattle.answers.specs.declared.Answer.{Answer}
 use Rattle.answers.specs.Openings.{Settles, openingChecks, sideChecks}
-use Rattle.answers.specs.Openings.{layerChecks as openingLayerChecks}
+use Rattle.answers.specs.Openings.{layerChecks as openingLayerChecks, wallChecks as openingWallChecks}
 
 same : {r : Answer} {c c′ : Check} → c ≡ c′ → Settles r c → Settles r c′
 same {r} e s = subst (Settles r) e s
@@ -34,6 +34,11 @@ module _ {r : Answer} (n : ℕ) (t : List ℕ) where
         → Settles r (inOrder (openingLayerChecks marks journal n t d)) → Settles r (inOrder (layerChecks n t m j d))
     unfolding openingLayerChecks openingChecks layerChecks inOrder andThen must
     opened-layer j journal four d s = same (rw (three, four)) s
+
+    pub opened-wall : (j : List ℕ) (journal : Bool) → must journal 4 ≡ journalOk j → Settles r (inOrder (openingWallChecks marks journal n t))
+        → Settles r (inOrder (dimOk n ∷ tableOk t ∷ marksOk t m ∷ journalOk j ∷ (mapChecks n t ++ (blockOk n t ∷ []))))
+    unfolding openingWallChecks openingChecks inOrder andThen must
+    opened-wall j journal four s = same (rw (three, four)) s
 
   module _ (j : List ℕ) (journal : Bool) (four : must journal 4 ≡ journalOk j) where
     pub opened-journal : Settles r (inOrder (openingChecks true journal n t))

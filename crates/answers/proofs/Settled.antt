@@ -1,18 +1,18 @@
--- Answers that settle checks: `settles-refusal`, `settles-pass`, `settles-front` and `settles-behind` for a function that makes
--- them, `opened` and `handed-on` for a call that begins with such a function.
+-- Answers that settle checks: `settles-refusal`, `settles-pass`, `settles-front`, `settles-behind` and `settles-last` for a function that
+-- makes them, `opened` and `handed-on` for a call that begins with such a function.
 use Prim.Native.Nat.{ℕ, suc}
-use mathlib.Core.Path.{_≡_, refl, sym, subst}
+use mathlib.Core.Path.{_≡_, refl, sym, ap, _∙_, subst}
 use mathlib.Core.Logic.{_≢_}
 use mathlib.Core.List.{List, _++_}
 use native.Mathlib.Omega.{arith}
-use lib.ListN.{take}
+use lib.ListN.{getD, take}
 use Rattle.model.specs.Checks.{Check, pass, refuse, inOrder}
 use Rattle.model.specs.Calls.{Outcome}
 use Rattle.theorems.proofs.Calls.Checks.{append-passed}
 use Rattle.answers.specs.declared.Answer.{Answer}
 use Rattle.answers.specs.Answers.{outcome, refusal}
 use Rattle.answers.specs.Openings.{Settles}
-use Rattle.answers.proofs.Ladder.{Rung, rise, front-refusal}
+use Rattle.answers.proofs.Ladder.{Rung, rise, out, one-more, all-passed, front-refusal}
 
 pub settles-refusal : {c : Check} (z : ℕ) {p q : ℕ} → c ≡ refuse (suc z) p q → Settles (refusal (suc z) p q) c
 settles-refusal z h = record { passes = λ e. absurd (omega arith); refuses = λ e. h }
@@ -28,6 +28,15 @@ settles-front cs k s h = record { passes = λ e. absurd (h e); refuses = λ e. f
 -- behind checks that pass, what settles the others
 pub settles-behind : {r : Answer} (cs ds : List Check) → inOrder cs ≡ pass → Settles r (inOrder ds) → Settles r (inOrder (cs ++ ds))
 settles-behind {r} cs ds h s = subst (Settles r) (sym (append-passed cs ds h)) s
+
+-- where all checks but the last have passed, what settles the last
+pub settles-last : {S : Type 0} {checks : S → List Check} {k : ℕ} {r : Answer} (g : Rung checks k)
+    → take (suc k) (checks (g .entry)) ≡ checks (g .entry) → Settles r (getD (checks (g .entry)) k pass)
+    → Settles r (inOrder (checks (g .entry)))
+settles-last {checks = checks} {k} g whole s = record {
+  passes = λ e. ap inOrder (sym whole) ∙ all-passed _ (one-more (checks (g .entry)) k (g .passed) (s .passes e));
+  refuses = λ e. out g (s .refuses e);
+}
 
 -- ---- a call's opening; S is the record of the call's entry
 

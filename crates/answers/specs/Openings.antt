@@ -21,6 +21,10 @@ sideChecks journal n t i d = openingChecks true journal n t ++ (indexOk n i ∷ 
 unfoldable pub layerChecks : Bool → Bool → ℕ → List ℕ → ℕ → List Check
 layerChecks marks journal n t d = openingChecks marks journal n t ++ (dartOk t d ∷ blockOk n t ∷ [])
 
+-- up to 8 of a call that has no dart
+unfoldable pub wallChecks : Bool → Bool → ℕ → List ℕ → List Check
+wallChecks marks journal n t = openingChecks marks journal n t ++ (blockOk n t ∷ [])
+
 -- ---- what an answer says of checks whose verdict is c: passed exactly if its number is 0, else that refusal
 
 pub record Settles (r : Answer) (c : Check) : Type 0 where

@@ -2,6 +2,7 @@
 // up to 8 for those on a layer.
 pub use all::opening;
 pub use layer::opening_layer;
+pub use layer::opening_wall;
 pub use side::opening_side;
 
 mod all;

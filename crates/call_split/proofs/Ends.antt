@@ -37,8 +37,9 @@ use Rattle.drafts.proofs.Commits.{fits-room}
 use Rattle.answers.specs.Answers.{outcome, refusal}
 use Rattle.answers.proofs.Layered.{Layered, Sheeted, given, layer, marks-few}
 use Rattle.call_split.specs.Sheets.{LeadsIn}
+use Rattle.new_darts.specs.Slots.{SlotsFound}
 use Rattle.new_darts.specs.Placed.{Placed}
-use Rattle.call_split.specs.Slots.{SlotsFound}
+use Rattle.new_darts.specs.News.{splitMade, by-split}
 use Rattle.new_darts.specs.Drafting.{Writing}
 use Rattle.call_split.proofs.Ones.{marks-ones, marks-crosses}
 use Rattle.call_split.proofs.Room.{split-room}
@@ -63,7 +64,7 @@ pub record Ready (n : ℕ) (t m j : List ℕ) (d : ℕ) (s : List ℕ) (size : �
   pub number : size ≡ count 1 (sheet n t d)
   pub splits : Splits n t d
   pub taken : take (n * size) fresh ≡ slotsFor n t (dartsOf n t d)
-  pub half : 2 * (n * size) ≤ slots t
+  pub half : n * size + n * size ≤ slots t
 
 -- the sheet is marked, and its size known
 module _ {n d : ℕ} {t m j s : List ℕ} (H : Sheeted n t m j d s) {size : ℕ} (number : size ≡ count 1 (sheet n t d)) where
@@ -88,8 +89,8 @@ module _ {n d : ℕ} {t m j s : List ℕ} (H : Sheeted n t m j d s) {size : ℕ}
   new-few = let few = size-few in two-cases n (given H .dart .table .dim) (λ n. n * size ≤ 196608) (omega arith) (omega arith)
 
   -- the darts fit into a fourth of the slots, where the new ones fit into half of them
-  pub darts-fit : (k : ℕ) → 2 * (n * size) ≤ slots t → slots t ≤ 4 * k → size ≤ k
-  darts-fit k = two-cases n (given H .dart .table .dim) (λ n. 2 * (n * size) ≤ slots t → slots t ≤ 4 * k → size ≤ k)
+  pub darts-fit : (k : ℕ) → n * size + n * size ≤ slots t → slots t ≤ 4 * k → size ≤ k
+  darts-fit k = two-cases n (given H .dart .table .dim) (λ n. n * size + n * size ≤ slots t → slots t ≤ 4 * k → size ≤ k)
       (λ half most. omega arith) (λ half most. omega arith)
 
   pub changes-few : (4 * n + 1) * size ≤ 851968
@@ -133,7 +134,7 @@ module _ {n d : ℕ} {t m j s : List ℕ} (H : Sheeted n t m j d s) {size : ℕ}
     split-crosses tag h = split-stops tag (rw (crossed, h))
 
     -- 14
-    module _ (uncrossed : b ≡ false) {r : Bool} {fresh₀ fresh : List ℕ} (F : SlotsFound t (n * size) fresh₀ fresh r) where
+    module _ (uncrossed : b ≡ false) {r : Bool} {fresh₀ fresh : List ℕ} (F : SlotsFound t (n * size) (n * size) fresh₀ fresh r) where
       slots-new : take (n * size) (unusedSlots t) ≡ slotsFor n t (dartsOf n t d)
       unfolding slotsFor
       slots-new = rw size-is
@@ -157,7 +158,7 @@ module _ {n d : ℕ} {t m j s : List ℕ} (H : Sheeted n t m j d s) {size : ℕ}
         number = number;
         splits = would (ap length (sym slots-new) ∙ F .enough all ∙ ap (λ (k : ℕ). n * k) size-is);
         taken = F .listed all ∙ slots-new;
-        half = F .half all;
+        half = F .within all;
       }
 
 -- ---- 13 and 14 have passed
@@ -197,15 +198,15 @@ module _ {n d : ℕ} {t m j s : List ℕ} {size : ℕ} {fresh : List ℕ} (R : R
 
     pub writing : {darts₀ darts places₀ places : List ℕ} → Placed n (ones s) size darts₀ darts places₀ places
         → slots t ≤ 2 * length fresh → slots t ≤ 4 * length darts₀ → slots t ≤ length places₀
-        → Writing n t d darts fresh places size j
+        → Writing n false t (splitMade n t d) places darts fresh places size j
     writing P room long wide =
         let H = R .sheeted in
         let half = R .half in
         let same = P .long in
         let same-places = P .wide in
         record {
+          makes = by-split (R .splits);
           listed = record {
-            splits = R .splits;
             number = size-is H (R .number);
             old = P .front ∙ ones-is H (R .number);
             new = R .taken;

@@ -5,41 +5,25 @@ use mathlib.Core.Path.{_≡_, refl, sym, ap, _∙_}
 use mathlib.Core.Logic.{⊎-elim}
 use mathlib.Core.Bool.{true}
 use mathlib.Core.List.{List, [], _∷_, _++_, List·Memᴰ as In, Memᴰ·cast as in-cast, List·Memᴰ·append-cases as in-append}
-use mathlib.Core.List.{List·Memᴰ·head as here, List·Memᴰ·tail as there}
 use native.Mathlib.Omega.{arith}
 use lib.ListN.{length, getD, length-append}
-use Rattle.model.specs.Lists.{ones, tabulate, tabulateFrom}
+use Rattle.model.specs.Lists.{ones, tabulateFrom}
 use Rattle.model.specs.Table.{slots, link, live, walk}
 use Rattle.model.specs.Cell.{cellOf}
 use Rattle.model.specs.Sheet.{sheet}
 use Rattle.model.specs.NewDarts.{slotsFor}
-use Rattle.model.specs.Meaning.Lists.{Distinct, more}
+use Rattle.model.specs.Meaning.Lists.{Distinct}
 use Rattle.model.specs.Meaning.Maps.{BlockTable, Rule}
 use Rattle.model.specs.Meaning.Splits.{Splits, Splitting}
-use Rattle.theorems.proofs.Lists.Scan.{clash, length-tab, getD-tab, length-tabFrom, in-tab}
+use Rattle.theorems.proofs.Lists.Scan.{length-tabFrom, in-tab}
 use Rattle.theorems.proofs.Lists.Ones.{getD-in}
-use Rattle.theorems.proofs.Sets.Pigeon.{distinct-le, distinct-tab}
-use Rattle.theorems.proofs.Sets.Sizes.{length-ones, ones-few}
+use Rattle.theorems.proofs.Sets.Pigeon.{distinct-append, distinct-tab}
 use Rattle.theorems.proofs.Maps.Dim.{dim-cases}
-use Rattle.theorems.proofs.Maps.Tables.{mapTable, live-below, rule-at}
-use Rattle.theorems.proofs.Operations.Slots.{rising-at}
+use Rattle.theorems.proofs.Maps.Tables.{mapTable, rule-at}
+use Rattle.theorems.proofs.Operations.Slots.{rising-at, vacant-room}
 use Rattle.theorems.proofs.Cells.Cell.{good-cell, cell-own}
 use Rattle.theorems.proofs.Layers.Splitting.{splits-splitting}
 use Rattle.theorems.proofs.Layers.Split.{darts-rising}
-
-distinct-append : (k l : List ℕ) → Distinct k → Distinct l → ((x : ℕ) → In x k → In x l → ⊥) → Distinct (k ++ l)
-distinct-append [] l p q apart = q
-distinct-append (y ∷ k) l (more once p) q apart =
-    more (λ i. ⊎-elim once (apart y (here refl)) (in-append k i)) (distinct-append k l p q (λ x i. apart x (there i)))
-
-distinct-below : (k : ℕ) (l : List ℕ) → Distinct l → ((x : ℕ) → In x l → x < k) → length l ≤ k
-distinct-below k l once low =
-    let m = tabulate k (λ _. 1) in
-    let least = distinct-le l m once (λ x i. getD-tab (λ _. 1) k x 0 (low x i)) in
-    let all = length-ones m 0 in
-    let most = ones-few m 0 in
-    let long = length-tab (λ _. 1) k in
-    omega arith
 
 module _ {n : ℕ} {t : List ℕ} {d : ℕ} (s : Splits n t d) where
   abbrev gs : List ℕ
@@ -167,15 +151,12 @@ module _ {n : ℕ} {t : List ℕ} {d : ℕ} (s : Splits n t d) where
 
   with-new : (l : List ℕ) → Distinct l → ((x : ℕ) → In x l → live t x ≡ true) → n * length gs + length l ≤ slots t
   with-new l once alive =
-      let all = distinct-below (slots t) (fs ++ l)
-      (distinct-append fs l (given .vacant .once) once (λ x i j. clash (alive x j) (given .vacant .dead x i)))
-      (λ x i. ⊎-elim (given .vacant .inside x) (λ j. live-below (mapTable B) x (alive x j)) (in-append fs i)) in
-      let parts = length-append fs l in
+      let all = vacant-room (mapTable B) (given .vacant) once alive in
       let room = s .room in
       omega arith
 
   -- as many slots are live as are new, and more
-  pub split-room : 2 * (n * length gs) ≤ slots t
+  pub split-room : n * length gs + n * length gs ≤ slots t
   unfolding two
   split-room =
       let one = copy-size (λ g. g) in

@@ -12,12 +12,10 @@ ghost use lib.ListN.{length};
 ghost use Rattle.model.specs.Lists.{ones};
 ghost use Rattle.model.specs.Table.{slots};
 ghost use Rattle.model.specs.Split.{crosses};
-ghost use Rattle.model.specs.Checks.{pass, tableOk, inOrder, layerChecks};
+ghost use Rattle.model.specs.Checks.{pass, inOrder, layerChecks};
 ghost use Rattle.model.specs.Calls.{splitCall};
-ghost use Rattle.reading.specs.Told.{Told};
 ghost use Rattle.answers.specs.Answers.{outcome};
 ghost use Rattle.call_split.specs.Sheets.{LeadsIn};
-ghost use Rattle.call_split.specs.Slots.{SlotsFound};
 
 // Whether some g with the mark 1 has g.1 with the mark 1.
 fn crosses(table: &[u32], marks: &[u8]) -> bool
@@ -34,18 +32,6 @@ fn crosses(table: &[u32], marks: &[u8]) -> bool
         x = scans::skip_clear(marks, x + 1);
     }
     false
-}
-
-// Lists the lowest unused slots of a map, `new` of them; whether there are so many. There are not where they are more than half of the
-// slots: as many are live.
-fn find_slots(table: &[u32], fresh: &mut [u16], new: u32) -> bool
-    requires { ⌜ (tableOk (now table) ≡ pass) × (Told (now table)) × (new ≤ 196608) × (slots (now table) ≤ 2 * length (now fresh)) ⌝ }
-    ensures { λ r. ⌜ SlotsFound (now (table .entry)) new (now (fresh .entry)) (now (fresh .exit)) r ⌝ }
-{
-    if 2 * new > reading::slots(table) {
-        return false;
-    }
-    scans::list_unused(table, fresh, new) == new
 }
 
 // split where the checks up to 8 have passed: the new slots have a word for every second slot, which the sheet is found with before,
@@ -71,8 +57,9 @@ fn split_in(
     if crosses(table, marks) {
         return numbers::CROSSES_ITSELF;
     }
+    // as many slots are live as are new
     let new = n * size;
-    if !find_slots(table, fresh, new) {
+    if !new_darts::find_slots(table, fresh, new, new) {
         return numbers::TOO_FEW_SLOTS;
     }
     let changes = (4 * n + 1) * size;

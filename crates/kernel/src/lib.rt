@@ -1,6 +1,7 @@
-// The ten calls, each exported from its crate.
+// The calls, each exported from its crate.
 pub use call_add::add;
 pub use call_check::check;
+pub use call_insert::insert;
 pub use call_orbit::orbit;
 pub use call_remove::remove;
 pub use call_sew::sew;

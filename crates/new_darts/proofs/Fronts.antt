@@ -1,6 +1,6 @@
--- A rising list that stands in the first words of a slice (`Front`): its words are in the list (`word-in`), rise (`words-rise`), and are
+-- A rising list that stands in the first words of a slice (`Front`): its words are in the list (`word-in`), rise (`words-rise`, `words-above`), and are
 -- all of it (`word-place`).
-use Prim.Native.Nat.{ℕ, _≤_, _<_}
+use Prim.Native.Nat.{ℕ, zero, suc, _≤_, _<_}
 use mathlib.Core.Path.{_≡_, sym, ap, _∙_}
 use mathlib.Core.List.{List, List·Memᴰ as In, Memᴰ·cast as in-cast}
 use native.Mathlib.Omega.{arith}
@@ -35,6 +35,14 @@ module _ {size : ℕ} {words l : List ℕ} (F : Front size words l) where
       let rises = rising-at (F .up) k j 0 kj (omega arith) in
       let a = word-at k 0 (omega arith) in
       let b = word-at j 0 low in
+      omega arith
+
+  -- before the k-th there are k smaller ones
+  pub words-above : (k : ℕ) → k < size → k ≤ getD words k 0
+  words-above zero low = omega arith
+  words-above (suc k) low =
+      let above = words-above k (omega arith) in
+      let rises = words-rise k (suc k) (omega arith) low in
       omega arith
 
   pub word-place : (x : ℕ) → In x l → (k : ℕ) × (k < size) × (getD words k 0 ≡ x)

@@ -1,4 +1,8 @@
-pub mod Roles
+pub mod Spreads
+pub mod News
+pub mod SplitRoles
+pub mod LayerRoles
+pub mod Which
 pub mod Placing
 pub mod Fronts
 pub mod Lists

@@ -1,23 +1,46 @@
-// The new darts of split: the darts of a sheet listed with the places of their new ones, the links of these, and the record that makes
-// them.
+// The new darts of split and insert: the darts that get them listed with the places of their new ones, the links of these, and the record
+// that makes them.
 use reading::UNUSED;
 use reading::link_in;
+
+mod layer;
+mod split;
+
 ghost use mathlib.Core.Path.{_≡_};
+ghost use mathlib.Core.Bool.{true, false};
 ghost use mathlib.Core.List.{List};
 ghost use Prim.Native.Nat.{ℕ, _+_, _*_, _≤_, _<_};
 ghost use lib.ListN.{length, getD};
 ghost use Rattle.model.specs.Lists.{ones};
-ghost use Rattle.model.specs.Table.{link};
+ghost use Rattle.model.specs.Table.{slots};
 ghost use Rattle.model.specs.Journal.{changesFrom};
+ghost use Rattle.model.specs.NewDarts.{newDart};
 ghost use Rattle.model.specs.Split.{splitTable};
+ghost use Rattle.model.specs.Insert.{insertTable};
+ghost use Rattle.model.specs.Checks.{pass, tableOk};
 ghost use Rattle.model.specs.Meaning.Maps.{Dim};
-ghost use Rattle.model.specs.Meaning.Splits.{newOf};
+ghost use Rattle.reading.specs.Told.{Told};
 ghost use Rattle.drafts.specs.Drafts.{drafted};
+ghost use Rattle.new_darts.specs.Slots.{SlotsFound};
 ghost use Rattle.new_darts.specs.Placed.{Enters, Placed};
-ghost use Rattle.new_darts.specs.News.{Role, SomeRole, NewLinks};
+ghost use Rattle.new_darts.specs.News.{Made, splitMade, insertMade, changedLink, NewLinks};
+ghost use Rattle.new_darts.specs.Roles.{Role, SomeRole};
 ghost use Rattle.new_darts.specs.Drafting.{Drafting, ToDarts, DartsMet, ToNew, NewMet, Writing, SomeWriting};
 
 // ---- the lists
+
+// Lists the lowest unused slots of a map, `new` of them; whether there are so many. There are not where `live` slots are live and with
+// these they are more than all slots.
+pub fn find_slots(table: &[u32], fresh: &mut [u16], new: u32, live: u32) -> bool
+    requires { ⌜ (tableOk (now table) ≡ pass) × (Told (now table)) × (new + live ≤ 1048576)
+        × (new + live ≤ slots (now table) → new ≤ length (now fresh)) ⌝ }
+    ensures { λ r. ⌜ SlotsFound (now (table .entry)) new live (now (fresh .entry)) (now (fresh .exit)) r ⌝ }
+{
+    if new + live > reading::slots(table) {
+        return false;
+    }
+    scans::list_unused(table, fresh, new) == new
+}
 
 // Where x is listed, it becomes the word r, with the place of its first new dart; how many are listed then.
 fn enter(n: u32, darts: &mut [u16], places: &mut [u16], r: u32, x: u32, listed: bool) -> u32
@@ -51,88 +74,50 @@ pub fn list_darts(n: u32, marks: &[u8], darts: &mut [u16], places: &mut [u16], s
 
 // ---- the new darts
 
-// The new dart of y: a(y) where role is 0, b(y) where it is 1, c(y) where it is 2.
-fn new_dart(fresh: &[u16], places: &[u16], role: u32, y: u32) -> u32
+// The new dart of y, the first where role is 0.
+pub fn new_dart(fresh: &[u16], places: &[u16], role: u32, y: u32) -> u32
     requires { ⌜ (y < length (now places)) × (role < 3) × (getD (now places) y 0 + role < length (now fresh)) ⌝ }
     ensures { λ r. ⌜ r ≡ getD (now (fresh .entry)) (getD (now (places .entry)) y 0 + role) 0 ⌝ }
 {
     fresh[places[y as usize] as usize + role as usize] as u32
 }
 
-// The links of a(g): a(g).0 = g, a(g).1 = b(g), a(g).2 = a(g.2), a(g).3 = a(g.3); for n = 2 the last is a(g), since g.3 = g.
-fn a_links(n: u32, table: &[u32], fresh: &[u16], places: &[u16], g: u32) -> [u32; 4]
-    requires { ⌜ SomeRole n (now table) (now fresh) (now places) 0 g ⌝ }
-    ensures { λ r. ⌜ ((d : ℕ) → Role n (now (table .entry)) d (now (fresh .entry)) (now (places .entry)) 0 g
-        → NewLinks n (now (table .entry)) d 0 g r) ⌝ }
+// The links of the new dart of g, insert's or split's.
+fn new_links(
+    n: u32,
+    insert: bool,
+    table: &[u32],
+    fresh: &[u16],
+    places: &[u16],
+    nexts: &[u16],
+    role: u32,
+    g: u32,
+) -> [u32; 4]
+    requires { ⌜ SomeRole n insert (now table) (now fresh) (now places) (now nexts) role g ⌝ }
+    ensures { λ r. ⌜ ((M : Made)
+        → Role n insert (now (table .entry)) M (now (fresh .entry)) (now (places .entry)) (now (nexts .entry)) role g
+        → NewLinks (M .table) (newDart n (M .olds) (M .news) role g) r) ⌝ }
 {
-    [
-        g,
-        new_dart(fresh, places, 1, g),
-        new_dart(fresh, places, 0, link_in(table, 2, g)),
-        new_dart(fresh, places, 0, link_in(table, 3, g)),
-    ]
-}
-
-// b(g).2: c(g) for n = 3, b(g.0) for n = 2.
-fn b_across(n: u32, table: &[u32], fresh: &[u16], places: &[u16], g: u32) -> u32
-    requires { ⌜ SomeRole n (now table) (now fresh) (now places) 1 g ⌝ }
-    ensures { λ r. ⌜ ((d : ℕ) → Role n (now (table .entry)) d (now (fresh .entry)) (now (places .entry)) 1 g
-        → r ≡ link (splitTable n (now (table .entry)) d) 2 (newOf n (now (table .entry)) d 1 g)) ⌝ }
-{
-    if n == 3 {
-        new_dart(fresh, places, 2, g)
+    if insert {
+        layer::links(n, table, fresh, places, nexts, role, g)
     } else {
-        new_dart(fresh, places, 1, link_in(table, 0, g))
+        split::links(n, table, fresh, places, role, g)
     }
 }
 
-// The links of b(g): b(g).0 = b(g.1.0.1), b(g).1 = a(g), b(g).2 as above, b(g).3 = b(g.3).
-fn b_links(n: u32, table: &[u32], fresh: &[u16], places: &[u16], g: u32) -> [u32; 4]
-    requires { ⌜ SomeRole n (now table) (now fresh) (now places) 1 g ⌝ }
-    ensures { λ r. ⌜ ((d : ℕ) → Role n (now (table .entry)) d (now (fresh .entry)) (now (places .entry)) 1 g
-        → NewLinks n (now (table .entry)) d 1 g r) ⌝ }
+// ---- the record: the old darts and the new ones stand in two rising lists, which are passed together
+
+// The link of an old dart that leads to its first new one: n for insert, 0 for split.
+fn changed_link(n: u32, insert: bool) -> u32
+    ensures { λ r. ⌜ r ≡ changedLink n insert ⌝ }
 {
-    [
-        new_dart(fresh, places, 1, reading::opposite_edge(table, g)),
-        new_dart(fresh, places, 0, g),
-        b_across(n, table, fresh, places, g),
-        new_dart(fresh, places, 1, link_in(table, 3, g)),
-    ]
+    if insert { n } else { 0 }
 }
 
-// The links of c(g): c(g).0 = c(g.1.0.1), c(g).1 = c(g.2), c(g).2 = b(g), c(g).3 = c(g.0).
-fn c_links(n: u32, table: &[u32], fresh: &[u16], places: &[u16], g: u32) -> [u32; 4]
-    requires { ⌜ SomeRole n (now table) (now fresh) (now places) 2 g ⌝ }
-    ensures { λ r. ⌜ ((d : ℕ) → Role n (now (table .entry)) d (now (fresh .entry)) (now (places .entry)) 2 g
-        → NewLinks n (now (table .entry)) d 2 g r) ⌝ }
-{
-    [
-        new_dart(fresh, places, 2, reading::opposite_edge(table, g)),
-        new_dart(fresh, places, 2, link_in(table, 2, g)),
-        new_dart(fresh, places, 1, g),
-        new_dart(fresh, places, 2, link_in(table, 0, g)),
-    ]
-}
-
-// The links of the new dart of g.
-fn new_links(n: u32, table: &[u32], fresh: &[u16], places: &[u16], role: u32, g: u32) -> [u32; 4]
-    requires { ⌜ SomeRole n (now table) (now fresh) (now places) role g ⌝ }
-    ensures { λ r. ⌜ ((d : ℕ) → Role n (now (table .entry)) d (now (fresh .entry)) (now (places .entry)) role g
-        → NewLinks n (now (table .entry)) d role g r) ⌝ }
-{
-    if role == 0 {
-        a_links(n, table, fresh, places, g)
-    } else if role == 1 {
-        b_links(n, table, fresh, places, g)
-    } else {
-        c_links(n, table, fresh, places, g)
-    }
-}
-
-// ---- the record: the darts of S and the new ones stand in two rising lists, which are passed together
-
-// From the p-th on, writes the change of each dart of S below x, from the word w on; how many darts are behind the pass then.
+// From the p-th on, writes the change of each old dart below x, from the word w on; how many are behind the pass then.
 fn write_darts(
+    n: u32,
+    insert: bool,
     table: &[u32],
     journal: &mut [u32],
     darts: &[u16],
@@ -143,13 +128,15 @@ fn write_darts(
     w: usize,
     x: u32,
 ) -> u32
-    requires { ⌜ ToDarts (now table) (now darts) (now fresh) (now places) size p w x (now journal) ⌝ }
-    ensures { λ r. ⌜ ((n d q : ℕ) (j : List ℕ)
-        → Drafting n (now (table .entry)) d (now (darts .entry)) (now (fresh .entry)) (now (places .entry)) size j p q w (now (journal .entry))
+    requires { ⌜ ToDarts n insert (now table) (now darts) (now fresh) (now places) size p w x (now journal) ⌝ }
+    ensures { λ r. ⌜ ((nexts : List ℕ) (M : Made) (q : ℕ) (j : List ℕ)
+        → Drafting n insert (now (table .entry)) M nexts (now (darts .entry)) (now (fresh .entry)) (now (places .entry)) size j p q w
+        (now (journal .entry))
         → ((k : ℕ) → q ≤ k → k < n * size → x ≤ getD (now (fresh .entry)) k 0)
-        → DartsMet n (now (table .entry)) d (now (darts .entry)) (now (fresh .entry)) (now (places .entry)) size j p q w x r
+        → DartsMet n insert (now (table .entry)) M nexts (now (darts .entry)) (now (fresh .entry)) (now (places .entry)) size j p q w x r
         (now (journal .exit))) ⌝ }
 {
+    let i = changed_link(n, insert);
     let mut k = p;
     let mut v = w;
     while k < size {
@@ -161,8 +148,8 @@ fn write_darts(
             journal,
             v,
             g,
-            0,
-            link_in(table, 0, g),
+            i,
+            link_in(table, i as usize, g),
             new_dart(fresh, places, 0, g),
         );
         k += 1;
@@ -171,34 +158,86 @@ fn write_darts(
     k
 }
 
-// Writes the next new dart, that of the i-th dart with this role, and before it the darts of S below it; how many of those are behind
-// the pass then.
+// Writes the next new dart, that of the i-th old one with this role, and before it the old ones below it; how many of those are behind the
+// pass then.
 fn write_new(
     n: u32,
+    insert: bool,
     table: &[u32],
     journal: &mut [u32],
     darts: &[u16],
     fresh: &[u16],
     places: &[u16],
+    nexts: &[u16],
     size: u32,
     p: u32,
     w: usize,
     i: u32,
     role: u32,
 ) -> u32
-    requires { ⌜ ToNew n (now table) (now darts) (now fresh) (now places) size p w i role (now journal) ⌝ }
-    ensures { λ r. ⌜ ((d : ℕ) (j : List ℕ)
-        → Drafting n (now (table .entry)) d (now (darts .entry)) (now (fresh .entry)) (now (places .entry)) size j p (n * i + role) w
-        (now (journal .entry))
-        → NewMet n (now (table .entry)) d (now (darts .entry)) (now (fresh .entry)) (now (places .entry)) size j p (n * i + role) w r
-        (now (journal .exit))) ⌝ }
+    requires { ⌜ ToNew n insert (now table) (now nexts) (now darts) (now fresh) (now places) size p w i role (now journal) ⌝ }
+    ensures { λ r. ⌜ ((M : Made) (j : List ℕ)
+        → Drafting n insert (now (table .entry)) M (now (nexts .entry)) (now (darts .entry)) (now (fresh .entry)) (now (places .entry)) size j
+        p (n * i + role) w (now (journal .entry))
+        → NewMet n insert (now (table .entry)) M (now (nexts .entry)) (now (darts .entry)) (now (fresh .entry)) (now (places .entry)) size j
+        p (n * i + role) w r (now (journal .exit))) ⌝ }
 {
     let x = fresh[(n * i + role) as usize] as u32;
-    let behind = write_darts(table, journal, darts, fresh, places, size, p, w, x);
+    let behind = write_darts(n, insert, table, journal, darts, fresh, places, size, p, w, x);
     let at = w + 3 * ((behind - p) as usize);
-    let links = new_links(n, table, fresh, places, role, darts[i as usize] as u32);
+    let g = darts[i as usize] as u32;
+    let links = new_links(n, insert, table, fresh, places, nexts, role, g);
     drafts::write_slot(journal, at, x, [UNUSED; 4], links);
     behind
+}
+
+// Drafts the record of insert or split.
+fn write(
+    n: u32,
+    insert: bool,
+    table: &[u32],
+    journal: &mut [u32],
+    darts: &[u16],
+    fresh: &[u16],
+    places: &[u16],
+    nexts: &[u16],
+    size: u32,
+)
+    requires { ⌜ SomeWriting n insert (now table) (now nexts) (now darts) (now fresh) (now places) size (now journal) ⌝ }
+    ensures { λ _. ⌜ ((M : Made)
+        → Writing n insert (now (table .entry)) M (now (nexts .entry)) (now (darts .entry)) (now (fresh .entry)) (now (places .entry)) size
+        (now (journal .entry))
+        → now (journal .exit) ≡ drafted (now (journal .entry)) (changesFrom 0 (now (table .entry)) (M .table))) ⌝ }
+{
+    let mut w = journal[0] as usize + 2;
+    let mut p = 0;
+    let mut i = 0;
+    let mut role = 0;
+    while i < size {
+        let behind = write_new(
+            n,
+            insert,
+            table,
+            journal,
+            darts,
+            fresh,
+            places,
+            nexts,
+            size,
+            p,
+            w,
+            i,
+            role,
+        );
+        w += 3 * ((behind - p) as usize) + 12;
+        p = behind;
+        role += 1;
+        if role == n {
+            role = 0;
+            i += 1;
+        }
+    }
+    write_darts(n, insert, table, journal, darts, fresh, places, size, p, w, UNUSED);
 }
 
 // Drafts the record of split.
@@ -211,25 +250,35 @@ pub fn write_split(
     places: &[u16],
     size: u32,
 )
-    requires { ⌜ SomeWriting n (now table) (now darts) (now fresh) (now places) size (now journal) ⌝ }
+    requires { ⌜ ((d : ℕ) × Writing n false (now table) (splitMade n (now table) d) (now places) (now darts) (now fresh) (now places) size
+        (now journal)) ⌝ }
     ensures { λ _. ⌜ ((d : ℕ)
-        → Writing n (now (table .entry)) d (now (darts .entry)) (now (fresh .entry)) (now (places .entry)) size (now (journal .entry))
+        → Writing n false (now (table .entry)) (splitMade n (now (table .entry)) d) (now (places .entry)) (now (darts .entry))
+        (now (fresh .entry)) (now (places .entry)) size (now (journal .entry))
         → now (journal .exit) ≡ drafted (now (journal .entry))
         (changesFrom 0 (now (table .entry)) (splitTable n (now (table .entry)) d))) ⌝ }
 {
-    let mut w = journal[0] as usize + 2;
-    let mut p = 0;
-    let mut i = 0;
-    let mut role = 0;
-    while i < size {
-        let behind = write_new(n, table, journal, darts, fresh, places, size, p, w, i, role);
-        w += 3 * ((behind - p) as usize) + 12;
-        p = behind;
-        role += 1;
-        if role == n {
-            role = 0;
-            i += 1;
-        }
-    }
-    write_darts(table, journal, darts, fresh, places, size, p, w, UNUSED);
+    write(n, false, table, journal, darts, fresh, places, places, size)
+}
+
+// Drafts the record of insert; nexts has next(h) for each dart h of the wall.
+pub fn write_layer(
+    n: u32,
+    table: &[u32],
+    journal: &mut [u32],
+    darts: &[u16],
+    fresh: &[u16],
+    places: &[u16],
+    nexts: &[u16],
+    size: u32,
+)
+    requires { ⌜ ((m : List ℕ) × Writing n true (now table) (insertMade n (now table) m) (now nexts) (now darts) (now fresh) (now places) size
+        (now journal)) ⌝ }
+    ensures { λ _. ⌜ ((m : List ℕ)
+        → Writing n true (now (table .entry)) (insertMade n (now (table .entry)) m) (now (nexts .entry)) (now (darts .entry))
+        (now (fresh .entry)) (now (places .entry)) size (now (journal .entry))
+        → now (journal .exit) ≡ drafted (now (journal .entry))
+        (changesFrom 0 (now (table .entry)) (insertTable n (now (table .entry)) m))) ⌝ }
+{
+    write(n, true, table, journal, darts, fresh, places, nexts, size)
 }

@@ -1,10 +1,10 @@
-// The C interface: the ten calls, each proved against the same definition of the model as the call below it. The number is
+// The C interface: the calls, each proved against the same definition of the model as the call below it. The number is
 // returned, place and count are stored. include/phlernsap.h says it in C.
 use answers::Answer;
 ghost use mathlib.Core.Path.{_≡_};
 ghost use mathlib.Core.List.{[]};
 ghost use Rattle.model.specs.Calls.{checkCall, orbitCall, sheetCall, addCall, sewCall, unsewCall, removeCall, splitCall};
-ghost use Rattle.model.specs.Calls.{undoCall, redoCall};
+ghost use Rattle.model.specs.Calls.{insertCall, undoCall, redoCall};
 ghost use Rattle.phlernsap.specs.Given.{given};
 
 // Stores place and count, and returns the number.
@@ -145,6 +145,22 @@ pub extern "C" fn phl_split(
         place,
         count,
     )
+}
+
+#[no_mangle]
+pub extern "C" fn phl_insert(
+    n: u32,
+    table: &mut [u32],
+    marks: &[u8],
+    journal: &mut [u32],
+    tag: u32,
+    place: &mut u32,
+    count: &mut u32,
+) -> u32
+    ensures { λ r. ⌜ given r (now (place .exit)) (now (count .exit)) (now (table .exit)) (now (marks .entry)) (now (journal .exit))
+        ≡ insertCall n (now (table .entry)) (now (marks .entry)) (now (journal .entry)) tag ⌝ }
+{
+    give(kernel::insert(n, table, marks, journal, tag), place, count)
 }
 
 #[no_mangle]

@@ -1,12 +1,12 @@
-// A request of the session: one call on the table, marks and journal that the last one left.
+// A request: one call on the table, marks and journal that the last one left.
 ghost use mathlib.Core.Path.{_≡_};
 ghost use Rattle.model.specs.Runs.{doCall};
 ghost use Rattle.model.specs.Session.{callOf};
 ghost use Rattle.answers.specs.Answers.{outcome};
-ghost use Rattle.requests.specs.Asked.{lentTo};
+ghost use Rattle.requests.specs.Asked.{lentTo, anyCall};
 use answers::Answer;
 
-// The call whose op has this place among the names: "i holds the index or mask". An operation's record has the tag.
+// The call of the session whose op has this place among the names: "i holds the index or mask". An operation's record has the tag.
 pub fn request(
     n: u32,
     table: &mut [u32],
@@ -32,5 +32,27 @@ pub fn request(
         8 => kernel::undo(n, table, journal),
         9 => kernel::redo(n, table, journal),
         _ => kernel::check(n, table),
+    }
+}
+
+// The same of all calls: behind those of the session, insert along the wall that the marks draw.
+pub fn any_request(
+    n: u32,
+    table: &mut [u32],
+    marks: &mut [u8],
+    journal: &mut [u32],
+    op: u32,
+    tag: u32,
+    i: u32,
+    d: u32,
+    e: u32,
+) -> Answer
+    ensures { λ r. ⌜ outcome r (now (table .exit)) (now (marks .exit)) (now (journal .exit))
+        ≡ doCall n (lentTo (now (table .entry)) (now (marks .entry)) (now (journal .entry))) (anyCall op tag i d e (now (marks .entry))) ⌝ }
+{
+    if op == 10 {
+        kernel::insert(n, table, marks, journal, tag)
+    } else {
+        request(n, table, marks, journal, op, tag, i, d, e)
     }
 }

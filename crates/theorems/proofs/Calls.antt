@@ -10,3 +10,4 @@ pub mod Rules
 pub mod Written
 pub mod Symmetric
 pub mod Kept
+pub mod Restored

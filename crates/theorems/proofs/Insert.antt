@@ -1,3 +1,12 @@
 pub mod Turn
 pub mod Wall
 pub mod Fails
+pub mod Laid
+pub mod Role
+pub mod Table
+pub mod Sides
+pub mod Spot
+pub mod Cells
+pub mod Sheet
+pub mod Back
+pub mod Inserted

@@ -7,6 +7,7 @@ pub mod Near
 pub mod Mirror
 pub mod Remove
 pub mod RemoveCounts
+pub mod NewDarts
 pub mod Splitting
 pub mod Role
 pub mod SplitMap

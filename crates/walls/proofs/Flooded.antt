@@ -14,12 +14,13 @@ use Rattle.model.specs.Table.{slots, link}
 use Rattle.model.specs.Reach.{inSet}
 use Rattle.model.specs.Wall.{next, wallReached, connected}
 use Rattle.model.specs.Meaning.Sets.{Marked}
+use Rattle.model.specs.Meaning.Walls.{Drawn, WallStep}
 use Rattle.theorems.proofs.Lists.Scan.{test, clash, if-eq}
 use Rattle.theorems.proofs.Lists.Ones.{getD-in, ones-of, marked-pass}
 use Rattle.theorems.proofs.Sets.Closure.{marked-in}
 use Rattle.theorems.proofs.Sets.Sizes.{length-ones, size-into, size-within}
-use Rattle.theorems.proofs.Insert.Turn.{Drawn, next-on}
-use Rattle.theorems.proofs.Insert.Wall.{WallStep, some-dart, wall-reached-is}
+use Rattle.theorems.proofs.Insert.Turn.{next-on}
+use Rattle.theorems.proofs.Insert.Wall.{some-dart, wall-reached-is}
 use Rattle.reach.specs.Search.{Search}
 use Rattle.reach.proofs.Flooding.{Step, Spread, Flooding, least-by, reached-on}
 use Rattle.walls.specs.Given.{Closed, Nexts}

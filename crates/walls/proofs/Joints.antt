@@ -12,9 +12,10 @@ use borrow.Author.Tests.{eq-eqb, ne-eqb}
 use Rattle.model.specs.Table.{slots, link, live}
 use Rattle.model.specs.Wall.{endsFree, next, bothFree, nextOver, nextApart, turnsWell}
 use Rattle.model.specs.Meaning.Sets.{Marked}
+use Rattle.model.specs.Meaning.Walls.{Drawn}
 use Rattle.theorems.proofs.Lists.Scan.{test, clash, or-i}
 use Rattle.theorems.proofs.Maps.Tables.{mapTable, rule-at}
-use Rattle.theorems.proofs.Insert.Turn.{Drawn, next-on, next-own, next-free}
+use Rattle.theorems.proofs.Insert.Turn.{next-on, next-own, next-free}
 use Rattle.walls.specs.Given.{Closed, Nexts}
 use Rattle.walls.proofs.Nexting.{drawn-of}
 

@@ -12,10 +12,11 @@ use Rattle.model.specs.Table.{slots, link, live}
 use Rattle.model.specs.Wall.{turnsOn, turnFrom, turnEnd, next}
 use Rattle.model.specs.Meaning.Maps.{MapTable}
 use Rattle.model.specs.Meaning.Sets.{Marked}
+use Rattle.model.specs.Meaning.Walls.{Drawn}
 use Rattle.theorems.proofs.Lists.Scan.{test, if-eq}
 use Rattle.theorems.proofs.Sets.Escape.{leave, stepsOut, Leaves, Nearer, leave-stops, step-nearer}
 use Rattle.theorems.proofs.Maps.Tables.{mapTable, live-below, rule-at}
-use Rattle.theorems.proofs.Insert.Turn.{Drawn, wall-stops, free-stops, stops-at, turn-ends, free-of, met-of, next-free, next-met, next-on}
+use Rattle.theorems.proofs.Insert.Turn.{wall-stops, free-stops, stops-at, turn-ends, free-of, met-of, next-free, next-met, next-on}
 use Rattle.theorems.proofs.Insert.Wall.{drawn-by}
 use Rattle.reach.proofs.Meeting.{linked, entry-in}
 use Rattle.walls.specs.Given.{Closed, Listed, Nexts}

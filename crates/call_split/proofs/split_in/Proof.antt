@@ -2,6 +2,7 @@
 -- listed, the record drafted and carried out.
 use Prim.Native.Nat.{_+_, _*_, _≤_}
 use mathlib.Core.Path.{refl}
+use mathlib.Core.Bool.{false}
 use native.Mathlib.Omega.{arith}
 use lib.ListN.{length}
 use borrow.Author.Needs.{needs}
@@ -13,6 +14,7 @@ use Rattle.drafts.specs.Passes.{Drafted}
 use Rattle.answers.proofs.Given.{told-given}
 use Rattle.answers.proofs.Commits.{commit-full, commit-done}
 use Rattle.answers.proofs.Layered.{Sheeted, layered, given, layer}
+use Rattle.new_darts.specs.News.{splitMade}
 use Rattle.new_darts.specs.Drafting.{Writing}
 use Rattle.call_split.proofs.Ends.{marks-long, leads-in, new-few, changes-few, split-crosses, split-few, ready as is-ready, Ready}
 use Rattle.call_split.proofs.Ends.{split-goes, changes-number, some-new, first-new, new-count, darts-asked, writing, split-drafted}
@@ -87,7 +89,7 @@ find-slots-requires c κs =
     let H = sheeted m in
     let few = new-few H (m .sheet .ensures .1) in
     let room = start m .pre .1 .0 in
-    (given H .table, told-given (mapTable (given H .dart .table)), few, omega arith)
+    (given H .table, told-given (mapTable (given H .dart .table)), omega arith, λ most. omega arith)
 
 same-length-4 : tie.Need-same-length-4
 same-length-4 c = search needs
@@ -192,7 +194,8 @@ write : (c : tie.After-list-darts) →
     let g = enough (fitting c .before) in
     let m = marked (uncrossed (found g) .before) in
     let a = start m .args in
-    Writing (a .n) (a .table .now) (a .d) (c .list-darts .last .1 .1 .0) (found g .find-slots .last .1 .0) (c .list-darts .last .1 .1 .1 .0)
+    Writing (a .n) false (a .table .now) (splitMade (a .n) (a .table .now) (a .d)) (c .list-darts .last .1 .1 .1 .0) (c .list-darts .last .1 .1 .0)
+    (found g .find-slots .last .1 .0) (c .list-darts .last .1 .1 .1 .0)
     (m .sheet .result) (a .journal .now)
 write c =
     let e = fitting c in
@@ -201,7 +204,7 @@ write c =
     writing (ready g) refl (e .before .record-fits .ensures) (not-false _ (e .if3 .left)) (c .list-darts .ensures) (long g) (p .1) (p .2)
 
 write-split-requires : tie.Need-write-split-requires
-write-split-requires c κs = record { d = _; is = write (c .before .before .before .before .before .before .before .before .before) }
+write-split-requires c κs = (_, write (c .before .before .before .before .before .before .before .before .before))
 
 -- the record is drafted
 draft : (c : tie.After-write-split) →

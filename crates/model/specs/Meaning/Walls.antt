@@ -1,5 +1,5 @@
--- Walls (02, R-5), as properties and not as tests: the refusals 28 to 32 in words, and what the passed checks of insert say: `Wall` with
--- `Clear` and `Joined`, `Inserts`.
+-- Walls (02, R-5), as properties and not as tests: the refusals 28 to 32 in words, and what the passed checks of insert say: `Drawn`,
+-- `Wall` with `Clear` and `Joined`, `Inserts`; the links of its new darts (`InsertLinks`).
 use Prim.Native.Nat.{ℕ, _+_, _*_, _-_, _≤_, _<_}
 use mathlib.Core.Path.{_≡_}
 use mathlib.Core.Logic.{_⊎_, _≢_}
@@ -9,8 +9,8 @@ use lib.ListN.{length, getD}
 use Rattle.model.specs.Lists.{ones, allOf}
 use Rattle.model.specs.Table.{slots, link, live}
 use Rattle.model.specs.NewDarts.{newDart, slotsFor}
-use Rattle.model.specs.Wall.{turnsOn, drawn, enclosed, sewnWall, turnsWell, connected}
-use Rattle.model.specs.Meaning.Sets.{Marked}
+use Rattle.model.specs.Wall.{next, drawn, enclosed, sewnWall, turnsWell, connected}
+use Rattle.model.specs.Meaning.Sets.{Marked, ByLink}
 use Rattle.model.specs.Meaning.Maps.{BlockTable}
 
 -- ---- the refusals of insert
@@ -49,7 +49,18 @@ pub record Joint (n : ℕ) (t m : List ℕ) (h z : ℕ) : Type 0 where
 abbrev pub Needed : ℕ → List ℕ → List ℕ → ℕ → Type 0
 Needed n t m h = (EndsFree n t m h × EndsFree n t m (link t n h)) ⊎ ((z : ℕ) × Joint n t m h z)
 
+-- 32: y is one step away from x, by a link 0..n-2 or n, or by next
+abbrev pub WallStep : ℕ → List ℕ → List ℕ → ℕ → ℕ → Type 0
+WallStep n t m x y = ByLink t (λ j. (j ≤ n) × (j ≢ n - 1)) x y ⊎ (y ≡ next n t m x)
+
 -- ---- what the passed checks say
+
+-- not 28 and not 29: the marks of a wall are on live darts of a block map, and closed under links 0..n-2 and n
+pub record Drawn (n : ℕ) (t m : List ℕ) : Type 0 where
+  pub table : BlockTable n t
+  pub lives : (x : ℕ) → Marked m x → live t x ≡ true
+  pub along : (x j : ℕ) → j + 2 ≤ n → Marked m x → Marked m (link t j x)
+  pub over : (x : ℕ) → Marked m x → Marked m (link t n x)
 
 -- the darts hs of a wall, and what takes each to the next: itself, where the turn from it ends free
 pub record Wall (n : ℕ) (t hs : List ℕ) (nx : ℕ → ℕ) : Type 0 where

@@ -14,9 +14,10 @@ use Rattle.model.specs.Map.{MapRule, links-live, links-return, pairs-commute, s
 use Rattle.model.specs.Checks.{Check, pass, refuse, andThen, must, mustAt, inOrder}
 use Rattle.model.specs.Checks.{dimOk, tableOk, marksOk, journalOk, ruleNumber, ruleOk, mapChecks, indexOk, maskOk, dartOk}
 use Rattle.model.specs.Checks.{blockOk, apartOk, freeOk}
+use Rattle.model.specs.Checks.{drawnOk, enclosedOk, sewnWallOk, turnsOk, connectedOk}
 use Rattle.model.specs.Checks.{sewnOk, pairingOk, crossingOk, addRoomOk, newRoomOk, undoOk, redoOk}
 use Rattle.model.specs.Checks.{checkChecks, orbitChecks, sheetChecks, addChecks, sidesChecks, unsewChecks}
-use Rattle.model.specs.Checks.{layerChecks, splitChecks, stepChecks}
+use Rattle.model.specs.Checks.{layerChecks, splitChecks, wallChecks, insertChecks, stepChecks}
 use Rattle.model.specs.Calls.{Outcome}
 use Rattle.model.specs.Runs.{Op, Call}
 use Rattle.model.specs.Meaning.Lists.{member}
@@ -251,7 +252,7 @@ module _ (n : ℕ) (o : Outcome) where
       rule-numbered links-live then rule-numbered links-return then rule-numbered pairs-commute then rule-numbered stays-flat then w
 
   pub call-numbers : (c : Call) → Has (numbers c) (checks n o c)
-  unfolding checksOf mapChecks checkChecks orbitChecks sheetChecks addChecks sidesChecks unsewChecks layerChecks splitChecks stepChecks dimOk tableOk marksOk indexOk maskOk dartOk apartOk freeOk sewnOk pairingOk crossingOk addRoomOk newRoomOk undoOk redoOk recordOk stepOk member indexOf
+  unfolding checksOf mapChecks checkChecks orbitChecks sheetChecks addChecks sidesChecks unsewChecks layerChecks splitChecks wallChecks insertChecks stepChecks dimOk tableOk marksOk indexOk maskOk dartOk drawnOk enclosedOk sewnWallOk turnsOk connectedOk apartOk freeOk sewnOk pairingOk crossingOk addRoomOk newRoomOk undoOk redoOk recordOk stepOk member indexOf
   call-numbers Call.check = plain _ 1 refl then plain _ 2 refl then map-then last
   call-numbers (Call.orbit mask d) =
       plain _ 1 refl then plain _ 2 refl then plain _ 3 refl then map-then (plain _ 6 refl then plain _ 7 refl then last)
@@ -271,6 +272,10 @@ module _ (n : ℕ) (o : Outcome) where
   call-numbers (Call.op tag (Op.split d)) =
       plain _ 1 refl then plain _ 2 refl then plain _ 3 refl then journal-4 then map-then (plain _ 7 refl then block-8
       then plain _ 13 refl then plain _ 14 refl then plain _ 15 refl then last)
+  call-numbers (Call.op tag (Op.insert w)) =
+      plain _ 1 refl then plain _ 2 refl then plain _ 3 refl then journal-4 then map-then (block-8 then plain _ 28 refl
+      then plain _ 29 refl then plain _ 30 refl then plain _ 31 refl then plain _ 32 refl then plain _ 14 refl
+      then plain _ 15 refl then last)
   call-numbers Call.undo =
       plain _ 1 refl then plain _ 2 refl then journal-4 then map-then (plain _ 16 refl then plain _ 17 refl then last)
   call-numbers Call.redo =

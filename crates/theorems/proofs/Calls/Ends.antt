@@ -11,8 +11,9 @@ use Rattle.model.specs.Journal.{changesFrom, recordOf, written}
 use Rattle.model.specs.Sheet.{sheet, sheetMarks}
 use Rattle.model.specs.Checks.{Check, pass, refuse, must, andThen, inOrder, pairingOk}
 use Rattle.model.specs.Checks.{mapChecks, addChecks, sidesChecks, sewChecks, unsewChecks, layerChecks, splitChecks}
+use Rattle.model.specs.Checks.{insertChecks}
 use Rattle.model.specs.Calls.{Outcome, refused, commit, checkCall, orbitCall, sheetCall, addCall, sewCall, unsewCall}
-use Rattle.model.specs.Calls.{removeCall, splitCall, stepOutcome, undoCall, redoCall}
+use Rattle.model.specs.Calls.{removeCall, splitCall, insertCall, stepOutcome, undoCall, redoCall}
 use Rattle.model.specs.Runs.{Op, Call, doCall, keeping, effect}
 use Rattle.model.specs.Meaning.Lists.{member}
 use Rattle.model.specs.Meaning.Ends.{recordOk, stepOk, checksOf, checks, numbers, lateNumbers, layerMarks, refusalMarks, refusedBy}
@@ -56,17 +57,17 @@ behind-map : {cs : List Check} {y r : Outcome} {f : ℕ → ℕ → ℕ → Outc
     → Behind cs (g y) (λ k p q. g (f k p q)) (g r)
 behind-map g b = record { passes = λ a. ap g (b .passes a); refuses = λ k p q a. ap g (b .refuses k p q a) }
 
--- a call that takes a journal and no marks; its last check, 15 or 17, is b
-behind-unmarked : (cs : List Check) (b : Bool) (z : ℕ) (t m j : List ℕ) (y : Outcome)
+-- a call that takes a journal and keeps the marks m, where its own are x: none, or a wall's; its last check, 15 or 17, is b
+behind-unmarked : (cs : List Check) (b : Bool) (z : ℕ) (t x m j : List ℕ) (y : Outcome)
     → Behind (cs ++ (must b z ∷ [])) (keeping y m (y .journal)) (λ k p q. refused k p q t m j)
     (let r = elim (inOrder cs) as (λ _. Outcome) [
-      | pass ↦ (elim b as (λ _. Outcome) [ true ↦ y | false ↦ refused z 0 0 t [] j ])
-      | refuse k p q ↦ refused k p q t [] j
+      | pass ↦ (elim b as (λ _. Outcome) [ true ↦ y | false ↦ refused z 0 0 t x j ])
+      | refuse k p q ↦ refused k p q t x j
     ] in keeping r m (r .journal))
 unfolding keeping refused
-behind-unmarked cs b z t m j y =
+behind-unmarked cs b z t x m j y =
     behind-map (λ r. keeping r m (r .journal))
-    (behind-more y (λ k p q. refused k p q t [] j) cs _ _ _ (behind-last _ _ b z _ _ refl refl) (λ k p q e. refl))
+    (behind-more y (λ k p q. refused k p q t x j) cs _ _ _ (behind-last _ _ b z _ _ refl refl) (λ k p q e. refl))
 
 -- ---- the calls
 
@@ -109,25 +110,29 @@ module _ (n : ℕ) (o : Outcome) where
 
   add-ends : (tag : ℕ) → Ends n o (Call.op tag Op.add)
   unfolding doCall addCall commit checksOf recordOk doneOf refusalMarks keeping
-  add-ends tag = behind-unmarked _ _ 15 _ _ _ _
+  add-ends tag = behind-unmarked _ _ 15 _ _ _ _ _
 
   unsew-ends : (tag i d : ℕ) → Ends n o (Call.op tag (Op.unsew i d))
   unfolding doCall unsewCall commit checksOf recordOk doneOf refusalMarks keeping
-  unsew-ends tag i d = behind-unmarked _ _ 15 _ _ _ _
+  unsew-ends tag i d = behind-unmarked _ _ 15 _ _ _ _ _
 
   sew-ends : (tag i d e : ℕ) → Ends n o (Call.op tag (Op.sew i d e))
   unfolding doCall sewCall commit sewChecks checksOf recordOk doneOf refusalMarks keeping
   sew-ends tag i d e =
       rw (← append-assoc (sidesChecks n t j i d e) (pairingOk n t i d e ∷ []) _)
-      (behind-unmarked _ _ 15 _ _ _ _)
+      (behind-unmarked _ _ 15 _ _ _ _ _)
 
   undo-ends : Ends n o Call.undo
   unfolding doCall undoCall stepOutcome checksOf stepOk doneOf refusalMarks keeping
-  undo-ends = behind-unmarked _ _ 17 _ _ _ _
+  undo-ends = behind-unmarked _ _ 17 _ _ _ _ _
 
   redo-ends : Ends n o Call.redo
   unfolding doCall redoCall stepOutcome checksOf stepOk doneOf refusalMarks keeping
-  redo-ends = behind-unmarked _ _ 17 _ _ _ _
+  redo-ends = behind-unmarked _ _ 17 _ _ _ _ _
+
+  insert-ends : (tag : ℕ) (w : List ℕ) → Ends n o (Call.op tag (Op.insert w))
+  unfolding doCall insertCall commit checksOf recordOk doneOf refusalMarks keeping
+  insert-ends tag w = behind-unmarked _ _ 15 _ _ _ _ _
 
   -- remove and split: a refusal by 13, 14 or 15 leaves the sheet's marks ..
   abbrev leaving : ℕ → ℕ → ℕ → List ℕ → Outcome
@@ -173,6 +178,7 @@ module _ (n : ℕ) (o : Outcome) where
   call-ends (Call.op tag (Op.unsew i d)) = unsew-ends tag i d
   call-ends (Call.op tag (Op.remove d)) = remove-ends tag d
   call-ends (Call.op tag (Op.split d)) = split-ends tag d
+  call-ends (Call.op tag (Op.insert w)) = insert-ends tag w
   call-ends Call.undo = undo-ends
   call-ends Call.redo = redo-ends
 
@@ -203,6 +209,7 @@ module _ (n : ℕ) (o : Outcome) where
   done-number (Call.op tag (Op.unsew i d)) = refl
   done-number (Call.op tag (Op.remove d)) = refl
   done-number (Call.op tag (Op.split d)) = refl
+  done-number (Call.op tag (Op.insert w)) = refl
   done-number Call.undo = refl
   done-number Call.redo = refl
 
@@ -234,6 +241,7 @@ module _ (n : ℕ) (o : Outcome) where
       let r = passed-append (layerChecks n t m j d) _ h in
       let s = passed-append (splitChecks n t (sheet n t d) (ones (sheet n t d))) _ (r .1) in
       ((r .0, s .0), passed-at _ (s .1) 0)
+  op-passed tag (Op.insert w) h = let r = passed-append (insertChecks n t w j) _ h in (r .0, passed-at _ (r .1) 0)
 
   done-op : (tag : ℕ) (p : Op) → (done n o (Call.op tag p) .table ≡ effect n t p)
       × (done n o (Call.op tag p) .journal ≡ written j (recordOf tag (changesFrom 0 t (effect n t p))))
@@ -243,6 +251,7 @@ module _ (n : ℕ) (o : Outcome) where
   done-op tag (Op.unsew i d) = (refl, refl)
   done-op tag (Op.remove d) = (refl, refl)
   done-op tag (Op.split d) = (refl, refl)
+  done-op tag (Op.insert w) = (refl, refl)
 
   -- an accepted operation has passed its checks, and leaves its effect and the record of the changes
   pub op-accepted : (tag : ℕ) (p : Op) → doCall n o (Call.op tag p) .number ≡ 0

@@ -1,4 +1,5 @@
--- When each check fails, in the words of 01's table: `dim-fails` (1) to `step-fails` (17).
+-- When each check fails, in the words of 01's table and of 02: `dim-fails` (1) to `step-fails` (17), `drawn-fails` (28) to
+-- `connected-fails` (32).
 use Prim.Native.Nat.{ℕ, _+_, _*_, _-_, _%_, _^_, _≤_, _<_}
 use mathlib.Core.Path.{_≡_, refl}
 use mathlib.Core.Logic.{_⊎_, _≢_, _↔_, Iff·rfl, Iff·trans, Iff·and}
@@ -15,23 +16,26 @@ use Rattle.model.specs.Reach.{inSet}
 use Rattle.model.specs.Cell.{cellSize, isBlock}
 use Rattle.model.specs.Add.{addSlots}
 use Rattle.model.specs.Sew.{side}
+use Rattle.model.specs.Wall.{wallReached}
 use Rattle.model.specs.NewDarts.{slotsFor}
 use Rattle.model.specs.Journal.{cursor, end, changesFrom, recordOf, changesAt, put, unbroken}
 use Rattle.model.specs.Checks.{pass, must, mustAt, dimOk, tableOk, marksOk, journalOk, ruleNumber, ruleOk, indexOk, maskOk}
 use Rattle.model.specs.Checks.{dartOk, blockOk, apartOk, freeOk, sewnOk, pairingOk, crossingOk, addRoomOk, newRoomOk}
-use Rattle.model.specs.Checks.{undoOk, redoOk}
+use Rattle.model.specs.Checks.{undoOk, redoOk, drawnOk, enclosedOk, sewnWallOk, turnsOk, connectedOk}
 use Rattle.model.specs.Meaning.Ends.{recordOk, stepOk}
 use Rattle.model.specs.Meaning.Maps.{Dim, BreaksFirst, MapTable, Block}
 use Rattle.model.specs.Meaning.Numbers.{JournalRule, StepFails}
 use Rattle.model.specs.Meaning.Pairings.{Pairing}
 use Rattle.model.specs.Meaning.Sets.{Marked}
 use Rattle.model.specs.Meaning.Sheets.{Crossing}
+use Rattle.model.specs.Meaning.Walls.{BadMark, Leaves, Needed, Drawn}
 use Rattle.theorems.proofs.Lists.Scan.{clash, or-false}
 use Rattle.theorems.proofs.Maps.Rules.{map-of, of-map}
 use Rattle.theorems.proofs.Maps.Broken.{broken-first, of-broken}
 use Rattle.theorems.proofs.Cells.Exact.{block-exactly}
 use Rattle.theorems.proofs.Sewing.Pairing.{paired-exactly}
 use Rattle.theorems.proofs.Layers.Sheet.{crosses-some}
+use Rattle.theorems.proofs.Insert.Fails.{drawn-false, enclosed-false, sewn-wall-false, turns-false, connected-false}
 use Rattle.theorems.proofs.History.Broken.{unbroken-exactly}
 use Rattle.theorems.proofs.Calls.Tests.{not-fails, and-fails, or-fails, leb-fails, ltb-fails, eqb-fails, eqb-holds}
 use Rattle.theorems.proofs.Calls.Tests.{test-fails, one-of}
@@ -137,9 +141,9 @@ pub add-room-fails : (n : ℕ) (t : List ℕ) → (addRoomOk n t ≢ pass) ↔ (
 unfolding addRoomOk addSlots
 add-room-fails n t = must-fails _ 14 (Iff·trans (eqb-fails _ _) (take-short (cellSize n) (unusedSlots t)))
 
-pub split-room-fails : (n : ℕ) (t gs : List ℕ) → (newRoomOk n t gs ≢ pass) ↔ (length (unusedSlots t) < n * length gs)
+pub new-room-fails : (n : ℕ) (t gs : List ℕ) → (newRoomOk n t gs ≢ pass) ↔ (length (unusedSlots t) < n * length gs)
 unfolding newRoomOk slotsFor
-split-room-fails n t gs = must-fails _ 14 (Iff·trans (eqb-fails _ _) (take-short (n * length gs) (unusedSlots t)))
+new-room-fails n t gs = must-fails _ 14 (Iff·trans (eqb-fails _ _) (take-short (n * length gs) (unusedSlots t)))
 
 pub record-fails : (tag : ℕ) (t u j : List ℕ)
     → (recordOk tag t u j ≢ pass) ↔ (length j - cursor j < length (recordOf tag (changesFrom 0 t u)))
@@ -160,3 +164,26 @@ step-fails redo n t j a k dim =
     let u = put redo (changesAt j a k) t in
     must-fails _ 17 (Iff·trans (and-fails (unbroken redo t j a k) (isMap n u))
     (one-of (unbroken-exactly redo t j a k) (test-fails (isMap n u) (map-of n u (dim .1), of-map n u))))
+
+-- ---- 28 to 32, of the wall with the marks m
+
+pub drawn-fails : (t m : List ℕ) → (drawnOk t m ≢ pass) ↔ ((d : ℕ) × (d < slots t) × BadMark t m d)
+unfolding drawnOk
+drawn-fails t m = must-fails _ 28 (drawn-false t m)
+
+module _ (n : ℕ) (t m : List ℕ) where
+  pub enclosed-fails : (enclosedOk n t m ≢ pass) ↔ (((h : ℕ) → Marked m h → ⊥) ⊎ ((h : ℕ) × Marked m h × Leaves n t m h))
+  unfolding enclosedOk
+  enclosed-fails = must-fails _ 29 (enclosed-false n t m)
+
+  pub sewn-wall-fails : (sewnWallOk n t m ≢ pass) ↔ ((h : ℕ) × Marked m h × (link t n h ≡ h))
+  unfolding sewnWallOk
+  sewn-wall-fails = must-fails _ 30 (sewn-wall-false n t m)
+
+  pub turns-fails : Drawn n t m → (turnsOk n t m ≢ pass) ↔ ((h : ℕ) × Marked m h × (Needed n t m h → ⊥))
+  unfolding turnsOk
+  turns-fails drawn = must-fails _ 31 (turns-false n t m drawn)
+
+  pub connected-fails : (connectedOk n t m ≢ pass) ↔ ((h : ℕ) × Marked m h × (Marked (wallReached n t m) h → ⊥))
+  unfolding connectedOk
+  connected-fails = must-fails _ 32 (connected-false n t m)

@@ -1,4 +1,4 @@
--- What an accepted call makes of a map is a map; what add, remove and split make of a block map is a block map.
+-- What an accepted call makes of a map is a map; what add, remove, split and insert make of a block map is a block map.
 use Prim.Native.Nat.{ℕ, _≤_}
 use mathlib.Core.Path.{_≡_, sym, ap, _∙_, subst}
 use mathlib.Core.Bool.{true, false}
@@ -12,7 +12,8 @@ use Rattle.model.specs.Add.{addSlots, addTable}
 use Rattle.model.specs.Sew.{isPaired, sewTable, unsewTable}
 use Rattle.model.specs.Split.{splitTable}
 use Rattle.model.specs.Checks.{stepChecks, undoOk, redoOk}
-use Rattle.model.specs.Calls.{Outcome, addCall, sewCall, unsewCall, removeCall, splitCall, undoCall, redoCall}
+use Rattle.model.specs.Calls.{Outcome, addCall, sewCall, unsewCall, removeCall, splitCall, insertCall}
+use Rattle.model.specs.Calls.{undoCall, redoCall}
 use Rattle.model.specs.Runs.{Op, Call, doCall, keeping, effect}
 use Rattle.model.specs.Meaning.Ends.{lent, checksOf, doneOf}
 use Rattle.model.specs.Meaning.Maps.{MapTable, Straight, BlockTable, Keeps, KeepsAt, BlockMap}
@@ -29,9 +30,10 @@ use Rattle.theorems.proofs.Sewing.Straight.{sew-straight, unsew-straigh
 use Rattle.theorems.proofs.Layers.Remove.{remove-block}
 use Rattle.theorems.proofs.Layers.Splitting.{splits-splitting}
 use Rattle.theorems.proofs.Layers.SplitBlock.{split-block}
+use Rattle.theorems.proofs.Insert.Inserted.{insert-keeps}
 use Rattle.theorems.proofs.Calls.Checks.{passed-at, passed-append}
 use Rattle.theorems.proofs.Calls.Pass.{step-pass, SidesPassed, unsew-side, sides-sewable}
-use Rattle.theorems.proofs.Calls.Pass.{add-passed, unsew-passed, sew-passed, layer-passed, split-passed}
+use Rattle.theorems.proofs.Calls.Pass.{add-passed, unsew-passed, sew-passed, layer-passed, split-passed, insert-passed}
 use Rattle.theorems.proofs.Calls.Ends.{call-passed, call-done, op-effect}
 
 -- ---- add
@@ -92,18 +94,18 @@ module _ (n : ℕ) (t j : List ℕ) (tag i d e : ℕ) where
       let passed = sew-passed n t j i d e (r .0) in
       rw (r .1) (sew-keeps (passed .0) (passed .1))
 
--- ---- remove, split
+-- ---- remove, split, insert
+
+block-map : (n : ℕ) (u : List ℕ) → BlockTable n u → BlockMap n u
+block-map n u U = (of-map n u (U .map), of-block n u U)
 
 module _ (n : ℕ) (t m j : List ℕ) (tag d : ℕ) where
-  block-map : (u : List ℕ) → BlockTable n u → BlockMap n u
-  block-map u U = (of-map n u (U .map), of-block n u U)
-
   pub remove-call : removeCall n t m j tag d .number ≡ 0 → BlockMap n (removeCall n t m j tag d .table)
   unfolding doCall keeping effect
   remove-call h =
       let r = op-effect n (lent t m j) tag (Op.remove d) h in
       let passed = layer-passed n t j m d (r .0) in
-      rw (r .1) (block-map _ (remove-block passed))
+      rw (r .1) (block-map n _ (remove-block passed))
 
   pub split-call : splitCall n t m j tag d .number ≡ 0 → BlockMap n (splitCall n t m j tag d .table)
   unfolding doCall keeping effect splitTable
@@ -113,7 +115,14 @@ module _ (n : ℕ) (t m j : List ℕ) (tag d : ℕ) where
       let passed = layer-passed n t j m d (r .0 .0) in
       let split = split-passed n t j (sheet n t d) gs (r .0 .1) in
       let given = splits-splitting (record { dart = passed; uncrossed = split .uncrossed; room = split .room }) in
-      rw (r .1) (block-map _ (split-block given))
+      rw (r .1) (block-map n _ (split-block given))
+
+pub insert-call : (n : ℕ) (t m j : List ℕ) (tag : ℕ) → insertCall n t m j tag .number ≡ 0
+    → BlockMap n (insertCall n t m j tag .table)
+unfolding doCall keeping effect
+insert-call n t m j tag h =
+    let r = op-effect n (lent t m j) tag (Op.insert m) h in
+    rw (r .1) (block-map n _ (insert-keeps (insert-passed n t j m (r .0))))
 
 -- ---- undo, redo: what is put back is a map, or it is refused
 

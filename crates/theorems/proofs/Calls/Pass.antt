@@ -3,7 +3,7 @@ use Prim.Native.Nat.{ℕ, _*_, _-_, _%_, _≤_}
 use mathlib.Core.Path.{_≡_, refl, sym, _∙_}
 use mathlib.Core.Logic.{_≢_, ⊎-elim}
 use mathlib.Core.Bool.{Bool, true, false, _&&_}
-use mathlib.Core.List.{List, [], _∷_}
+use mathlib.Core.List.{List, [], _∷_, _++_}
 use native.Mathlib.Omega.{arith}
 use lib.ListN.{length}
 use lib.Dec.{eqb, leb}
@@ -18,22 +18,25 @@ use Rattle.model.specs.Add.{addSlots}
 use Rattle.model.specs.Sew.{side, isPaired}
 use Rattle.model.specs.NewDarts.{slotsFor}
 use Rattle.model.specs.Split.{crosses}
-use Rattle.model.specs.Checks.{pass, must, mustAt, inOrder}
-use Rattle.model.specs.Checks.{dimOk, tableOk, journalOk, ruleOk, mapChecks, indexOk, dartOk, blockOk}
-use Rattle.model.specs.Checks.{apartOk, freeOk}
+use Rattle.model.specs.Checks.{Check, pass, must, mustAt, inOrder}
+use Rattle.model.specs.Checks.{dimOk, tableOk, marksOk, journalOk, ruleOk, mapChecks, indexOk, dartOk, blockOk}
+use Rattle.model.specs.Checks.{drawnOk, enclosedOk, sewnWallOk, turnsOk, connectedOk, apartOk, freeOk}
 use Rattle.model.specs.Checks.{sewnOk, pairingOk, crossingOk, addRoomOk, newRoomOk}
 use Rattle.model.specs.Checks.{addChecks, sidesChecks, sewChecks, unsewChecks, layerChecks, splitChecks}
+use Rattle.model.specs.Checks.{wallChecks, insertChecks}
 use Rattle.model.specs.Runs.{Op}
 use Rattle.model.specs.Meaning.Ends.{recordOk, stepOk, opNumbers}
 use Rattle.model.specs.Meaning.Numbers.{JournalRule}
-use Rattle.model.specs.Meaning.Maps.{Dim, MapTable}
+use Rattle.model.specs.Meaning.Maps.{Dim, MapTable, BlockTable}
 use Rattle.model.specs.Meaning.Pairings.{OnSide, Sewable}
 use Rattle.model.specs.Meaning.Sets.{Marked}
 use Rattle.model.specs.Meaning.Sheets.{BlockDart}
+use Rattle.model.specs.Meaning.Walls.{Drawn, Inserts}
 use Rattle.theorems.proofs.Lists.Scan.{clash, test, and-l, and-r, or-cases}
 use Rattle.theorems.proofs.Maps.Rules.{map-of}
 use Rattle.theorems.proofs.Maps.Broken.{each-rule, some-broken, of-broken}
 use Rattle.theorems.proofs.Cells.Exact.{block-of}
+use Rattle.theorems.proofs.Insert.Wall.{drawn-by}
 use Rattle.theorems.proofs.Calls.Tests.{or-holds}
 use Rattle.theorems.proofs.Calls.Checks.{must-at-0, not-pass, passed-at, passed-number, passed-append}
 
@@ -131,6 +134,9 @@ table-of n t a b c =
     let long = table-pass t b in
     record { dim = dim; whole = long .0; few = long .1; map = map-of n t (dim .1) (map-pass n t (dim .1) c) }
 
+pub block-table-of : (n : ℕ) (t : List ℕ) → dimOk n ≡ pass → tableOk t ≡ pass → RulesPass n t → blockOk n t ≡ pass → BlockTable n t
+block-table-of n t a b c d = block-of n t (table-of n t a b c) (block-pass n t d)
+
 pub record AddPassed (n : ℕ) (t : List ℕ) : Type 0 where
   pub table : MapTable n t
   pub room : length (addSlots n t) ≡ cellSize n
@@ -224,7 +230,7 @@ module _ (n : ℕ) (t j : List ℕ) where
   layer-passed m d a =
       let q = passed-number (opNumbers (Op.remove d)) (layerChecks n t m j d) a in
       record {
-        table = block-of n t (table-of n t (q 1) (q 2) (rules-pass n t (q 5) (q 24) (q 25) (q 26))) (block-pass n t (q 8));
+        table = block-table-of n t (q 1) (q 2) (rules-pass n t (q 5) (q 24) (q 25) (q 26)) (q 8);
         lives = dart-pass t d (q 7);
       }
 
@@ -233,3 +239,28 @@ module _ (n : ℕ) (t j : List ℕ) where
   split-passed s gs a =
       let q = passed-number (13 ∷ 14 ∷ []) (splitChecks n t s gs) a in
       record { uncrossed = not-true _ (must-pass _ 13 (q 13)); room = eqb-true _ _ (must-pass _ 14 (q 14)) }
+
+  pub insert-passed : (w : List ℕ) → inOrder (insertChecks n t w j) ≡ pass → Inserts n t w
+  unfolding insertChecks wallChecks mapChecks marksOk drawnOk enclosedOk sewnWallOk turnsOk connectedOk newRoomOk indexOf
+  insert-passed w a =
+      let q = passed-number (opNumbers (Op.insert w)) (insertChecks n t w j) a in
+      record {
+        table = block-table-of n t (q 1) (q 2) (rules-pass n t (q 5) (q 24) (q 25) (q 26)) (q 8);
+        long = eqb-true _ _ (must-pass _ 3 (q 3));
+        drawn = must-pass _ 28 (q 28);
+        enclosed = must-pass _ 29 (q 29);
+        sewn = must-pass _ 30 (q 30);
+        turns = must-pass _ 31 (q 31);
+        joined = must-pass _ 32 (q 32);
+        room = eqb-true _ _ (must-pass _ 14 (q 14));
+      }
+
+  -- of insert, where the checks before 30 pass
+  pub wall-drawn : (w : List ℕ) (rest : List Check)
+      → inOrder (dimOk n ∷ tableOk t ∷ marksOk t w ∷ journalOk j
+      ∷ (mapChecks n t ++ (blockOk n t ∷ drawnOk t w ∷ enclosedOk n t w ∷ rest))) ≡ pass → Drawn n t w
+  unfolding mapChecks marksOk drawnOk enclosedOk indexOf
+  wall-drawn w rest a =
+      let q = passed-number (opNumbers (Op.insert w)) _ a in
+      let T = block-table-of n t (q 1) (q 2) (rules-pass n t (q 5) (q 24) (q 25) (q 26)) (q 8) in
+      drawn-by w T (eqb-true _ _ (must-pass _ 3 (q 3))) (must-pass _ 28 (q 28)) (must-pass _ 29 (q 29))

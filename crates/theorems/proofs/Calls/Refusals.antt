@@ -1,29 +1,33 @@
 -- When a number is given, by the checks before it. `given-exactly`: of any call, by a check that has its number alone.
--- `sew-12`: no pairing exists. `split-13`: some g in S has g.1 in S. `undo-17`, `redo-17`: record broken, or result no map.
-use Prim.Native.Nat.{ℕ}
+-- `sew-12-exactly`: no pairing exists. `split-13-exactly`: some g in S has g.1 in S. `undo-17-exactly`, `redo-17-exactly`: record
+-- broken, or result no map. `insert-28-exactly` to `insert-32-exactly`: what is wrong with the wall.
+use Prim.Native.Nat.{ℕ, _<_}
 use mathlib.Core.Path.{_≡_, refl, sym, ap, _∙_}
-use mathlib.Core.Logic.{_≢_, _↔_, ⊎-elim}
+use mathlib.Core.Logic.{_⊎_, _≢_, _↔_, ⊎-elim}
 use mathlib.Core.Bool.{true, false}
 use mathlib.Core.List.{List, [], _∷_, _++_, List·Memᴰ·eq-of-singleton as sole}
 use native.Mathlib.Omega.{arith}
 use lib.ListN.{length, take, drop}
 use Rattle.model.specs.Lists.{indexOf}
-use Rattle.model.specs.Table.{link}
+use Rattle.model.specs.Table.{slots, link}
 use Rattle.model.specs.Sheet.{sheet}
+use Rattle.model.specs.Wall.{wallReached}
 use Rattle.model.specs.Journal.{cursor}
 use Rattle.model.specs.Checks.{Check, pass, refuse, andThen, inOrder, undoOk, redoOk}
-use Rattle.model.specs.Checks.{mapChecks, sidesChecks, layerChecks, splitChecks, stepChecks}
-use Rattle.model.specs.Calls.{Outcome, refused, sewCall, splitCall, undoCall, redoCall}
+use Rattle.model.specs.Checks.{mapChecks, sidesChecks, layerChecks, splitChecks, wallChecks, insertChecks, stepChecks}
+use Rattle.model.specs.Calls.{Outcome, refused, sewCall, splitCall, insertCall, undoCall, redoCall}
 use Rattle.model.specs.Runs.{Op, Call, doCall, keeping}
 use Rattle.model.specs.Meaning.Lists.{member}
-use Rattle.model.specs.Meaning.Ends.{lent, checksOf, checks, numbers, undoCount, undoStart, redoCount}
+use Rattle.model.specs.Meaning.Ends.{lent, checksOf, checks, opNumbers, numbers, undoCount, undoStart, redoCount}
 use Rattle.model.specs.Meaning.Numbers.{StepFails}
 use Rattle.model.specs.Meaning.Pairings.{Pairing}
 use Rattle.model.specs.Meaning.Sets.{Marked}
+use Rattle.model.specs.Meaning.Walls.{BadMark, Leaves, Needed}
 use Rattle.theorems.proofs.Calls.Checks.{passed-at, append-passed, append-refused, passed-or-refused, same-refusal}
 use Rattle.theorems.proofs.Calls.Checks.{Numbers, not-in, numbers-before, numbers-behind, refusal-says, call-numbers}
-use Rattle.theorems.proofs.Calls.Pass.{dim-pass, sides-passed}
+use Rattle.theorems.proofs.Calls.Pass.{dim-pass, sides-passed, wall-drawn}
 use Rattle.theorems.proofs.Calls.Fails.{pairing-fails, crossing-fails, step-fails}
+use Rattle.theorems.proofs.Calls.Fails.{drawn-fails, enclosed-fails, sewn-wall-fails, turns-fails, connected-fails}
 use Rattle.theorems.proofs.Calls.Ends.{call-ends, call-refused}
 
 -- ---- one check among others
@@ -134,3 +138,45 @@ unfolding doCall keeping checksOf stepChecks mapChecks member indexOf
 redo-17-exactly n t j =
     given-exactly n (lent t [] j) Call.redo 17 (λ q. omega arith) (stepChecks n t j (redoOk j)) _ [] refl refl refl refl
     (λ h. step-fails true n t j _ _ (dim-pass n (passed-at _ h 0)))
+
+-- ---- 28 to 32
+
+module _ (n : ℕ) (t m j : List ℕ) (tag : ℕ) where
+  -- the checks of insert before the one with the number z
+  abbrev before : ℕ → List Check
+  before z = take (indexOf z (opNumbers (Op.insert m))) (insertChecks n t m j)
+
+  pub insert-28-exactly : (insertCall n t m j tag .number ≡ 28)
+      ↔ ((inOrder (before 28) ≡ pass) × ((d : ℕ) × (d < slots t) × BadMark t m d))
+  unfolding doCall keeping checksOf insertChecks wallChecks mapChecks member indexOf
+  insert-28-exactly =
+      given-exactly n (lent t [] j) (Call.op tag (Op.insert m)) 28 (λ q. omega arith) (before 28) _ _ refl refl refl refl
+      (λ h. drawn-fails t m)
+
+  pub insert-29-exactly : (insertCall n t m j tag .number ≡ 29)
+      ↔ ((inOrder (before 29) ≡ pass) × (((h : ℕ) → Marked m h → ⊥) ⊎ ((h : ℕ) × Marked m h × Leaves n t m h)))
+  unfolding doCall keeping checksOf insertChecks wallChecks mapChecks member indexOf
+  insert-29-exactly =
+      given-exactly n (lent t [] j) (Call.op tag (Op.insert m)) 29 (λ q. omega arith) (before 29) _ _ refl refl refl refl
+      (λ h. enclosed-fails n t m)
+
+  pub insert-30-exactly : (insertCall n t m j tag .number ≡ 30)
+      ↔ ((inOrder (before 30) ≡ pass) × ((h : ℕ) × Marked m h × (link t n h ≡ h)))
+  unfolding doCall keeping checksOf insertChecks wallChecks mapChecks member indexOf
+  insert-30-exactly =
+      given-exactly n (lent t [] j) (Call.op tag (Op.insert m)) 30 (λ q. omega arith) (before 30) _ _ refl refl refl refl
+      (λ h. sewn-wall-fails n t m)
+
+  pub insert-31-exactly : (insertCall n t m j tag .number ≡ 31)
+      ↔ ((inOrder (before 31) ≡ pass) × ((h : ℕ) × Marked m h × (Needed n t m h → ⊥)))
+  unfolding doCall keeping checksOf insertChecks wallChecks mapChecks member indexOf
+  insert-31-exactly =
+      given-exactly n (lent t [] j) (Call.op tag (Op.insert m)) 31 (λ q. omega arith) (before 31) _ _ refl refl refl refl
+      (λ h. turns-fails n t m (wall-drawn n t j m _ h))
+
+  pub insert-32-exactly : (insertCall n t m j tag .number ≡ 32)
+      ↔ ((inOrder (before 32) ≡ pass) × ((h : ℕ) × Marked m h × (Marked (wallReached n t m) h → ⊥)))
+  unfolding doCall keeping checksOf insertChecks wallChecks mapChecks member indexOf
+  insert-32-exactly =
+      given-exactly n (lent t [] j) (Call.op tag (Op.insert m)) 32 (λ q. omega arith) (before 32) _ _ refl refl refl refl
+      (λ h. connected-fails n t m)

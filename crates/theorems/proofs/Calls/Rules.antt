@@ -13,7 +13,7 @@ use Rattle.model.specs.Map.{MapRule, links-live, links-return, pairs-commute, s
 use Rattle.model.specs.Map.{leastBreaking, isMap}
 use Rattle.model.specs.Checks.{Check, pass, refuse, mustAt, andThen, inOrder, dimOk, ruleNumber, ruleOk, mapChecks}
 use Rattle.model.specs.Checks.{checkChecks, orbitChecks, sheetChecks, addChecks, sidesChecks, unsewChecks}
-use Rattle.model.specs.Checks.{layerChecks, stepChecks}
+use Rattle.model.specs.Checks.{layerChecks, insertChecks, stepChecks}
 use Rattle.model.specs.Calls.{Outcome, refused}
 use Rattle.model.specs.Runs.{Op, Call, doCall}
 use Rattle.model.specs.Meaning.Lists.{member}
@@ -92,7 +92,7 @@ module _ (n : ℕ) (o : Outcome) where
     clear : noRules (take (length (firstChecks n o c)) (numbers c)) ≡ true
 
   begins : (c : Call) → Begins c
-  unfolding checksOf mapChecks checkChecks orbitChecks sheetChecks addChecks sidesChecks unsewChecks layerChecks stepChecks member indexOf
+  unfolding checksOf mapChecks checkChecks orbitChecks sheetChecks addChecks sidesChecks unsewChecks layerChecks insertChecks stepChecks member indexOf
   begins Call.check = record { behind = _; is = refl; dim = refl; clear = refl }
   begins (Call.orbit mask d) = record { behind = _; is = refl; dim = refl; clear = refl }
   begins (Call.sheet d) = record { behind = _; is = refl; dim = refl; clear = refl }
@@ -101,6 +101,7 @@ module _ (n : ℕ) (o : Outcome) where
   begins (Call.op tag (Op.unsew i d)) = record { behind = _; is = refl; dim = refl; clear = refl }
   begins (Call.op tag (Op.remove d)) = record { behind = _; is = refl; dim = refl; clear = refl }
   begins (Call.op tag (Op.split d)) = record { behind = _; is = refl; dim = refl; clear = refl }
+  begins (Call.op tag (Op.insert w)) = record { behind = _; is = refl; dim = refl; clear = refl }
   begins Call.undo = record { behind = _; is = refl; dim = refl; clear = refl }
   begins Call.redo = record { behind = _; is = refl; dim = refl; clear = refl }
 

@@ -1,4 +1,4 @@
--- `number-table`: each call gives the number of the first of its rows of 01's table that is given, or 0.
+-- `number-table`: each call gives the number of the first of its rows of 01's table that is given, or 0. `none-given`: 0 where none is.
 use Prim.Native.Nat.{ℕ, _<_}
 use mathlib.Core.Path.{_≡_, refl, sym, ap, _∙_, subst}
 use mathlib.Core.Logic.{inl, inr, _≢_, _↔_}
@@ -10,7 +10,7 @@ use Rattle.model.specs.Map.{MapRule, links-live, links-return, pairs-commute, s
 use Rattle.model.specs.Sheet.{sheet}
 use Rattle.model.specs.Checks.{Check, pass, refuse, andThen, inOrder, dimOk, tableOk, marksOk, journalOk, ruleNumber, ruleOk}
 use Rattle.model.specs.Checks.{mapChecks, checkChecks, orbitChecks, sheetChecks, addChecks, sidesChecks, unsewChecks}
-use Rattle.model.specs.Checks.{layerChecks, splitChecks, stepChecks}
+use Rattle.model.specs.Checks.{layerChecks, splitChecks, wallChecks, insertChecks, stepChecks}
 use Rattle.model.specs.Calls.{Outcome, refused}
 use Rattle.model.specs.Runs.{Op, Call, doCall}
 use Rattle.model.specs.Meaning.Ends.{stepOk, checksOf, checks, opNumbers, numbers}
@@ -20,11 +20,11 @@ use Rattle.model.specs.Meaning.Numbers.{stepRow, numberRows}
 use Rattle.theorems.proofs.Maps.Broken.{each-earlier}
 use Rattle.theorems.proofs.Calls.Checks.{not-pass, passed-at, passed-number, passed-append, append-passed, Numbered, Numbers}
 use Rattle.theorems.proofs.Calls.Checks.{_then_, call-numbers}
-use Rattle.theorems.proofs.Calls.Pass.{dim-pass, rules-pass, table-of, sides-passed}
+use Rattle.theorems.proofs.Calls.Pass.{dim-pass, rules-pass, table-of, sides-passed, wall-drawn}
 use Rattle.theorems.proofs.Calls.Fails.{dim-fails, table-fails, marks-fails, journal-fails, rule-fails, index-fails, mask-fails}
 use Rattle.theorems.proofs.Calls.Fails.{dart-fails, block-fails, apart-fails, free-fails, sewn-fails, pairing-fails}
-use Rattle.theorems.proofs.Calls.Fails.{crossing-fails, add-room-fails, split-room-fails, record-fails, undo-fails, redo-fails}
-use Rattle.theorems.proofs.Calls.Fails.{step-fails}
+use Rattle.theorems.proofs.Calls.Fails.{crossing-fails, add-room-fails, new-room-fails, record-fails, undo-fails, redo-fails}
+use Rattle.theorems.proofs.Calls.Fails.{step-fails, drawn-fails, enclosed-fails, sewn-wall-fails, turns-fails, connected-fails}
 use Rattle.theorems.proofs.Calls.Ends.{call-ends, done-number}
 
 -- two numbers of the first row that is given are one
@@ -34,6 +34,16 @@ first-once (r ∷ rs) y z (inl a) (inl b) = a .1 ∙ sym (b .1)
 first-once (r ∷ rs) y z (inl a) (inr b) = absurd (b .0 (a .0))
 first-once (r ∷ rs) y z (inr a) (inl b) = absurd (a .0 (b .0))
 first-once (r ∷ rs) y z (inr a) (inr b) = first-once rs y z (a .1) (b .1)
+
+-- none of the rows is given
+infixr 5 _beside_
+pub data NoneGiven : List NumberRow → Type 1 where
+  nothing : NoneGiven []
+  _beside_ : {r : NumberRow} {rs : List NumberRow} → (r .given → ⊥) → NoneGiven rs → NoneGiven (r ∷ rs)
+
+first-none : (rs : List NumberRow) → NoneGiven rs → First rs 0
+first-none [] nothing = refl
+first-none (r ∷ rs) (a beside b) = inr (a, first-none rs b)
 
 -- each check fails exactly if its row is given; some where those before them pass
 infixr 5 _next_ _next-passed_
@@ -160,7 +170,7 @@ module _ (n : ℕ) (o : Outcome) where
       next-passed w)
 
   meets : (c : Call) → MeetsRows c
-  unfolding checksOf mapChecks checkChecks orbitChecks sheetChecks addChecks sidesChecks unsewChecks splitChecks stepChecks indexOf
+  unfolding checksOf mapChecks checkChecks orbitChecks sheetChecks addChecks sidesChecks unsewChecks splitChecks wallChecks insertChecks stepChecks indexOf
   meets Call.check = dim-fails n next table-fails t next then-map _ no-more
   meets (Call.orbit mask d) = with-marks (mask-fails n mask next dart-fails t d next no-more)
   meets (Call.sheet d) = with-marks (dart-fails t d
@@ -174,8 +184,15 @@ module _ (n : ℕ) (o : Outcome) where
   meets (Call.op tag (Op.unsew i d)) = with-journal (index-fails n i next dart-fails t d next sewn-fails t i d
       next record-fails tag t _ j next no-more)
   meets (Call.op tag (Op.remove d)) = with-layer d (record-fails tag t _ j next no-more)
-  meets (Call.op tag (Op.split d)) = with-layer d (crossing-fails t (sheet n t d) next split-room-fails n t (ones (sheet n t d))
+  meets (Call.op tag (Op.split d)) = with-layer d (crossing-fails t (sheet n t d) next new-room-fails n t (ones (sheet n t d))
       next record-fails tag t _ j next no-more)
+  meets (Call.op tag (Op.insert w)) =
+      dim-fails n next table-fails t next marks-fails t w next journal-fails j next then-map _ (
+      (λ h. let q = passed-number (opNumbers (Op.insert w)) _ h in
+      block-fails n t (table-of n t (q 1) (q 2) (rules-pass n t (q 5) (q 24) (q 25) (q 26))))
+      next-passed drawn-fails t w next enclosed-fails n t w next sewn-wall-fails n t w
+      next (λ h. turns-fails n t w (wall-drawn n t j w _ h))
+      next-passed connected-fails n t w next new-room-fails n t (ones w) next record-fails tag t _ j next no-more)
   meets Call.undo = with-journal (undo-fails j next step-row false _ _ _ next-passed no-more)
   meets Call.redo = with-journal (redo-fails j next step-row true _ _ _ next-passed no-more)
 
@@ -189,6 +206,7 @@ module _ (n : ℕ) (o : Outcome) where
   rows-numbers (Call.op tag (Op.unsew i d)) = refl
   rows-numbers (Call.op tag (Op.remove d)) = refl
   rows-numbers (Call.op tag (Op.split d)) = refl
+  rows-numbers (Call.op tag (Op.insert w)) = refl
   rows-numbers Call.undo = refl
   rows-numbers Call.redo = refl
 
@@ -206,3 +224,6 @@ module _ (n : ℕ) (o : Outcome) where
       let w = rw (rows-numbers c) at (call-numbers n o c) in
       let first = rw (← number-in-order c) at (first-number [] (numberRows n t m j c) (checks n o c) refl (meets c) w) in
       (λ h. subst (First (numberRows n t m j c)) h first, λ g. first-once (numberRows n t m j c) _ z first g)
+
+  pub none-given : (c : Call) → NoneGiven (numberRows n (o .table) (o .marks) (o .journal) c) → doCall n o c .number ≡ 0
+  none-given c none = number-table c 0 .1 (first-none _ none)

@@ -3,18 +3,24 @@
 -- 5 and 24 to 26: `place-of-others`, `count-of-others`.
 -- `reading-untouched`: check, orbit and sheet leave table and journal also where they are accepted.
 -- `sheet-marks`, `remove-marks`, `split-marks`: accepted, or refused by 13, 14 or 15, they leave the marks of the sheet.
-use Prim.Native.Nat.{ℕ}
+-- `insert-marks-stay`: insert leaves the wall's marks.
+use Prim.Native.Nat.{ℕ, _-_}
 use mathlib.Core.Path.{_≡_, refl, ap, _∙_}
 use mathlib.Core.Logic.{⊎-elim, _≢_}
+use mathlib.Core.List.{List}
 use native.Mathlib.Omega.{arith}
+use lib.ListN.{length}
+use lib.Dec.{leb}
 use Rattle.model.specs.Cell.{leastWrong}
-use Rattle.model.specs.Calls.{Outcome, refused}
+use Rattle.model.specs.Journal.{Change, cursor, changesFrom, recordOf}
+use Rattle.model.specs.Checks.{Check, pass, refuse, inOrder, insertChecks}
+use Rattle.model.specs.Calls.{Outcome, refused, commit, insertCall}
 use Rattle.model.specs.Runs.{Op, Call, doCall}
 use Rattle.model.specs.Meaning.Ends.{Untouched, done, refusalPlace, Sheeted, layerMarks, refusalMarks, doneOf}
 use Rattle.model.specs.Meaning.Ends.{Reading, reads-check, reads-orbit, reads-sheet}
 use Rattle.model.specs.Meaning.Maps.{byRule, NoRule}
 use Rattle.model.specs.Meaning.Sheets.{marksOf}
-use Rattle.theorems.proofs.Lists.Scan.{if-eq}
+use Rattle.theorems.proofs.Lists.Scan.{test, if-eq}
 use Rattle.theorems.proofs.Calls.Checks.{place-other, count-other}
 use Rattle.theorems.proofs.Calls.Ends.{late-marks, call-says, call-done, call-refused}
 
@@ -81,3 +87,19 @@ module _ (n : ℕ) (o : Outcome) (d : ℕ) where
       → doCall n o (Call.op tag (Op.split d)) .marks ≡ marksOf n (o .table) d
   unfolding doneOf refusalMarks
   split-marks tag = left (Call.op tag (Op.split d)) refl (λ k. refl)
+
+-- ---- the marks of a wall
+
+commit-marks : (t u m j : List ℕ) (tag p : ℕ) (size : List Change → ℕ) → commit t u m j tag p size .marks ≡ m
+unfolding commit refused
+commit-marks t u m j tag p size =
+    test (leb (length (recordOf tag (changesFrom 0 t u))) (length j - cursor j)) (λ e. rw (e, commit)) (λ e. rw (e, commit))
+
+-- "marks stay" (02, R-5), accepted or refused
+pub insert-marks-stay : (n : ℕ) (t m j : List ℕ) (tag : ℕ) → insertCall n t m j tag .marks ≡ m
+unfolding insertCall refused
+insert-marks-stay n t m j tag = go (inOrder (insertChecks n t m j)) refl
+  where
+    go : (c : Check) → inOrder (insertChecks n t m j) ≡ c → insertCall n t m j tag .marks ≡ m
+    go pass e = rw (e, insertCall) (commit-marks t _ m j tag _ _)
+    go (refuse k p q) e = rw (e, insertCall)

@@ -1,5 +1,5 @@
 -- Counts are sizes. Of sew, unsew, undo and redo: the entries that changed, one at least (`sew-count`, ..). Of orbit and
--- sheet: the darts of the set. Of add, remove and split: the darts of the new cell, of the removed cells, the new darts.
+-- sheet: the darts of the set. Of add, remove, split and insert: the darts of the new cell, of the removed cells, the new darts.
 -- `op-changes-some`: an accepted operation changes an entry.
 use Prim.Native.Nat.{ℕ, zero, suc, _+_, _*_, _<_}
 use mathlib.Core.Path.{_≡_, refl, sym, ap, _∙_}
@@ -128,3 +128,9 @@ module _ (n : ℕ) (o : Outcome) where
   unfolding doneOf
   split-count tag d h =
       rw (call-done n o (Call.op tag (Op.split d)) h) (ap (λ (k : ℕ). n * k) (length-ones (sheet n (o .table) d) 0))
+
+  -- "count: darts added" (02, R-5): n for each dart of the wall
+  pub insert-count : (tag : ℕ) (w : List ℕ) → doCall n o (Call.op tag (Op.insert w)) .number ≡ 0
+      → doCall n o (Call.op tag (Op.insert w)) .count ≡ n * count 1 w
+  unfolding doneOf
+  insert-count tag w h = rw (call-done n o (Call.op tag (Op.insert w)) h) (ap (λ (k : ℕ). n * k) (length-ones w 0))

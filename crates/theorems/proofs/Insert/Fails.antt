@@ -15,11 +15,11 @@ use Rattle.model.specs.Reach.{inSet}
 use Rattle.model.specs.Wall.{endsFree, next, drawn, closedAt, enclosed, sewnWall, bothFree, nextOver, nextApart, turnsWell}
 use Rattle.model.specs.Wall.{wallReached, connected}
 use Rattle.model.specs.Meaning.Sets.{Marked}
-use Rattle.model.specs.Meaning.Walls.{BadMark, other, dead, Leaves, Joint, Needed}
+use Rattle.model.specs.Meaning.Walls.{BadMark, other, dead, Leaves, Joint, Needed, Drawn}
 use Rattle.theorems.proofs.Lists.Scan.{test, if-eq, clash, and-l, and-r, and-i, or-cases, or-i, or-false, below-at, below-not}
 use Rattle.theorems.proofs.Lists.Ones.{getD-in, index-in, ones-of, ones-in, marked-fail}
 use Rattle.theorems.proofs.Calls.Tests.{not-fails, and-fails, eqb-fails, eqb-holds, test-fails, one-of}
-use Rattle.theorems.proofs.Insert.Turn.{Drawn, free-exactly, next-exactly}
+use Rattle.theorems.proofs.Insert.Turn.{free-exactly, next-exactly}
 use Rattle.theorems.proofs.Insert.Wall.{apart-exactly}
 
 -- ---- 28: "mark not 0 or 1 or a marked dead slot"

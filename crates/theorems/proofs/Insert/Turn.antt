@@ -20,7 +20,7 @@ use Rattle.model.specs.Numbering.{cellLink}
 use Rattle.model.specs.Everything.{everything}
 use Rattle.model.specs.Meaning.Maps.{BlockTable, Dim, Rule}
 use Rattle.model.specs.Meaning.Sets.{Marked}
-use Rattle.model.specs.Meaning.Walls.{Turns, arrived, onward, EndsFree, IsNext}
+use Rattle.model.specs.Meaning.Walls.{Turns, arrived, onward, EndsFree, IsNext, Drawn}
 use Rattle.theorems.proofs.Lists.Scan.{test, if-eq, clash, and-l, and-r, and-i, below-at}
 use Rattle.theorems.proofs.Sets.Escape.{leave, OneWay, escapes}
 use Rattle.theorems.proofs.Maps.Tables.{mapTable, live-below, rule-at}
@@ -28,13 +28,6 @@ use Rattle.theorems.proofs.Maps.Dim.{two-cases, size-some}
 use Rattle.theorems.proofs.Sewing.Side.{past}
 use Rattle.theorems.proofs.Cells.Rows.{rows-in}
 use Rattle.theorems.proofs.Cells.Chart.{place-chart, place-zero, place-one}
-
--- the marks of a wall: live darts of a block map, closed under the links 0..n-2 and n
-pub record Drawn (n : ℕ) (t m : List ℕ) : Type 0 where
-  pub table : BlockTable n t
-  pub lives : (x : ℕ) → Marked m x → live t x ≡ true
-  pub along : (x j : ℕ) → j + 2 ≤ n → Marked m x → Marked m (link t j x)
-  pub over : (x : ℕ) → Marked m x → Marked m (link t n x)
 
 -- ---- in a block map the links of a cell lead to other darts
 

@@ -8,7 +8,7 @@ use mathlib.Core.List.{List, [], _∷_, List·Memᴰ as In, List·Memᴰ·eq-of-
 use mathlib.Core.List.{Memᴰ·cast as in-cast}
 use native.Mathlib.Nat.{le-refl}
 use native.Mathlib.Omega.{arith}
-use lib.ListN.{length, getD}
+use lib.ListN.{length, getD, List·getD-eq-default}
 use lib.Dec.{eqb, ltb}
 use borrow.Author.Tests.{eqb-true, eqb-false, eq-eqb, ne-eqb, ltb-true, not-true}
 use Rattle.model.specs.Lists.{ones}
@@ -18,9 +18,9 @@ use Rattle.model.specs.Sew.{side}
 use Rattle.model.specs.Wall.{endsFree, next, drawn, closedAt, enclosed, sewnWall, bothFree, nextOver, nextApart, turnsWell}
 use Rattle.model.specs.Wall.{wallTable, wallReached, connected}
 use Rattle.model.specs.Meaning.Maps.{BlockTable, Dim, Rule}
-use Rattle.model.specs.Meaning.Sets.{Marked, LeastSet, Least, ByLink}
-use Rattle.model.specs.Meaning.Walls.{Wall, Clear, Joined, Inserts}
-use Rattle.theorems.proofs.Lists.Scan.{if-eq, and-l, and-r, and-i, or-cases, below-at}
+use Rattle.model.specs.Meaning.Sets.{Marked, Bits, LeastSet, Least, ByLink}
+use Rattle.model.specs.Meaning.Walls.{Drawn, WallStep, Wall, Clear, Joined, Inserts}
+use Rattle.theorems.proofs.Lists.Scan.{if-eq, if-lt, and-l, and-r, and-i, or-cases, below-at}
 use Rattle.theorems.proofs.Lists.Ones.{getD-in, ones-of, ones-in, each-at, marked-pass}
 use Rattle.theorems.proofs.Sets.Closure.{closure-least, marked-in}
 use Rattle.theorems.proofs.Sets.Links.{step-in, step-of}
@@ -28,7 +28,7 @@ use Rattle.theorems.proofs.Maps.Rules.{link-retable, slots-retable, at-
 use Rattle.theorems.proofs.Maps.Tables.{mapTable, rule-at}
 use Rattle.theorems.proofs.Sewing.Side.{on-side, side-own, side-far}
 use Rattle.theorems.proofs.Cells.Chart.{block-straight}
-use Rattle.theorems.proofs.Insert.Turn.{Drawn, moves-on, next-on, next-back, next-far, next-free}
+use Rattle.theorems.proofs.Insert.Turn.{moves-on, next-on, next-back, next-far, next-free}
 
 -- ---- 28 and 29
 
@@ -42,6 +42,14 @@ marked-live t m long drawing x h =
 
 module _ {n : ℕ} {t : List ℕ} (m : List ℕ) (B : BlockTable n t) (long : length m ≡ slots t) (drawing : drawn t m ≡ true)
     (enclosing : enclosed n t m ≡ true) where
+  bits : Bits m
+  unfolding drawn
+  bits x = if-lt x (slots t)
+      (λ low.
+      let row = below-at (λ d. eqb (getD m d 0) 0 || (eqb (getD m d 0) 1 && live t d)) (slots t) drawing x low in
+      ⊎-elim (λ e. inl (eqb-true _ _ e)) (λ e. inr (eqb-true _ _ (and-l (eqb (getD m x 0) 1) _ e))) (or-cases (eqb (getD m x 0) 0) _ row))
+      (λ high. inl (List·getD-eq-default m 0 (omega arith)))
+
   pub some-dart : 0 < length (ones m)
   unfolding enclosed
   some-dart = ltb-true _ _ (and-l (ltb 0 (length (ones m))) _ enclosing)
@@ -62,10 +70,6 @@ module _ {n : ℕ} {t : List ℕ} (m : List ℕ) (B : BlockTable n t) (long : le
   }
 
 -- ---- 32
-
--- y is one step away from x: by a link 0..n-2 or n, or by next
-abbrev pub WallStep : ℕ → List ℕ → List ℕ → ℕ → ℕ → Type 0
-WallStep n t m x y = ByLink t (λ j. (j ≤ n) × (j ≢ n - 1)) x y ⊎ (y ≡ next n t m x)
 
 module _ (n : ℕ) (t m : List ℕ) (dim : Dim n) (whole : length t ≡ 4 * slots t) where
   joint-slots : slots (wallTable n t m) ≡ slots t
@@ -179,6 +183,10 @@ module _ {n : ℕ} {t m : List ℕ} (I : Inserts n t m) where
   -- not empty
   pub wall-some : 0 < length (ones m)
   wall-some = some-dart m B (I .long) (I .drawn) (I .enclosed)
+
+  -- each mark is 0 or 1
+  pub wall-bits : Bits m
+  wall-bits = bits m B (I .long) (I .drawn) (I .enclosed)
 
   pub drawn-of : Drawn n t m
   drawn-of = drawn-by m B (I .long) (I .drawn) (I .enclosed)

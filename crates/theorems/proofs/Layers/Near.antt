@@ -1,6 +1,6 @@
 -- Words of the links 0..n-2 in a block map: they lead within a side, to each of its darts (`near-side`, `side-near`), and go past
 -- link n and the opposite side (`near-link`, `near-facing`), to which none of them leads (`facing-other`).
-use Prim.Native.Nat.{ℕ, _+_, _-_, _≤_}
+use Prim.Native.Nat.{ℕ, _+_, _-_, _≤_, _<_}
 use mathlib.Core.Path.{_≡_, refl, sym, ap, _∙_}
 use mathlib.Core.Logic.{inr, _≢_, ⊎-elim}
 use mathlib.Core.Bool.{Bool, true, false, not, _&&_, _||_}
@@ -19,7 +19,7 @@ use Rattle.model.specs.Meaning.Maps.{Dim, BlockTable}
 use Rattle.model.specs.Meaning.Sets.{Marked}
 use Rattle.model.specs.Meaning.Pairings.{OnSide}
 use Rattle.model.specs.Meaning.Places.{path}
-use Rattle.theorems.proofs.Lists.Scan.{clash, and-l, or-cases, below-at}
+use Rattle.theorems.proofs.Lists.Scan.{clash, and-l, and-r, or-cases, below-at}
 use Rattle.theorems.proofs.Maps.Dim.{two-cases, size-some}
 use Rattle.theorems.proofs.Maps.Tables.{mapTable, rule-at}
 use Rattle.theorems.proofs.Sewing.Side.{side-own, side-far, side-within}
@@ -77,8 +77,16 @@ module _ {n : ℕ} {t : List ℕ} (B : BlockTable n t) where
 -- ---- not to the opposite side
 
 -- a place of the face of the place 0: the path to it has links 0..n-2 only
-inFace : ℕ → ℕ → Bool
+unfoldable pub inFace : ℕ → ℕ → Bool
 inFace n p = ltb p (cellSize n) && small (n - 1) (path n p)
+
+pub face-low : (n p : ℕ) → inFace n p ≡ true → p < cellSize n
+unfolding inFace
+face-low n p f = ltb-true p (cellSize n) (and-l (ltb p (cellSize n)) _ f)
+
+pub face-word : (n p : ℕ) → inFace n p ≡ true → small (n - 1) (path n p) ≡ true
+unfolding inFace
+face-word n p f = and-r (ltb p (cellSize n)) _ f
 
 -- the links 0..n-2 keep to the face
 faceRow : ℕ → ℕ → Bool
@@ -92,9 +100,9 @@ face-rows n dim = two-cases n dim
     (refl, refl, refl) (refl, refl, refl)
 
 face-keeps : (n : ℕ) → Dim n → (j p : ℕ) → j + 2 ≤ n → inFace n p ≡ true → inFace n (cellLink n j p) ≡ true
-unfolding inFace faceRow
+unfolding faceRow
 face-keeps n dim j p b f =
-    let low = ltb-true p (cellSize n) (and-l (ltb p (cellSize n)) _ f) in
+    let low = face-low n p f in
     ⊎-elim (λ e. absurd (clash f (not-true _ e))) (λ e. below-at (λ j. inFace n (cellLink n j p)) (n - 1) e j (omega arith))
     (or-cases (not (inFace n p)) _ (below-at (faceRow n) (cellSize n) (face-rows n dim .0) p low))
 

@@ -5,7 +5,7 @@ use Prim.Native.Nat.{ℕ, _+_, _*_, _≤_, _<_}
 use mathlib.Core.Path.{_≡_, sym, ap, _∙_}
 use mathlib.Core.Logic.{_⊎_, inl, inr, _≢_, ⊎-elim}
 use mathlib.Core.Bool.{true}
-use mathlib.Core.List.{List, List·Memᴰ as In, Memᴰ·cast as in-cast}
+use mathlib.Core.List.{List, List·Memᴰ as In}
 use native.Mathlib.Omega.{arith}
 use lib.ListN.{length, getD}
 use lib.Seq.{getD-take}
@@ -32,10 +32,10 @@ use Rattle.theorems.proofs.Operations.Frame.{split-frame}
 use Rattle.theorems.proofs.Operations.Slots.{ones-rising, Filled, lowest-slots, lowest-first}
 use Rattle.theorems.proofs.Operations.Slots.{filled-count, filled-changes}
 use Rattle.theorems.proofs.Layers.Sheet.{sheet-own, sheet-least, sheet-live}
-use Rattle.theorems.proofs.Layers.Splitting.{splits-splitting, split-slots, split-whole}
-use Rattle.theorems.proofs.Layers.Splitting.{new-slot, new-in, new-one, slot-new}
+use Rattle.theorems.proofs.Layers.NewDarts.{old, new, new-slot, new-in, new-one, slot-new, live-which}
+use Rattle.theorems.proofs.Layers.Splitting.{splits-splitting, spread, split-slots, split-whole}
 use Rattle.theorems.proofs.Layers.Role.{roleTo, roleWord, roleDart, role-link, role-plane}
-use Rattle.theorems.proofs.Layers.SplitMap.{Live, old, new, split-live, live-split}
+use Rattle.theorems.proofs.Layers.SplitMap.{split-live, live-split}
 use Rattle.theorems.proofs.Layers.SplitBlock.{split-block}
 use Rattle.theorems.proofs.Layers.SplitCells.{two-cells, new-marked, cell-stays, all-cells}
 
@@ -107,7 +107,7 @@ module _ {n : ℕ} {t : List ℕ} {d : ℕ} (s : Splits n t d) where
       → newOf n t d r g ≡ getD (unusedSlots t) (n * indexOf g (sheetDarts n t d) + r) unused
   unfolding newDart slotsFor
   new-in-order r g b m =
-      let low = new-slot given r g b (ones-in _ g m) in
+      let low = new-slot (spread given) r g b (ones-in _ g m) in
       let room = s .room in
       getD-take (n * length (sheetDarts n t d)) (unusedSlots t) _ unused (omega arith)
 
@@ -121,13 +121,13 @@ module _ {n : ℕ} {t : List ℕ} {d : ℕ} (s : Splits n t d) where
   -- n darts for each, all distinct, and one in each new slot
   pub new-apart : (r q g h : ℕ) → r < n → q < n → Marked (sheet n t d) g → Marked (sheet n t d) h
       → newOf n t d r g ≡ newOf n t d q h → (r ≡ q) × (g ≡ h)
-  new-apart r q g h br bq mg mh e = new-one given r q g h br bq (ones-in _ g mg) (ones-in _ h mh) e
+  new-apart r q g h br bq mg mh e = new-one (spread given) r q g h br bq (ones-in _ g mg) (ones-in _ h mh) e
 
   pub new-in-slot : (r g : ℕ) → r < n → Marked (sheet n t d) g → In (newOf n t d r g) (newSlots n t d)
-  new-in-slot r g b m = new-in given r g b (ones-in _ g m)
+  new-in-slot r g b m = new-in (spread given) r g b (ones-in _ g m)
 
   pub slot-has-new : (x : ℕ) → In x (newSlots n t d) → IsNew n (sheetDarts n t d) (newSlots n t d) x
-  slot-has-new = slot-new given
+  slot-has-new = slot-new (spread given)
 
   -- "Place: first new slot"
   pub split-place : LowestUnused t (getD (newSlots n t d) 0 0)
@@ -142,13 +142,9 @@ module _ {n : ℕ} {t : List ℕ} {d : ℕ} (s : Splits n t d) where
   split-filled = record {
     same = split-slots given;
     kept = λ x l. split-live given x (old l);
-    made = λ x i. split-live given x (new (slot-new given x i));
-    only = λ x l. split (live-split given x l);
+    made = λ x i. split-live given x (new (slot-new (spread given) x i));
+    only = λ x l. live-which (spread given) x (live-split given x l);
   }
-    where
-      split : {x : ℕ} → Live given x → (live t x ≡ true) ⊎ In x (newSlots n t d)
-      split (old l) = inl l
-      split (new w) = inr (in-cast (w .is) (new-in given (w .role) (w .of) (w .low) (w .member)))
 
   pub split-lives : liveCount (splitTable n t d) ≡ liveCount t + n * count 1 (sheet n t d)
   split-lives = filled-count (split-lowest .vacant) split-filled ∙ ap (λ (k : ℕ). liveCount t + k) split-number

@@ -25,9 +25,10 @@ use Rattle.theorems.proofs.Maps.Dim.{two-cases, size-some}
 use Rattle.theorems.proofs.Cells.Rows.{walk-rows, rows-in, path-small}
 use Rattle.theorems.proofs.Cells.Chart.{Charted, block-by, chart-kept}
 use Rattle.theorems.proofs.Cells.Chart.{place-chart, place-zero, place-live, place-back, place-one}
-use Rattle.theorems.proofs.Layers.Splitting.{new-in, new-one, not-new, split-dart-link, split-kept}
-use Rattle.theorems.proofs.Layers.Role.{roleTo, roleWord, roleDart, sheet-rule, role-link}
-use Rattle.theorems.proofs.Layers.SplitMap.{Live, old, new, live-role, split-table, split-live, live-split}
+use Rattle.theorems.proofs.Layers.NewDarts.{Live, old, new, new-in, new-one, not-new}
+use Rattle.theorems.proofs.Layers.Splitting.{spread, split-dart-link, split-kept}
+use Rattle.theorems.proofs.Layers.Role.{roleTo, roleWord, roleDart, live-role, sheet-rule, role-link}
+use Rattle.theorems.proofs.Layers.SplitMap.{split-table, split-live, live-split}
 use Rattle.theorems.proofs.Layers.SplitSides.{split-straight}
 use Rattle.theorems.proofs.Layers.Half.{half-size, in-half, out-crosses}
 use Rattle.theorems.proofs.Layers.Spot.{Spot, spot, spotLink, spotAt, valid, across, Held}
@@ -110,17 +111,17 @@ module _ {n : ℕ} {t gs fs : List ℕ} (C : Splitting n t gs fs) where
         ∙ ap (roleDart n gs fs (roleTo n (suc r) j))
         (walk-rows n t seen dim (place-chart B g lives .follow) (roleWord n (suc r) j) p small (half-size n dim p (low .1)))
 
-    spot-lives : (e : Spot) → valid n e ≡ true → Live C (at e)
+    spot-lives : (e : Spot) → valid n e ≡ true → Live n t gs fs (at e)
     unfolding spotDart roleDart
     spot-lives (spot zero p) v = old (seen-lives p (valid-place n p v))
-    spot-lives (spot (suc r) p) v = let low = valid-role n r p v in live-role C (suc r) (seen p) (low .0) (in-sheet p (low .1))
+    spot-lives (spot (suc r) p) v = let low = valid-role n r p v in live-role (C .sheet .lives) (suc r) (seen p) (low .0) (in-sheet p (low .1))
 
     old-not-new : (p r q : ℕ) → valid n (spot 0 p) ≡ true → valid n (spot (suc r) q) ≡ true
         → at (spot 0 p) ≡ at (spot (suc r) q) → ⊥
     unfolding spotDart roleDart
     old-not-new p r q v w e =
         let low = valid-role n r q w in
-        not-new C (seen p) (seen-lives p (valid-place n p v)) (in-cast e (new-in C r (seen q) (low .0) (in-sheet q (low .1))))
+        not-new (spread C) (seen p) (seen-lives p (valid-place n p v)) (in-cast e (new-in (spread C) r (seen q) (low .0) (in-sheet q (low .1))))
 
     spot-one : (e f : Spot) → valid n e ≡ true → valid n f ≡ true → at e ≡ at f → e ≡ f
     unfolding spotDart roleDart
@@ -130,7 +131,7 @@ module _ {n : ℕ} {t gs fs : List ℕ} (C : Splitting n t gs fs) where
     spot-one (spot (suc r) p) (spot (suc s) q) v w e =
         let a = valid-role n r p v in
         let b = valid-role n s q w in
-        let one = new-one C r s (seen p) (seen q) (a .0) (b .0) (in-sheet p (a .1)) (in-sheet q (b .1)) e in
+        let one = new-one (spread C) r s (seen p) (seen q) (a .0) (b .0) (in-sheet p (a .1)) (in-sheet q (b .1)) e in
         ap₂ spot (ap suc (one .0)) (seen-one p q (half-size n dim p (a .1)) (half-size n dim q (b .1)) (one .1))
 
     pub half-chart : Chart n after (halfDart n t gs fs g)
@@ -165,7 +166,7 @@ module _ {n : ℕ} {t gs fs : List ℕ} (C : Splitting n t gs fs) where
     old-seen (spot zero p) v l = (p, valid-place n p v, refl)
     old-seen (spot (suc r) p) v l =
         let low = valid-role n r p v in
-        absurd (not-new C _ l (new-in C r (seen p) (low .0) (in-sheet p (low .1))))
+        absurd (not-new (spread C) _ l (new-in (spread C) r (seen p) (low .0) (in-sheet p (low .1))))
 
     pub half-old : (x : ℕ) → InHalf n t gs fs g x → live t x ≡ true → (p : ℕ) × (p < cellSize n) × (x ≡ place n t g p)
     unfolding halfDart
@@ -254,7 +255,7 @@ module _ {n : ℕ} {t gs fs : List ℕ} (C : Splitting n t gs fs) where
   pub split-block : BlockTable n (splitBy n t gs fs)
   split-block = block-by (split-table C) (λ x l. charted x (live-split C x l)) (split-straight C)
     where
-      charted : (x : ℕ) → Live C x → Charted n after x
+      charted : (x : ℕ) → Live n t gs fs x → Charted n after x
       charted x (old l) = half-or x l (λ g i w. half-charted g x i w) (untouched-charted x l)
       charted x (new w) = half-charted (w .of) x (w .member)
           (subst (InHalf n t gs fs (w .of)) (sym (w .is)) (new-in-half (w .role) (w .of) (w .low) (w .member)))

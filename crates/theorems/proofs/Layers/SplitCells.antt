@@ -18,8 +18,9 @@ use Rattle.theorems.proofs.Maps.Tables.{mapTable}
 use Rattle.theorems.proofs.Cells.Cell.{cell-own, cell-live, cell-same, all-places, place-in}
 use Rattle.theorems.proofs.Cells.Chart.{chart-place, place-chart}
 use Rattle.theorems.proofs.Operations.Frame.{cell-kept}
+use Rattle.theorems.proofs.Layers.NewDarts.{Live, old, new}
 use Rattle.theorems.proofs.Layers.Splitting.{split-slots, split-kept}
-use Rattle.theorems.proofs.Layers.SplitMap.{Live, old, new, split-live, live-split}
+use Rattle.theorems.proofs.Layers.SplitMap.{split-live, live-split}
 use Rattle.theorems.proofs.Layers.SplitBlock.{halfDart, InHalf, half-chart, half-own, half-live, half-old, across-out}
 use Rattle.theorems.proofs.Layers.SplitBlock.{place-in-half, new-in-half, half-or, split-block}
 
@@ -116,7 +117,7 @@ module _ {n : ℕ} {t gs fs : List ℕ} (C : Splitting n t gs fs) where
       → ((live t x ≡ true) × Unsplit x) ⊎ ((g : ℕ) × In g gs × Marked (cellOf n after g) x)
   all-cells x l = cases (live-split C x l)
     where
-      cases : Live C x → ((live t x ≡ true) × Unsplit x) ⊎ ((g : ℕ) × In g gs × Marked (cellOf n after g) x)
+      cases : Live n t gs fs x → ((live t x ≡ true) × Unsplit x) ⊎ ((g : ℕ) × In g gs × Marked (cellOf n after g) x)
       cases (old l) = half-or C x l (λ g i w. inr (g, i, half-marked g i x w))
           (λ off. inl (l, λ y m i. let (k, h, e) = marked-place before x l y m in off k h (rw e at i)))
       cases (new w) = inr (w .of, w .member, rw (w .is) (new-marked (w .role) (w .of) (w .low) (w .member)))

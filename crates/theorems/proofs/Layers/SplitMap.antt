@@ -1,6 +1,6 @@
 -- Split keeps a map: the words of its rules lead from role to role (`role-walk`), and back to where they began; computed
 -- over the roles. The live slots after are the live ones before and the new darts (`Live`, `split-ruled`).
-use Prim.Native.Nat.{ℕ, zero, suc, _+_, _≤_, _<_}
+use Prim.Native.Nat.{ℕ, suc, _+_, _≤_, _<_}
 use mathlib.Core.Path.{_≡_, refl, sym, ap, ap₂, _∙_}
 use mathlib.Core.Logic.{_⊎_, inl, inr, ⊎-elim}
 use mathlib.Core.Bool.{Bool, true, false, not, _&&_, _||_}
@@ -14,7 +14,7 @@ use Rattle.model.specs.Table.{slots, link, walk, live}
 use Rattle.model.specs.Split.{splitBy}
 use Rattle.model.specs.Everything.{everything}
 use Rattle.model.specs.Meaning.Maps.{BlockTable, MapTable, Dim, Rule}
-use Rattle.model.specs.Meaning.Splits.{Splitting, IsNew}
+use Rattle.model.specs.Meaning.Splits.{Splitting}
 use Rattle.theorems.proofs.Lists.Scan.{test, if-eq, clash, and-l, and-r, below-at, or-cases}
 use Rattle.theorems.proofs.Lists.Ones.{in-or}
 use Rattle.theorems.proofs.Maps.Dim.{two-cases}
@@ -26,8 +26,9 @@ use Rattle.theorems.proofs.Cells.Places.{same, same-eq}
 use Rattle.theorems.proofs.Cells.Chart.{Ruled, ruled-table, live-of, of-live, live-same, word-keeps}
 use Rattle.theorems.proofs.Operations.Frame.{split-frame}
 use Rattle.theorems.proofs.Layers.Walk.{walk-append}
-use Rattle.theorems.proofs.Layers.Splitting.{slot-new, new-in, split-slots, split-whole, split-kept}
-use Rattle.theorems.proofs.Layers.Role.{roleTo, roleWord, roleDart, opposed, keepsSheet, sheet-walk, role-link, role-plane}
+use Rattle.theorems.proofs.Layers.NewDarts.{Live, old, new, slot-new, new-in}
+use Rattle.theorems.proofs.Layers.Splitting.{spread, split-slots, split-whole, split-kept}
+use Rattle.theorems.proofs.Layers.Role.{roleTo, roleWord, roleDart, live-role, opposed, keepsSheet, sheet-walk, role-link, role-plane}
 
 -- ---- words that lead back
 
@@ -214,21 +215,12 @@ module _ {n : ℕ} {t gs fs : List ℕ} (C : Splitting n t gs fs) where
 
   -- ---- the live slots after
 
-  pub data Live (x : ℕ) : Type 0 where
-    old : live t x ≡ true → Live x
-    new : IsNew n gs fs x → Live x
-
-  pub live-role : (r g : ℕ) → r ≤ n → In g gs → Live (role r g)
-  unfolding roleDart
-  live-role zero g b i = old (C .sheet .lives g i)
-  live-role (suc r) g b i = new (record { role = r; of = g; low = b; member = i; is = refl })
-
-  role-goes : (r g j : ℕ) → r ≤ n → In g gs → j < 4 → (r ≡ 0 → j ≡ 0) → Live (link after j (role r g))
+  role-goes : (r g j : ℕ) → r ≤ n → In g gs → j < 4 → (r ≡ 0 → j ≡ 0) → Live n t gs fs (link after j (role r g))
   unfolding returns allLead
   role-goes r g j b i h made =
       let low = lead-low r j (and-l (leads n r j) _ (and-l (allLead n (j ∷ j ∷ []) r) _ (made-twice r j b h made))) in
       let m = sheet-walk (C .table) (C .sheet) (roleWord n r j) g (low .2) i in
-      rw (role-link C r g j b i h) (live-role (roleTo n r j) _ (low .1) m)
+      rw (role-link C r g j b i h) (live-role (C .sheet .lives) (roleTo n r j) _ (low .1) m)
 
   -- link j of an old dart x: link 0 of a dart of the sheet, or it stays
   Stays : ℕ → ℕ → Type 0
@@ -249,7 +241,7 @@ module _ {n : ℕ} {t gs fs : List ℕ} (C : Splitting n t gs fs) where
   stays-far x i j far top l k e m = let three = dim .1 in
       k e (in-cast (sym (rule (C .table) x l .comes j (omega arith))) (C .sheet .far (link t j x) j far top m))
 
-  split-ruled : Ruled n after Live
+  split-ruled : Ruled n after (Live n t gs fs)
   unfolding roleDart Stays
   split-ruled = record {
     few = let same = split-slots C in let few = C .table .few in omega arith;
@@ -267,32 +259,32 @@ module _ {n : ℕ} {t gs fs : List ℕ} (C : Splitting n t gs fs) where
       kept : (x j : ℕ) → live t x ≡ true → j < 4 → Stays x j → link after j x ≡ link t j x
       kept = split-kept C
 
-      inside : (x : ℕ) → Live x → x < slots after
+      inside : (x : ℕ) → Live n t gs fs x → x < slots after
       inside x (old l) = rw (split-slots C) (live-below (mapTable (C .table)) x l)
-      inside x (new w) = rw (split-slots C, w .is) (C .vacant .inside _ (new-in C (w .role) (w .of) (w .low) (w .member)))
+      inside x (new w) = rw (split-slots C, w .is) (C .vacant .inside _ (new-in (spread C) (w .role) (w .of) (w .low) (w .member)))
 
-      other : (x : ℕ) → x < slots after → Live x ⊎ (live after x ≡ false)
+      other : (x : ℕ) → x < slots after → Live n t gs fs x ⊎ (live after x ≡ false)
       other x h =
           let low : x < slots t = rw (split-slots C) at h in
-          ⊎-elim (λ i. inl (new (slot-new C x i)))
+          ⊎-elim (λ i. inl (new (slot-new (spread C) x i)))
           (λ k. test (live t x) (λ l. inl (old l))
           (λ l.
           let off : In x gs → ⊥ = λ i. clash (C .sheet .lives x i) l in
           inr (live-same t after x (λ j b. split-frame t (C .table .whole) x low n gs fs k j b (λ _. off)) ∙ l))) (in-or fs x)
 
-      goes : (x j : ℕ) → j < 4 → Live x → Live (link after j x)
+      goes : (x j : ℕ) → j < 4 → Live n t gs fs x → Live n t gs fs (link after j x)
       goes x j b (old l) = made-or x j (λ e i. rw e (role-goes 0 x 0 (omega arith) i (omega arith) (λ _. refl)))
           (λ k. old (rw (kept x j l b k) (before x l .goes j b)))
       goes x j b (new w) = rw (w .is) (role-goes (suc (w .role)) (w .of) j (w .low) (w .member) b (λ z. absurd (omega arith)))
 
-      comes : (x j : ℕ) → j < 4 → Live x → link after j (link after j x) ≡ x
+      comes : (x j : ℕ) → j < 4 → Live n t gs fs x → link after j (link after j x) ≡ x
       comes x j b (old l) = made-or x j (λ e i. rw e (role-twice 0 x 0 (omega arith) i (omega arith) (λ _. refl)))
           (λ k.
           let y = link t j x in
           ap (link after j) (kept x j l b k) ∙ kept y j (before x l .goes j b) b (stays-along x j l k) ∙ before x l .comes j b)
       comes x j b (new w) = rw (w .is) (role-twice (suc (w .role)) (w .of) j (w .low) (w .member) b (λ z. absurd (omega arith)))
 
-      cross : (x i j : ℕ) → i + 2 ≤ j → j ≤ n → Live x → link after j (link after i (link after j (link after i x))) ≡ x
+      cross : (x i j : ℕ) → i + 2 ≤ j → j ≤ n → Live n t gs fs x → link after j (link after i (link after j (link after i x))) ≡ x
       cross x i j ij jn (old l) = made-or x i (λ e m. rw e (role-cross 0 x 0 j (omega arith) m (omega arith) jn (λ _. refl)))
           (λ k.
           let top = dim .1 in
@@ -310,15 +302,15 @@ module _ {n : ℕ} {t gs fs : List ℕ} (C : Splitting n t gs fs) where
       cross x i j ij jn (new w) =
           rw (w .is) (role-cross (suc (w .role)) (w .of) i j (w .low) (w .member) ij jn (λ z. absurd (omega arith)))
 
-      plane : (x : ℕ) → n ≡ 2 → Live x → link after 3 x ≡ x
+      plane : (x : ℕ) → n ≡ 2 → Live n t gs fs x → link after 3 x ≡ x
       plane x p (old l) = kept x 3 l (omega arith) (λ z. absurd (omega arith)) ∙ before x l .plane p
       plane x p (new w) = rw (w .is) (role-plane C (suc (w .role)) (w .of) p (w .low) (w .member))
 
   pub split-table : MapTable n (splitBy n t gs fs)
   split-table = ruled-table dim (split-whole C) split-ruled
 
-  pub split-live : (x : ℕ) → Live x → live after x ≡ true
-  split-live = live-of n after Live split-ruled
+  pub split-live : (x : ℕ) → Live n t gs fs x → live after x ≡ true
+  split-live = live-of n after (Live n t gs fs) split-ruled
 
-  pub live-split : (x : ℕ) → live after x ≡ true → Live x
-  live-split x l = of-live n after Live split-ruled x (live-below split-table x l) l
+  pub live-split : (x : ℕ) → live after x ≡ true → Live n t gs fs x
+  live-split x l = of-live n after (Live n t gs fs) split-ruled x (live-below split-table x l) l

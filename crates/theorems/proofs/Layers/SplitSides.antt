@@ -32,9 +32,10 @@ use Rattle.theorems.proofs.Sewing.Side.{on-side, side-own, side-far, si
 use Rattle.theorems.proofs.Cells.Places.{same, same-eq}
 use Rattle.theorems.proofs.Cells.Rows.{rowWalk, small, walk-keeps, walk-rows, rows-in}
 use Rattle.theorems.proofs.Cells.Chart.{block-straight, place-chart, place-zero, place-one}
-use Rattle.theorems.proofs.Layers.Splitting.{new-in, new-one, not-new, split-kept}
-use Rattle.theorems.proofs.Layers.Role.{roleTo, roleWord, roleDart, opposed, keepsSheet, sheet-walk, role-link}
-use Rattle.theorems.proofs.Layers.SplitMap.{Live, old, new, live-split}
+use Rattle.theorems.proofs.Layers.NewDarts.{Live, old, new, new-in, new-one, not-new}
+use Rattle.theorems.proofs.Layers.Splitting.{spread, split-kept}
+use Rattle.theorems.proofs.Layers.Role.{roleTo, roleWord, roleDart, last-role, opposed, keepsSheet, sheet-walk, role-link}
+use Rattle.theorems.proofs.Layers.SplitMap.{live-split}
 use Rattle.theorems.proofs.Layers.Half.{half-size, in-half}
 
 -- ---- the rows of the roles, computed
@@ -167,7 +168,7 @@ module _ {n : ℕ} {t gs fs : List ℕ} (C : Splitting n t gs fs) where
 
       found : Low x l (link after n x) → Marked (side n t n x) (link t n x)
       found (own _ k) = subst (Marked (side n t n x)) same k
-      found (made r g b i _ q) = absurd (not-new C (link t n x) goes (in-cast (sym same ∙ q) (new-in C r g (omega arith) i)))
+      found (made r g b i _ q) = absurd (not-new (spread C) (link t n x) goes (in-cast (sym same ∙ q) (new-in (spread C) r g (omega arith) i)))
 
   new-straight : (r h : ℕ) → suc r < n → In h gs → Straight n after (newDart n gs fs r h)
   unfolding roleDart
@@ -184,9 +185,9 @@ module _ {n : ℕ} {t gs fs : List ℕ} (C : Splitting n t gs fs) where
       over = over-role (suc r) h b i
 
       found : Low h l (link after n (newDart n gs fs r h)) → Marked (side n t n h) (link t n h)
-      found (own k _) = absurd (not-new C _ k (in-cast over (new-in C r (link t n h) (omega arith) i′)))
+      found (own k _) = absurd (not-new (spread C) _ k (in-cast over (new-in (spread C) r (link t n h) (omega arith) i′)))
       found (made q g c k m e) =
-          let one = new-one C r q (link t n h) g (omega arith) (omega arith) i′ k (sym over ∙ e) in
+          let one = new-one (spread C) r q (link t n h) g (omega arith) (omega arith) i′ k (sym over ∙ e) in
           subst (Marked (side n t n h)) (sym (one .1)) m
 
   -- ---- the last role
@@ -258,8 +259,7 @@ module _ {n : ℕ} {t gs fs : List ℕ} (C : Splitting n t gs fs) where
     even-side = side-within n after (role n h) Even (0, rows n dim .first, ap (role n) (place-zero B h lives)) even-step
 
     last-new : (x : ℕ) → role n x ≡ newDart n gs fs (n - 1) x
-    unfolding roleDart
-    last-new x = two-cases n dim (λ n. roleDart n gs fs n x ≡ newDart n gs fs (n - 1) x) refl refl
+    last-new = last-role n dim gs fs
 
     last-straight : Straight n after (role n h)
     unfolding walk
@@ -274,7 +274,7 @@ module _ {n : ℕ} {t gs fs : List ℕ} (C : Splitting n t gs fs) where
         let seen : link t 0 h ≡ place n t h q = ap (link t 0) (place-zero B h lives) ∙ follow 0 0 (omega arith) some in
         let (p, f, e) = even-side _ m in
         let same-new = sym (last-new (link t 0 h)) ∙ sym over ∙ e ∙ last-new (place n t h p) in
-        let one = new-one C (n - 1) (n - 1) (link t 0 h) (place n t h p) (omega arith) (omega arith) (C .sheet .along h i) (even-in p f)
+        let one = new-one (spread C) (n - 1) (n - 1) (link t 0 h) (place n t h p) (omega arith) (omega arith) (C .sheet .along h i) (even-in p f)
         same-new in
         let same-place = place-one B h q p lives (rows-in n 0 0 dim (omega arith) some) (even-size p f) (sym seen ∙ one .1) in
         absurd (clash f (ap (even n) (sym same-place) ∙ rows n dim .odd))
@@ -292,6 +292,6 @@ module _ {n : ℕ} {t gs fs : List ℕ} (C : Splitting n t gs fs) where
           subst (Straight n after) (sym last) (last-straight h i))
           (λ e. new-straight r h (omega arith) i)
 
-      go : (x : ℕ) → Live C x → Straight n after x
+      go : (x : ℕ) → Live n t gs fs x → Straight n after x
       go x (old l) = old-straight x l
       go x (new w) = subst (Straight n after) (sym (w .is)) (by-role (w .role) (w .of) (w .low) (w .member))

@@ -1,5 +1,5 @@
--- What add and split leave: every entry but those named (`add-frame`, `split-frame`); the walk across removed cells stops at once
--- outside of them (`outside-stops`); a cell whose darts keep the links below n stays (`cell-kept`).
+-- What add, split and insert leave: every entry but those named (`add-frame`, `split-frame`, `insert-frame`); the walk across removed
+-- cells stops at once outside of them (`outside-stops`); a cell whose darts keep the links below n stays (`cell-kept`).
 use Prim.Native.Nat.{ℕ, zero, suc, _*_, _<_}
 use mathlib.Core.Path.{_≡_, refl, sym, _∙_}
 use mathlib.Core.Bool.{false}
@@ -12,6 +12,7 @@ use Rattle.model.specs.Cell.{cellOf}
 use Rattle.model.specs.Add.{addedLink, added}
 use Rattle.model.specs.Remove.{marked, outside}
 use Rattle.model.specs.Split.{splitLink, splitBy}
+use Rattle.model.specs.Insert.{laidLink, laid}
 use Rattle.model.specs.Meaning.Sets.{Marked, LeastSet, ByLink}
 use Rattle.theorems.proofs.Lists.Scan.{if-eq}
 use Rattle.theorems.proofs.Maps.Rules.{link-retable}
@@ -40,6 +41,16 @@ module _ (t : List ℕ) (fits : length t ≡ 4 * slots t) (x : ℕ) (low : x < s
       ∙ rw (le-ltb (indexOf x fs) (length fs) (index-out fs x k), splitLink) (if-eq j 0
       (λ e. rw (eq-eqb j 0 e, le-ltb (indexOf x gs) (length gs) (index-out gs x (i e))))
       (λ e. rw (ne-eqb j 0 e)))
+
+  -- insert changes link n of the wall's darts hs, and the slots fs
+  pub insert-frame : (n : ℕ) (hs fs : List ℕ) (nx : ℕ → ℕ) → (In x fs → ⊥) → (j : ℕ) → j < 4 → (j ≡ n → In x hs → ⊥)
+      → link (laid n t hs fs nx) j x ≡ link t j x
+  unfolding laid laidLink
+  insert-frame n hs fs nx k j b i =
+      link-retable t (laidLink n t hs fs nx) fits x j low b
+      ∙ rw (le-ltb (indexOf x fs) (length fs) (index-out fs x k), laidLink) (if-eq j n
+      (λ e. rw (eq-eqb j n e, le-ltb (indexOf x hs) (length hs) (index-out hs x (i e))))
+      (λ e. rw (ne-eqb j n e)))
 
 -- ---- cells
 

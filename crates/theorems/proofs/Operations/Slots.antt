@@ -1,5 +1,6 @@
--- The lowest unused slots, which add and split fill (`Lowest`, `lowest-slots`), and once they are filled (`Filled`) the
--- number of live slots (`filled-count`) and of entries changed (`filled-changes`, `filled-only`).
+-- The lowest unused slots, which add, split and insert fill (`Lowest`, `lowest-slots`), and once they are filled (`Filled`) the
+-- number of live slots (`filled-count`) and of entries changed (`filled-changes`, `filled-only`). `vacant-room`: beside live slots there
+-- are no more unused ones than all.
 use Prim.Native.Nat.{ℕ, zero, suc, _+_, _*_, _≤_, _<_}
 use mathlib.Core.Path.{_≡_, sym, _∙_, subst}
 use mathlib.Core.Logic.{_⊎_, inl, inr, _≢_, ⊎-elim}
@@ -7,7 +8,7 @@ use mathlib.Core.Bool.{true, false}
 use mathlib.Core.List.{List, [], _∷_, _++_, List·Memᴰ as In, List·Memᴰ·not-nil as not-nil, List·Memᴰ·cases-cons as in-cons}
 use mathlib.Core.List.{Memᴰ·append-left as in-left, Memᴰ·append-right as in-right, List·Memᴰ·append-cases as in-append}
 use native.Mathlib.Omega.{arith}
-use lib.ListN.{length, getD, take, drop, take-append-drop, List·getD-eq-default}
+use lib.ListN.{length, getD, take, drop, take-append-drop, length-append, List·getD-eq-default}
 use borrow.Author.Tests.{eq-eqb, ne-eqb}
 use Rattle.model.specs.Lists.{tabulate, count, onesFrom}
 use Rattle.model.specs.Table.{slots, link, live, unusedSlots, liveCount}
@@ -20,6 +21,7 @@ use Rattle.model.specs.Meaning.Sheets.{howMany}
 use Rattle.theorems.proofs.Lists.Scan.{test, if-eq, if-lt, clash, length-tab, getD-tab}
 use Rattle.theorems.proofs.Lists.Ones.{vacant-frees, getD-in, ones-in}
 use Rattle.theorems.proofs.Lists.Ones.{in-or, member-in, in-member}
+use Rattle.theorems.proofs.Sets.Pigeon.{distinct-append, distinct-below}
 use Rattle.theorems.proofs.Maps.Rules.{dead-link}
 use Rattle.theorems.proofs.Maps.Tables.{live-below, rule-at}
 use Rattle.theorems.proofs.Operations.Changes.{changedLinks, changes-size, changed-all, changed-none}
@@ -207,3 +209,13 @@ module _ {n : ℕ} {t u fs : List ℕ} (T : MapTable n t) (U : MapTable n u) (lo
 
       bare : (x : ℕ) → x < slots t → getD none-marked x 0 ≡ 0
       bare x h = slot-bare (slots t) [] x h not-nil
+
+-- slots that are unused, and others that are live, are no more than all slots
+pub vacant-room : {n : ℕ} {t fs l : List ℕ} → MapTable n t → Vacant t fs → Distinct l → ((x : ℕ) → In x l → live t x ≡ true)
+    → length fs + length l ≤ slots t
+vacant-room {t = t} {fs} {l} T empty once alive =
+    let all = distinct-below (slots t) (fs ++ l)
+    (distinct-append fs l (empty .once) once (λ x i j. clash (alive x j) (empty .dead x i)))
+    (λ x i. ⊎-elim (empty .inside x) (λ j. live-below T x (alive x j)) (in-append fs i)) in
+    let parts = length-append fs l in
+    omega arith

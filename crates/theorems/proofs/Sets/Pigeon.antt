@@ -1,19 +1,20 @@
 -- Pigeonholes over lists of marks: a list that has every marked slot is at least as long as they are many, and one of distinct
--- marked slots at most. Main theorems: `cover`, `distinct-le`; `count-by` and `apart-by` (the marked slots are f 0, f 1, ..).
+-- marked slots at most. Main theorems: `cover`, `distinct-le`; `count-by` and `apart-by` (the marked slots are f 0, f 1, ..);
+-- `distinct-below`.
 use Prim.Native.Nat.{ℕ, zero, suc, _+_, _-_, _≤_, _<_}
 use mathlib.Core.Path.{_≡_, refl, sym, ap, _∙_}
 use mathlib.Core.Logic.{_≢_, ⊎-elim}
 use mathlib.Core.List.{List, [], _∷_, _++_, List·Memᴰ as In, List·Memᴰ·not-nil as not-nil, List·Memᴰ·cases-cons as in-cons}
 use mathlib.Core.List.{List·Memᴰ·head as here, List·Memᴰ·tail as there, Memᴰ·cast as in-cast}
-use mathlib.Core.List.{Memᴰ·append-left as in-left, Memᴰ·append-right as in-right}
+use mathlib.Core.List.{Memᴰ·append-left as in-left, Memᴰ·append-right as in-right, List·Memᴰ·append-cases as in-append}
 use native.Mathlib.Omega.{arith}
 use lib.ListN.{length, getD, set, length-set, length-append}
 use lib.Seq.{getD-set-same, getD-set-other, set-getD, set-set}
 use borrow.Author.Tests.{eq-eqb, ne-eqb}
-use Rattle.model.specs.Lists.{count, tabulateFrom}
+use Rattle.model.specs.Lists.{count, tabulateFrom, tabulate}
 use Rattle.model.specs.Meaning.Lists.{Distinct, none, more}
 use Rattle.model.specs.Meaning.Sets.{Marked}
-use Rattle.theorems.proofs.Lists.Scan.{if-eq, if-lt, count-change, count-le, length-tabFrom, tab-in, in-tab}
+use Rattle.theorems.proofs.Lists.Scan.{if-eq, if-lt, count-change, count-le, length-tabFrom, length-tab, getD-tab, tab-in, in-tab}
 use Rattle.theorems.proofs.Sets.Closure.{marked-in}
 
 pub count-none : (m : List ℕ) → ((x : ℕ) → Marked m x → ⊥) → count 1 m ≡ 0
@@ -131,3 +132,20 @@ module _ (m : List ℕ) (f : ℕ → ℕ) (k : ℕ) (all : (x : ℕ) → Marked 
       kept x (j, h, e) =
           let twin : j ≡ b → In x (below ++ above) = λ q. in-cast (e ∙ ap f q ∙ sym same) (low a ab) in
           if-lt j b (λ l. in-cast e (low j l)) (λ l. if-eq j b twin (λ q. in-cast e (high j (omega arith) h)))
+
+-- ---- distinct numbers
+
+pub distinct-append : (k l : List ℕ) → Distinct k → Distinct l → ((x : ℕ) → In x k → In x l → ⊥) → Distinct (k ++ l)
+distinct-append [] l p q apart = q
+distinct-append (y ∷ k) l (more once p) q apart =
+    more (λ i. ⊎-elim once (apart y (here refl)) (in-append k i)) (distinct-append k l p q (λ x i. apart x (there i)))
+
+-- those below k are no more than k
+pub distinct-below : (k : ℕ) (l : List ℕ) → Distinct l → ((x : ℕ) → In x l → x < k) → length l ≤ k
+unfolding tabulate
+distinct-below k l once low =
+    let m = tabulate k (λ _. 1) in
+    let least = distinct-le l m once (λ x i. getD-tab (λ _. 1) k x 0 (low x i)) in
+    let most = count-most m in
+    let long = length-tab (λ _. 1) k in
+    omega arith

@@ -205,12 +205,16 @@ module _ {n : ℕ} {t : List ℕ} {d : ℕ} (on : OnSide n t n d) where
   pub side-part : (x : ℕ) → Marked (side n t n d) x → (y : ℕ) → Marked (side n t n x) y → Marked (side n t n d) y
   side-part x h = side-within n t x (Marked (side n t n d)) h (λ y j near m. side-far on y j m (inr near) (omega arith))
 
-  -- link n carries a side onto a side: where it leads from d to no other dart of the side, it does so from each of its darts
-  pub straight-side : Straight n t d → (x : ℕ) → Marked (side n t n d) x → Straight n t x
-  straight-side straight x h m =
-      if-eq (link t n d) d (λ free. side-free on free x h)
-      (λ e. absurd (e (straight (side-back on (λ y. Marked (side n t n d) (link t n y)) over x h (side-part x h (link t n x) m)))))
+  -- link n carries a side onto a side: where it leads from one dart of the side into it, it does so from d ..
+  pub side-into : (x : ℕ) → Marked (side n t n d) x → Marked (side n t n d) (link t n x) → Marked (side n t n d) (link t n d)
+  side-into = side-back on (λ y. Marked (side n t n d) (link t n y)) over
     where
       over : (y j : ℕ) → Marked (side n t n d) y → Far n j → j ≤ n → Marked (side n t n d) (link t n y)
           → Marked (side n t n d) (link t n (link t j y))
       over y j k far low m = subst (Marked (side n t n d)) (sym (side-past on y k j far low)) (side-far on (link t n y) j m far low)
+
+  -- .. so where d is not folded, none of them is
+  pub straight-side : Straight n t d → (x : ℕ) → Marked (side n t n d) x → Straight n t x
+  straight-side straight x h m =
+      if-eq (link t n d) d (λ free. side-free on free x h)
+      (λ e. absurd (e (straight (side-into x h (side-part x h (link t n x) m)))))

@@ -1,12 +1,12 @@
 -- `answers::opening_layer` meets its contract: `opening`, and above it the checks 7 and 8.
+use mathlib.Core.Path.{refl}
 use mathlib.Core.List.{List}
 use borrow.Author.Needs.{needs}
 use Rattle.model.specs.Checks.{Check, mapChecks}
-use Rattle.reading.proofs.Passed.{table-short}
 use Rattle.answers.specs.Openings.{openingChecks, layerChecks}
-use Rattle.answers.proofs.Ladder.{Rung, rise, up, out, all-passed}
-use Rattle.answers.proofs.Verdicts.{passes, refuses, least-passes, least-refuses, dart-test, block-test}
-use Rattle.answers.proofs.Settled.{settles-refusal, settles-pass, settles-front}
+use Rattle.answers.proofs.Ladder.{Rung, rise, up, out}
+use Rattle.answers.proofs.Verdicts.{passes, refuses, dart-test}
+use Rattle.answers.proofs.Settled.{settles-refusal, settles-front, settles-last}
 use Rattle.answers.proofs.Given.{rules-given, map-given}
 use Rattle.answers.proofs.layer.opening_layer.Statement.{statement}
 use Rattle.answers.proofs.layer.opening_layer.Tie as tie
@@ -21,14 +21,6 @@ opened c = rise 8 (c .before .before .before .before) (c .before .before .openin
 abbrev dart : tie.Else2 → Rung checks 9
 unfolding layerChecks openingChecks mapChecks
 dart c = up (opened (c .before .before)) (passes _ 7 (dart-test _ _ (c .before .live .ensures)) (c .if2 .left))
-
-abbrev block : tie.Else3 → Rung checks 10
-unfolding layerChecks openingChecks mapChecks
-block c =
-    let end = c .before in
-    let least = end .before in
-    up (dart (least .before))
-    (least-passes _ _ 8 (block-test _ _) (least .least-wrong .ensures) (end .slots .ensures) (c .if3 .left))
 
 opening-requires : tie.Need-opening-requires
 opening-requires c κs = search needs
@@ -46,28 +38,15 @@ returns-2 c =
     settles-refusal 6
     (out (opened (c .before .before)) (refuses _ 7 (dart-test _ _ (c .before .live .ensures)) (c .if2 .taken)))
 
-least-wrong-requires : tie.Need-least-wrong-requires
+blocks-requires : tie.Need-blocks-requires
 unfolding layerChecks openingChecks mapChecks
-least-wrong-requires c κs =
+blocks-requires c κs =
     let p = dart c .passed in
     (search, search, map-given _ _ (search) (rules-given _ _ (p .1 .1 .1 .1)))
 
-slots-requires : tie.Need-slots-requires
-unfolding layerChecks openingChecks mapChecks
-slots-requires c κs = let p = dart (c .before) .passed in table-short _ (p .1 .0)
-
 returns-3 : tie.Need-returns-3
 unfolding layerChecks openingChecks mapChecks
-returns-3 c =
-    let end = c .before in
-    let least = end .before in
-    settles-refusal 7
-    (out (dart (least .before))
-    (least-refuses _ _ 8 (block-test _ _) (least .least-wrong .ensures) (end .slots .ensures) (c .if3 .taken)))
-
-returns-4 : tie.Need-returns-4
-unfolding layerChecks openingChecks mapChecks
-returns-4 c = settles-pass (all-passed _ (block c .passed))
+returns-3 c = settles-last (dart (c .before)) refl (c .blocks2 .ensures)
 
 pub opening-layer-spec : {M : Type 1} → statement M
 opening-layer-spec =
@@ -77,7 +56,5 @@ opening-layer-spec =
     returns
     live-requires
     returns-2
-    least-wrong-requires
-    slots-requires
-    returns-3
-    returns-4)
+    blocks-requires
+    returns-3)

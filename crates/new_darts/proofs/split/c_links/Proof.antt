@@ -1,13 +1,14 @@
--- `new_darts::c_links` meets its contract.
+-- `new_darts::split::c_links` meets its contract.
 use mathlib.Core.Path.{refl, sym, _∙_}
 use mathlib.Core.List.{[], _∷_}
 use native.Mathlib.Omega.{arith}
 use borrow.Author.Needs.{needs}
 use Rattle.model.specs.Table.{walk}
 use Rattle.theorems.proofs.Layers.Role.{keepsSheet}
-use Rattle.new_darts.proofs.Roles.{link-asked, dart-asked, dart-found, links, four-links}
-use Rattle.new_darts.proofs.c_links.Statement.{statement}
-use Rattle.new_darts.proofs.c_links.Tie as tie
+use Rattle.new_darts.proofs.News.{four-links}
+use Rattle.new_darts.proofs.SplitRoles.{link-asked, dart-asked, dart-found, links}
+use Rattle.new_darts.proofs.split.c_links.Statement.{statement}
+use Rattle.new_darts.proofs.split.c_links.Tie as tie
 
 -- the function's entry, from where links are worked out
 abbrev start : tie.After-shared-slice-known3 → tie.Start
@@ -56,8 +57,8 @@ returns c = λ d R.
     let beside = next .before in
     let along = beside .before in
     let low = R .low in
-    let dim = R .news .splits .dart .table .dim in
-    four-links R
+    let dim = R .splits .dart .table .dim in
+    four-links _ _
     (dart-found R (1 ∷ 0 ∷ 1 ∷ []) refl (along .before .opposite-edge .ensures) _ low (along .new-dart .ensures)
     ∙ sym (links R .c-0 (omega arith)))
     (dart-found R (2 ∷ []) refl (beside .link-in .ensures) _ low (next .new-dart2 .ensures) ∙ sym (links R .c-1 (omega arith)))

@@ -1,5 +1,5 @@
--- `call_split::find_slots` meets its contract.
-use Prim.Native.Nat.{ℕ, _*_, _≤_}
+-- `new_darts::find_slots` meets its contract.
+use Prim.Native.Nat.{ℕ, _+_, _≤_}
 use mathlib.Core.Path.{refl, sym, ap, _∙_}
 use mathlib.Core.List.{List}
 use native.Mathlib.Omega.{arith}
@@ -11,23 +11,23 @@ use Rattle.model.specs.Table.{slots, unusedSlots}
 use Rattle.theorems.proofs.Lists.Scan.{clash}
 use Rattle.reading.proofs.Passed.{table-short}
 use Rattle.scans.specs.Lowest.{Lists}
-use Rattle.call_split.specs.Slots.{SlotsFound}
-use Rattle.call_split.proofs.find_slots.Statement.{statement}
-use Rattle.call_split.proofs.find_slots.Tie as tie
+use Rattle.new_darts.specs.Slots.{SlotsFound}
+use Rattle.new_darts.proofs.find_slots.Statement.{statement}
+use Rattle.new_darts.proofs.find_slots.Tie as tie
 
--- no more than half of the slots are asked for, and r are listed
-found : {t : List ℕ} {new r : ℕ} {words₀ words : List ℕ} → 2 * new ≤ slots t → Lists (take new (unusedSlots t)) r words₀ words
-    → SlotsFound t new words₀ words (eqb r new)
-found {t} {new} {r} {words₀} {words} half L = record {
+-- no more than all slots are asked for, and r are listed
+found : {t : List ℕ} {new live r : ℕ} {words₀ words : List ℕ} → new + live ≤ slots t → Lists (take new (unusedSlots t)) r words₀ words
+    → SlotsFound t new live words₀ words (eqb r new)
+found {t} {new} {live} {r} {words₀} {words} within L = record {
   long = L .long;
-  half = λ h. half;
+  within = λ h. within;
   listed = λ h. ap (λ (k : ℕ). take k words) (sym (eqb-true r new h)) ∙ L .front;
   enough = λ h. sym (L .size) ∙ eqb-true r new h;
   few = λ h _ all. eqb-false r new h (L .size ∙ all);
 }
 
-mul-if1 : tie.Need-mul-if1
-mul-if1 c = search needs
+add-if1 : tie.Need-add-if1
+add-if1 c = search needs
 
 slots-requires : tie.Need-slots-requires
 slots-requires c κs = table-short _ (c .before .before .pre .0)
@@ -38,7 +38,7 @@ returns c =
     let more = c .if1 .taken in
     record {
       long = refl;
-      half = λ e. absurd (clash e refl);
+      within = λ e. absurd (clash e refl);
       listed = λ e. absurd (clash e refl);
       enough = λ e. absurd (clash e refl);
       few = λ e h. absurd (omega arith);
@@ -46,8 +46,12 @@ returns c =
 
 list-unused-requires : tie.Need-list-unused-requires
 list-unused-requires c κs =
-    let is = c .before .before .slots .ensures in
-    search needs
+    let e = c .before in
+    let is = e .before .slots .ensures in
+    let p = e .before .before .before .before .pre in
+    let low = e .if1 .left in
+    let room = p .3 (omega arith) in
+    ((p .0, p .1), omega arith)
 
 same-length : tie.Need-same-length
 same-length c = search needs
@@ -62,4 +66,4 @@ returns-2 c =
 
 pub find-slots-spec : {M : Type 1} → statement M
 find-slots-spec =
-    tie.close (tie.spec mul-if1 slots-requires returns list-unused-requires same-length returns-2)
+    tie.close (tie.spec add-if1 slots-requires returns list-unused-requires same-length returns-2)

@@ -1,12 +1,12 @@
--- `new_darts::b_across` meets its contract.
+-- `new_darts::split::b_across` meets its contract.
 use mathlib.Core.Path.{refl, sym, _∙_}
 use mathlib.Core.List.{[], _∷_}
 use native.Mathlib.Omega.{arith}
 use Rattle.model.specs.Table.{walk}
 use Rattle.theorems.proofs.Layers.Role.{keepsSheet}
-use Rattle.new_darts.proofs.Roles.{link-asked, dart-asked, dart-found, links}
-use Rattle.new_darts.proofs.b_across.Statement.{statement}
-use Rattle.new_darts.proofs.b_across.Tie as tie
+use Rattle.new_darts.proofs.SplitRoles.{link-asked, dart-asked, dart-found, links}
+use Rattle.new_darts.proofs.split.b_across.Statement.{statement}
+use Rattle.new_darts.proofs.split.b_across.Tie as tie
 
 -- the function's entry, from where links are worked out
 abbrev start : tie.After-shared-slice-known3 → tie.Start
@@ -39,7 +39,7 @@ unfolding walk keepsSheet
 returns-2 c = λ d R.
     let l = c .before in
     let other = l .before .if1 .left in
-    let dim = R .news .splits .dart .table .dim in
+    let dim = R .splits .dart .table .dim in
     dart-found R (0 ∷ []) refl (l .link-in .ensures) _ (R .low) (c .new-dart2 .ensures) ∙ sym (links R .plane-b-2 (omega arith))
 
 pub b-across-spec : {M : Type 1} → statement M

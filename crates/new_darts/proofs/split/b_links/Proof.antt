@@ -1,13 +1,14 @@
--- `new_darts::b_links` meets its contract.
+-- `new_darts::split::b_links` meets its contract.
 use mathlib.Core.Path.{refl, sym, _∙_}
 use mathlib.Core.List.{[], _∷_}
 use native.Mathlib.Omega.{arith}
 use borrow.Author.Needs.{needs}
 use Rattle.model.specs.Table.{walk}
 use Rattle.theorems.proofs.Layers.Role.{keepsSheet}
-use Rattle.new_darts.proofs.Roles.{link-asked, dart-asked, dart-found, links, b-over, four-links}
-use Rattle.new_darts.proofs.b_links.Statement.{statement}
-use Rattle.new_darts.proofs.b_links.Tie as tie
+use Rattle.new_darts.proofs.News.{four-links}
+use Rattle.new_darts.proofs.SplitRoles.{link-asked, dart-asked, dart-found, links, b-over}
+use Rattle.new_darts.proofs.split.b_links.Statement.{statement}
+use Rattle.new_darts.proofs.split.b_links.Tie as tie
 
 -- the function's entry, from where links are worked out
 abbrev start : tie.After-shared-slice-known3 → tie.Start
@@ -50,7 +51,7 @@ returns c = λ d R.
     let own = across .before in
     let along = own .before in
     let low = R .low in
-    four-links R
+    four-links _ _
     (dart-found R (1 ∷ 0 ∷ 1 ∷ []) refl (along .before .opposite-edge .ensures) _ (omega arith) (along .new-dart .ensures)
     ∙ sym (links R .b-0))
     (dart-found R [] refl refl _ (omega arith) (own .new-dart2 .ensures) ∙ sym (links R .b-1))

@@ -1,13 +1,14 @@
--- `new_darts::a_links` meets its contract.
+-- `new_darts::split::a_links` meets its contract.
 use Prim.Native.Nat.{_≤_}
 use mathlib.Core.Path.{refl, sym, _∙_}
 use mathlib.Core.List.{[], _∷_}
 use native.Mathlib.Omega.{arith}
 use Rattle.model.specs.Table.{walk}
 use Rattle.theorems.proofs.Layers.Role.{keepsSheet}
-use Rattle.new_darts.proofs.Roles.{link-asked, dart-asked, dart-found, links, a-over, four-links}
-use Rattle.new_darts.proofs.a_links.Statement.{statement}
-use Rattle.new_darts.proofs.a_links.Tie as tie
+use Rattle.new_darts.proofs.News.{four-links}
+use Rattle.new_darts.proofs.SplitRoles.{link-asked, dart-asked, dart-found, links, a-over}
+use Rattle.new_darts.proofs.split.a_links.Statement.{statement}
+use Rattle.new_darts.proofs.split.a_links.Tie as tie
 
 -- the function's entry, from where links are worked out
 abbrev start : tie.After-shared-slice-known3 → tie.Start
@@ -15,7 +16,7 @@ start c = c .before .before .before
 
 -- g has a(g) and b(g)
 two : (s : tie.Start) → 2 ≤ s .args .n
-two s = s .pre .is .news .splits .dart .table .dim .0
+two s = s .pre .is .splits .dart .table .dim .0
 
 new-dart-requires : tie.Need-new-dart-requires
 unfolding walk keepsSheet
@@ -48,7 +49,7 @@ returns c = λ d R.
     let l₂ = x₂ .before in
     let x₁ = l₂ .before in
     let two = two (start (x₁ .before)) in
-    four-links R (sym (links R .a-0))
+    four-links _ _ (sym (links R .a-0))
     (dart-found R [] refl refl _ (omega arith) (x₁ .new-dart .ensures) ∙ sym (links R .a-1))
     (dart-found R (2 ∷ []) refl (l₂ .link-in .ensures) _ (R .low) (x₂ .new-dart2 .ensures) ∙ sym (links R .a-2))
     (dart-found R (3 ∷ []) refl (l₃ .link-in2 .ensures) _ (R .low) (c .new-dart3 .ensures) ∙ sym (a-over R))
