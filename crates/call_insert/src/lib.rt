@@ -6,13 +6,55 @@ use reading::LARGE;
 use reading::MIDDLE;
 use reading::SMALL;
 ghost use mathlib.Core.Path.{_≡_};
-ghost use Prim.Native.Nat.{ℕ, _≤_, _<_};
-ghost use lib.ListN.{length, getD};
+ghost use mathlib.Core.Bool.{true};
+ghost use mathlib.Core.List.{List};
+ghost use Prim.Native.Nat.{ℕ, _+_, _*_, _≤_, _<_};
+ghost use lib.ListN.{length, getD, drop};
+ghost use Rattle.model.specs.Lists.{ones};
 ghost use Rattle.model.specs.Table.{slots};
+ghost use Rattle.model.specs.Insert.{insertTable};
+ghost use Rattle.model.specs.Journal.{changesFrom};
 ghost use Rattle.model.specs.Checks.{pass, inOrder};
 ghost use Rattle.model.specs.Calls.{insertCall};
+ghost use Rattle.model.specs.Meaning.Maps.{Dim};
+ghost use Rattle.drafts.specs.Drafts.{drafted};
 ghost use Rattle.answers.specs.Answers.{outcome};
+ghost use Rattle.new_darts.specs.News.{insertMade};
+ghost use Rattle.new_darts.specs.Drafting.{Writing};
 ghost use Rattle.call_insert.specs.Opened.{openingChecks};
+ghost use Rattle.call_insert.specs.Behind.{ListedBehind};
+
+// Lists the `size` darts of the wall behind the new slots, which are the first words of `queue`, with the places of their new darts.
+fn list_behind(n: u32, marks: &[u8], queue: &mut [u16], places: &mut [u16], size: u32)
+    requires { ⌜ (length (now marks) ≤ 65536) × (size ≡ length (ones (now marks))) × (Dim n) × (n * size ≤ 65536)
+        × (n * size + size ≤ length (now queue)) × (length (now marks) ≤ length (now places)) ⌝ }
+    ensures { λ _. ⌜ ListedBehind n (ones (now (marks .entry))) size (now (queue .entry)) (now (queue .exit))
+        (now (places .entry)) (now (places .exit)) ⌝ }
+{
+    new_darts::list_darts(n, marks, &mut queue[(n * size) as usize..], places, size);
+}
+
+// Drafts the record from these.
+fn write_in(
+    n: u32,
+    table: &[u32],
+    journal: &mut [u32],
+    queue: &[u16],
+    places: &[u16],
+    nexts: &[u16],
+    size: u32,
+)
+    requires { ⌜ ((m : List ℕ) × Writing n true (now table) (insertMade n (now table) m) (now nexts) (drop (n * size) (now queue)) (now queue)
+        (now places) size (now journal)) × (n * size < 4294967296) ⌝ }
+    ensures { λ _. ⌜ ((m : List ℕ)
+        → Writing n true (now (table .entry)) (insertMade n (now (table .entry)) m) (now (nexts .entry))
+        (drop (n * size) (now (queue .entry))) (now (queue .entry)) (now (places .entry)) size (now (journal .entry))
+        → now (journal .exit) ≡ drafted (now (journal .entry))
+        (changesFrom 0 (now (table .entry)) (insertTable n (now (table .entry)) m))) ⌝ }
+{
+    let darts = &queue[(n * size) as usize..];
+    new_darts::write_layer(n, table, journal, darts, queue, places, nexts, size)
+}
 
 // insert where the checks up to 8 have passed. Each buffer has a word for each slot, and `places`, which the wall is tested with before,
 // has zeros there. The first words of `queue`, with which the wall is tested too, are the new slots, the wall's darts stand behind them.
@@ -48,18 +90,8 @@ fn insert_in(
     if !journal::record_fits(journal, changes) {
         return numbers::NO_ROOM;
     }
-    let at = new as usize;
-    new_darts::list_darts(n, marks, &mut queue[at..], places, wall.size);
-    new_darts::write_layer(
-        n,
-        table,
-        journal,
-        &queue[at..],
-        queue,
-        places,
-        nexts,
-        wall.size,
-    );
+    list_behind(n, marks, queue, places, wall.size);
+    write_in(n, table, journal, queue, places, nexts, wall.size);
     drafts::carry_out(table, journal, changes, tag);
     Answer {
         number: 0,

@@ -108,6 +108,34 @@ round = 2 ∷ 3 ∷ 8 ∷ 9 ∷ []
 torus : List Call
 torus = tagged 0 (Op.add ∷ Op.sew 2 5 4 ∷ Op.sew 2 0 2 ∷ [])
 
+-- R-5: two quads side by side, each with its other two edges sewn, so that they are a tube; the wall of these, one only by next
+tube : List Call
+tube = tagged 0 (Op.add ∷ Op.add ∷ Op.sew 2 5 12 ∷ Op.sew 2 0 2 ∷ Op.sew 2 8 10 ∷ [])
+
+seams : List ℕ
+seams = 0 ∷ 1 ∷ 2 ∷ 3 ∷ 8 ∷ 9 ∷ 10 ∷ 11 ∷ []
+
+-- R-5: a bent quad as in 8, and a ring beside it; the walls of both
+bentAndRing : List Call
+bentAndRing = bent ++ tagged 0 (Op.add ∷ Op.sew 2 13 12 ∷ [])
+
+apart : List ℕ
+apart = 2 ∷ 3 ∷ 5 ∷ 7 ∷ 12 ∷ 13 ∷ 14 ∷ 15 ∷ []
+
+-- R-5: three quads round a vertex at the border; of the two walls there, one side ends free and the other has a next
+fan : List Call
+fan = tagged 0 (Op.add ∷ Op.add ∷ Op.add ∷ Op.sew 2 5 12 ∷ Op.sew 2 8 20 ∷ [])
+
+corner : List ℕ
+corner = 8 ∷ 9 ∷ 20 ∷ 22 ∷ between
+
+-- R-5, in 3D: a hexahedron whose two faces at an edge are sewn, with the edge turned round: next(h) is h.0.n there
+hinge : List Call
+hinge = tagged 0 (Op.add ∷ Op.sew 3 0 9 ∷ [])
+
+hingeFaces : List ℕ
+hingeFaces = 0 ∷ 1 ∷ 2 ∷ 3 ∷ 8 ∷ 9 ∷ 12 ∷ 13 ∷ 16 ∷ 17 ∷ 18 ∷ 19 ∷ 32 ∷ 33 ∷ 36 ∷ 37 ∷ []
+
 -- our own: Q with link 0 between 2 and 3 undone
 cut : List ℕ
 cut = damaged 2 0 2 (damaged 3 0 3 quadTable)
@@ -186,11 +214,21 @@ cases =
     ∷ row 10512 2 32 900 three (insertAt 32 (5 ∷ 7 ∷ [])) (gives 29 0 0 ∷ [])
     ∷ row 10513 2 32 900 three (insertAt 32 (0 ∷ 1 ∷ between)) (gives 30 0 0 ∷ [])
     ∷ row 10514 2 16 900 bent (insertAt 16 (2 ∷ 3 ∷ 5 ∷ 7 ∷ [])) (gives 31 0 0 ∷ [])
-    ∷ row 10515 2 40 900 three (insertAt 40 both) (gives 32 0 0 ∷ changes 0 ∷ [])
+    ∷ row 10515 2 24 900 three (insertAt 24 both) (gives 32 0 0 ∷ changes 0 ∷ [])
     ∷ row 10516 2 16 900 ring (insertAt 16 (4 ∷ 5 ∷ 6 ∷ 7 ∷ [])) (gives 0 8 8 ∷ changes 36 ∷ restores 9 ∷ [])
     ∷ row 10517 2 24 900 rings (insertAt 24 round) (gives 0 16 8 ∷ goes 17 2 19 ∷ goes 21 2 23 ∷ goes 17 0 21 ∷ restores 23 ∷ [])
     ∷ row 10518 2 16 900 torus (insertAt 16 (4 ∷ 5 ∷ 6 ∷ 7 ∷ []))
     (gives 0 8 8 ∷ goes 9 2 13 ∷ goes 11 2 15 ∷ goes 9 0 11 ∷ goes 8 0 12 ∷ restores 13 ∷ [])
+    ∷ row 10519 2 32 900 tube (insertAt 32 seams)
+    (gives 0 16 16 ∷ changes 72 ∷ goes 17 2 17 ∷ goes 19 2 25 ∷ goes 29 2 23 ∷ restores 31 ∷ [])
+    -- a wall that branches; closed under link n alone; free and not closed; 31 and not connected; 28 and not a block map; one side that ends
+    -- free
+    ∷ row 10520 2 8 900 torus (insertAt 8 (0 ∷ 1 ∷ 2 ∷ 3 ∷ 4 ∷ 5 ∷ 6 ∷ 7 ∷ [])) (gives 31 0 0 ∷ [])
+    ∷ row 10521 2 24 900 three (insertAt 24 (5 ∷ 12 ∷ [])) (gives 29 0 0 ∷ [])
+    ∷ row 10522 2 24 900 three (insertAt 24 (0 ∷ [])) (gives 29 0 0 ∷ [])
+    ∷ row 10523 2 16 900 bentAndRing (insertAt 16 apart) (gives 31 0 0 ∷ [])
+    ∷ row 10524 2 8 200 unlinked (Call.op 0 (Op.insert (replicate 8 2))) (gives 8 0 0 ∷ [])
+    ∷ row 10525 2 24 900 fan (insertAt 24 corner) (gives 31 0 0 ∷ [])
     ∷ row 11001 2 24 600 three (Call.sheet 8) (gives 0 0 4 ∷ marksAre middle ∷ [])
     ∷ row 11002 2 24 600 three (Call.op 0 (Op.remove 8)) (gives 0 0 8 ∷ marksAre middle ∷ changes 36 ∷ [])
     ∷ row 11003 2 24 600 three (Call.op 0 (Op.split 8)) (gives 14 0 0 ∷ marksAre middle ∷ changes 0 ∷ [])
@@ -265,10 +303,11 @@ cases =
     ∷ rowOn 10308 3 (damaged 47 3 0 hexahedronTable) 200 Call.check (gives 25 31 1 ∷ [])
     ∷ row 10404 3 48 2000 foldedFace Call.check (gives 0 0 1 ∷ goes 0 3 3 ∷ [])
     ∷ row 10405 3 48 2000 foldedFace (Call.sheet 47) (gives 8 0 0 ∷ [])
+    ∷ row 10526 3 48 2000 hinge (insertAt 48 hingeFaces) (gives 31 0 0 ∷ [])
     ∷ []
 
 pub all-hold : failing cases ≡ []
-unfolding everything liveCount cases row rowOn rowWith tagged quad three halves bent unlinked quadTable hexahedronTable damaged foldedEdge foldedFace middle ring named cut cutRecord joined wall insertAt between both rings round torus member failing holds holdsFrom seesAll sees begin beginOn doAll doCall keeping equal
+unfolding everything liveCount cases row rowOn rowWith tagged quad three halves bent unlinked quadTable hexahedronTable damaged foldedEdge foldedFace middle ring named cut cutRecord joined wall insertAt between both rings round torus tube seams bentAndRing apart fan corner hinge hingeFaces member failing holds holdsFrom seesAll sees begin beginOn doAll doCall keeping equal
 all-hold = refl
 
 -- 14: "262,144 entries pass check 2, 262,148 don't"
@@ -298,28 +337,32 @@ pub solid-remove : link (removeTable 3 twoHexahedra 0) 3 53 ≡ 53
 unfolding everything twoHexahedra
 solid-remove = refl
 
--- R-5, in 3D: two hexahedra sewn by a face, which is the wall
-pub twoSewn : List ℕ
-twoSewn = sewTable 3 (addTable 3 (addTable 3 (replicate 576 unused))) 3 0 48
+-- R-5, in 3D: a hexahedron with two pairs of opposite faces sewn; the wall is one of them. From 0 next leads over the other, from 16 the
+-- turn ends free
+pub solidTorus : List ℕ
+solidTorus = sewTable 3 (sewTable 3 (addTable 3 (replicate 384 unused)) 3 0 4) 3 8 10
 
-pub face : List ℕ
-face = wall 144 (0 ∷ 1 ∷ 2 ∷ 3 ∷ 16 ∷ 17 ∷ 18 ∷ 19 ∷ 48 ∷ 49 ∷ 50 ∷ 51 ∷ 64 ∷ 65 ∷ 66 ∷ 67 ∷ [])
+pub seam : List ℕ
+seam = wall 96 (0 ∷ 1 ∷ 2 ∷ 3 ∷ 4 ∷ 5 ∷ 6 ∷ 7 ∷ 16 ∷ 17 ∷ 18 ∷ 19 ∷ 20 ∷ 21 ∷ 22 ∷ 23 ∷ [])
 
 pub fourLinks : List ℕ → ℕ → List ℕ
 fourLinks t d = link t 0 d ∷ link t 1 d ∷ link t 2 d ∷ link t 3 d ∷ []
 
--- of the table t and the wall's marks w: 28 to 32 pass; after insert the links of 0, 96, 97 and 98, which are h, p(h), q(h) and r(h), are
--- these, and remove at 98 gives t back
+-- of the table t and the wall's marks w: 28 to 32 pass; after insert the links of 0, of its p, q and r, 48 to 50, and of q and r of 16, 73 and 74,
+-- are these, and remove at 50 gives t back
 pub thickens : List ℕ → List ℕ → List ℕ → Bool
 thickens t w ls =
     let u = insertTable 3 t w in
-    let v = removeTable 3 u 98 in
+    let v = removeTable 3 u 50 in
     elim (inOrder (wallChecks 3 t w)) [
-      | pass ↦ equal (fourLinks u 0 ++ fourLinks u 96 ++ fourLinks u 97 ++ fourLinks u 98) ls && equal v t
+      | pass ↦
+          equal (fourLinks u 0 ++ fourLinks u 48 ++ fourLinks u 49 ++ fourLinks u 50 ++ fourLinks u 73 ++ fourLinks u 74) ls
+          && equal v t
       | refuse k p q ↦ false
     ]
 
-pub solid-insert : thickens twoSewn face
-    ((1 ∷ 16 ∷ 8 ∷ 96 ∷ []) ++ (99 ∷ 108 ∷ 97 ∷ 0 ∷ []) ++ (100 ∷ 98 ∷ 96 ∷ 97 ∷ []) ++ (122 ∷ 97 ∷ 110 ∷ 98 ∷ [])) ≡ true
-unfolding everything member twoSewn face wall fourLinks thickens equal
+pub solid-insert : thickens solidTorus seam
+    ((1 ∷ 16 ∷ 8 ∷ 48 ∷ []) ++ (51 ∷ 72 ∷ 49 ∷ 0 ∷ []) ++ (52 ∷ 50 ∷ 48 ∷ 55 ∷ []) ++ (62 ∷ 49 ∷ 74 ∷ 56 ∷ [])
+    ++ (79 ∷ 74 ∷ 72 ∷ 73 ∷ []) ++ (86 ∷ 73 ∷ 50 ∷ 74 ∷ [])) ≡ true
+unfolding everything member solidTorus seam wall fourLinks thickens equal
 solid-insert = refl

@@ -183,7 +183,19 @@ fn write_new(
         p (n * i + role) w r (now (journal .exit))) ⌝ }
 {
     let x = fresh[(n * i + role) as usize] as u32;
-    let behind = write_darts(n, insert, table, journal, darts, fresh, places, size, p, w, x);
+    let behind = write_darts(
+        n,
+        insert,
+        table,
+        journal,
+        darts,
+        fresh,
+        places,
+        size,
+        p,
+        w,
+        x,
+    );
     let at = w + 3 * ((behind - p) as usize);
     let g = darts[i as usize] as u32;
     let links = new_links(n, insert, table, fresh, places, nexts, role, g);
@@ -237,7 +249,19 @@ fn write(
             i += 1;
         }
     }
-    write_darts(n, insert, table, journal, darts, fresh, places, size, p, w, UNUSED);
+    write_darts(
+        n,
+        insert,
+        table,
+        journal,
+        darts,
+        fresh,
+        places,
+        size,
+        p,
+        w,
+        UNUSED,
+    );
 }
 
 // Drafts the record of split.
