@@ -8,7 +8,7 @@ use mathlib.Core.Bool.{Bool, true, false}
 use mathlib.Core.List.{List, [], _∷_, _++_}
 use native.Mathlib.Nat.{mul-pos}
 use native.Mathlib.Omega.{arith}
-use lib.ListN.{length, getD, take, drop}
+use lib.ListN.{length, getD, take, drop, length-drop}
 use lib.Seq.{getD-take}
 use lib.Dec.{leb, eqb}
 use borrow.Author.Tests.{eqb-true, eq-eqb, ne-eqb}
@@ -25,12 +25,12 @@ use Rattle.model.specs.Meaning.Maps.{Dim, BlockTable}
 use Rattle.model.specs.Meaning.Numbers.{JournalRule}
 use Rattle.model.specs.Meaning.Walls.{Inserts}
 use Rattle.theorems.proofs.Lists.Ones.{ones-of, ones-distinct}
-use Rattle.theorems.proofs.Sets.Sizes.{ones-few}
+use Rattle.theorems.proofs.Sets.Sizes.{length-ones, ones-few}
 use Rattle.theorems.proofs.Maps.Dim.{two-cases}
 use Rattle.theorems.proofs.Maps.Tables.{mapTable}
 use Rattle.theorems.proofs.Operations.Slots.{vacant-room}
 use Rattle.theorems.proofs.Insert.Wall.{drawn-of, wall-some}
-use Rattle.theorems.proofs.Insert.Inserted.{insert-changes, insert-length, insert-lowest, wall-number}
+use Rattle.theorems.proofs.Insert.Inserted.{insert-changes, insert-length, insert-lowest}
 use Rattle.theorems.proofs.Calls.Checks.{passed-number, append-passed, append-refused}
 use Rattle.theorems.proofs.Calls.Pass.{must-pass, journal-pass, rules-pass, block-table-of, insert-passed}
 use Rattle.drafts.specs.Drafts.{drafted}
@@ -39,10 +39,10 @@ use Rattle.drafts.proofs.Commits.{fits-room}
 use Rattle.answers.specs.Answers.{outcome, refusal}
 use Rattle.walls.specs.Tests.{Tests, verdict}
 use Rattle.new_darts.specs.Slots.{SlotsFound}
-use Rattle.new_darts.specs.Placed.{Placed}
 use Rattle.new_darts.specs.News.{insertMade, by-insert}
 use Rattle.new_darts.specs.Drafting.{Writing}
 use Rattle.call_insert.specs.Opened.{openingChecks}
+use Rattle.call_insert.specs.Behind.{ListedBehind}
 
 module _ (n : ℕ) (t m j : List ℕ) where
   -- the checks that are left behind 8
@@ -85,11 +85,11 @@ module _ {n : ℕ} {t m j : List ℕ} (O : Opened n t m j) {nexts : List ℕ} {n
 
   pub wall-refused : (tag : ℕ) → number ≢ 0 → outcome (refusal number 0 0) t m j ≡ insertCall n t m j tag
   wall-refused tag h = insert-refused n t m j tag
-      (left-are ∙ append-refused (wallChecks n t m) (newRoomOk n t (ones m) ∷ []) (rw (ne-eqb number 0 h) at (T .checks)))
+      (left-are ∙ append-refused (wallChecks n t m) (newRoomOk n t (ones m) ∷ []) (T .checks ∙ rw (ne-eqb number 0 h, verdict)))
 
   module _ (accepted : number ≡ 0) where
     wall-passed : inOrder (wallChecks n t m) ≡ pass
-    wall-passed = rw accepted at (T .checks)
+    wall-passed = T .checks ∙ rw (accepted, verdict)
 
     pub size-is : size ≡ length (ones m)
     size-is = T .size accepted
@@ -152,7 +152,7 @@ module _ {n : ℕ} {t m j : List ℕ} (O : Opened n t m j) {nexts : List ℕ} {n
         insert-goes tag = rw (last-is, insertCall, eq-eqb _ _ (inserts .room), insertCall)
 
         pub changes-number : (4 * n + 1) * size ≡ length (changesFrom 0 t (insertTable n t m))
-        changes-number = rw (size-is, wall-number inserts) (sym (insert-changes inserts))
+        changes-number = ap (λ (k : ℕ). (4 * n + 1) * k) (size-is ∙ length-ones m 0) ∙ sym (insert-changes inserts)
 
         pub some-new : 0 < n * size
         some-new =
@@ -162,8 +162,56 @@ module _ {n : ℕ} {t m j : List ℕ} (O : Opened n t m j) {nexts : List ℕ} {n
             mul-pos (omega arith) (omega arith)
 
         -- "place: first new slot; count: darts added"
-        pub first-new : getD fresh 0 0 ≡ getD (slotsFor n t (ones m)) 0 0
-        first-new = sym (getD-take (n * size) fresh 0 0 some-new) ∙ ap (λ (l : List ℕ). getD l 0 0) taken
+        pub first-new : (queue : List ℕ) → take (n * size) queue ≡ take (n * size) fresh → getD queue 0 0 ≡ getD (slotsFor n t (ones m)) 0 0
+        first-new queue same =
+            sym (getD-take (n * size) queue 0 0 some-new) ∙ ap (λ (l : List ℕ). getD l 0 0) (same ∙ taken)
 
         pub new-count : n * size ≡ n * length (ones m)
         new-count = ap (λ (k : ℕ). n * k) size-is
+
+        -- what `list_behind` asks
+        pub behind-asked : (l k : ℕ) → slots t ≤ l → slots t ≤ k
+            → (length m ≤ 65536) × (size ≡ length (ones m)) × Dim n × (n * size ≤ 65536) × (n * size + size ≤ l) × (length m ≤ k)
+        behind-asked l k room wide =
+            let long = O .long in
+            let few = O .table .few in
+            let within = F .within all in
+            (omega arith, size-is, O .table .dim, omega arith, omega arith, omega arith)
+
+        -- the record has room, and the darts are listed
+        module _ {k : ℕ} {b : Bool} (count : k ≡ (4 * n + 1) * size) (tested : b ≡ leb (recordLength k) (length j - cursor j)) (fits : b ≡ true)
+          where
+            room-there : Room t (insertTable n t m) j
+            room-there = fits-room t (insertTable n t m) j k (count ∙ changes-number) b tested fits
+
+            pub writing : {queue places₀ places : List ℕ} → ListedBehind n (ones m) size fresh queue places₀ places
+                → slots t ≤ length fresh → slots t ≤ length nexts → slots t ≤ length places₀
+                → Writing n true t (insertMade n t m) nexts (drop (n * size) queue) queue places size j
+            writing {queue} {places₀} {places} P room known wide =
+                let within = F .within all in
+                let same = P .long in
+                let same-places = P .placed .wide in
+                let left = length-drop (n * size) queue in
+                record {
+                  makes = by-insert inserts (record { wide = known; next = T .next accepted });
+                  listed = record {
+                    number = size-is;
+                    old = P .placed .front;
+                    new = P .before ∙ taken;
+                    place = P .placed .place;
+                    long = omega arith;
+                    room = omega arith;
+                    wide = omega arith;
+                  };
+                  rule = O .rule;
+                  fits = room-there;
+                }
+
+            pub insert-drafted : (w : List ℕ) → w ≡ drafted j (changesFrom 0 t (insertTable n t m)) → Drafted t (insertTable n t m) j k w
+            insert-drafted w draft = record {
+              long = sym (insert-length inserts);
+              rule = O .rule;
+              room = room-there;
+              count = count ∙ changes-number;
+              draft = draft;
+            }

@@ -1,21 +1,20 @@
 -- What is reached on a wall is what a flood reaches by its steps: `wall-spread`. Where all darts are reached, they are as many
 -- (`connected-by`), and else not.
 use Prim.Native.Nat.{ℕ, _+_, _-_, _<_, _≤_}
-use mathlib.Core.Path.{_≡_, refl, sym, ap, _∙_, subst}
+use mathlib.Core.Path.{_≡_, refl, sym, ap, _∙_}
 use mathlib.Core.Logic.{_≢_, _↔_, inl, inr}
-use mathlib.Core.Bool.{Bool, true, false}
+use mathlib.Core.Bool.{true}
 use mathlib.Core.List.{List}
 use native.Mathlib.Omega.{arith}
-use lib.Dec.{eqb}
 use lib.ListN.{length, getD}
 use borrow.Author.Tests.{eq-eqb, ne-eqb, eqb-true}
-use Rattle.model.specs.Lists.{count, ones, allOf}
+use Rattle.model.specs.Lists.{count, ones}
 use Rattle.model.specs.Table.{slots, link}
 use Rattle.model.specs.Reach.{inSet}
 use Rattle.model.specs.Wall.{next, wallReached, connected}
 use Rattle.model.specs.Meaning.Sets.{Marked}
 use Rattle.model.specs.Meaning.Walls.{Drawn, WallStep}
-use Rattle.theorems.proofs.Lists.Scan.{test, clash, if-eq}
+use Rattle.theorems.proofs.Lists.Scan.{if-eq}
 use Rattle.theorems.proofs.Lists.Ones.{getD-in, ones-of, marked-pass}
 use Rattle.theorems.proofs.Sets.Closure.{marked-in}
 use Rattle.theorems.proofs.Sets.Sizes.{length-ones, size-into, size-within}

@@ -1,15 +1,15 @@
 -- 31 of one dart, from next alone: h ends free exactly where next(h) is h (`own-test`); the words that the code reads (`Joint`) decide it
 -- (`joint-free`, `joint-flat`, `joint-solid`).
-use Prim.Native.Nat.{ℕ, _<_}
+use Prim.Native.Nat.{ℕ}
 use mathlib.Core.Path.{_≡_, refl, sym, ap, _∙_}
 use mathlib.Core.Logic.{inl, _≢_}
-use mathlib.Core.Bool.{Bool, true, false, not, _&&_, _||_}
+use mathlib.Core.Bool.{Bool, true, false, not, _&&_}
 use mathlib.Core.List.{List}
 use native.Mathlib.Omega.{arith}
 use lib.Dec.{eqb}
 use lib.ListN.{getD}
 use borrow.Author.Tests.{eq-eqb, ne-eqb}
-use Rattle.model.specs.Table.{slots, link, live}
+use Rattle.model.specs.Table.{link}
 use Rattle.model.specs.Wall.{endsFree, next, bothFree, nextOver, nextApart, turnsWell}
 use Rattle.model.specs.Meaning.Sets.{Marked}
 use Rattle.model.specs.Meaning.Walls.{Drawn}

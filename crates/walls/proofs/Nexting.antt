@@ -6,7 +6,7 @@ use mathlib.Core.Logic.{_≢_, ⊎-elim}
 use mathlib.Core.Bool.{true, false}
 use mathlib.Core.List.{List}
 use native.Mathlib.Omega.{arith}
-use lib.ListN.{length, getD, set, length-set}
+use lib.ListN.{length, getD, set}
 use lib.Seq.{getD-set-same, getD-set-other}
 use Rattle.model.specs.Table.{slots, link, live}
 use Rattle.model.specs.Wall.{turnsOn, turnFrom, turnEnd, next}
@@ -14,7 +14,7 @@ use Rattle.model.specs.Meaning.Maps.{MapTable}
 use Rattle.model.specs.Meaning.Sets.{Marked}
 use Rattle.model.specs.Meaning.Walls.{Drawn}
 use Rattle.theorems.proofs.Lists.Scan.{test, if-eq}
-use Rattle.theorems.proofs.Sets.Escape.{leave, stepsOut, Leaves, Nearer, leave-stops, step-nearer}
+use Rattle.theorems.proofs.Sets.Escape.{leave, stepsOut, Leaves, leave-stops, step-nearer}
 use Rattle.theorems.proofs.Maps.Tables.{mapTable, live-below, rule-at}
 use Rattle.theorems.proofs.Insert.Turn.{wall-stops, free-stops, stops-at, turn-ends, free-of, met-of, next-free, next-met, next-on}
 use Rattle.theorems.proofs.Insert.Wall.{drawn-by}

@@ -1,6 +1,6 @@
 -- The tests of a wall in their order: what `test` gives where one fails (`refuses`), and where none does (`accepts`).
 use Prim.Native.Nat.{ℕ, _<_}
-use mathlib.Core.Path.{_≡_, refl, sym, ap, _∙_}
+use mathlib.Core.Path.{_≡_}
 use mathlib.Core.Bool.{true, false}
 use mathlib.Core.List.{List}
 use native.Mathlib.Omega.{arith}

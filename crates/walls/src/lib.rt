@@ -7,7 +7,7 @@ use scans::skip_clear;
 ghost use mathlib.Core.Path.{_≡_};
 ghost use mathlib.Core.Bool.{true, not, _&&_, _||_};
 ghost use mathlib.Core.List.{List};
-ghost use Prim.Native.Nat.{ℕ, suc, _+_, _≤_, _<_};
+ghost use Prim.Native.Nat.{ℕ, _+_, _≤_, _<_};
 ghost use lib.ListN.{length, getD, take};
 ghost use lib.Dec.{eqb};
 ghost use Rattle.model.specs.Lists.{count, ones, allOf};
@@ -210,8 +210,9 @@ fn step(n: u32, table: &[u32], next: &[u16], i: u32, x: u32) -> u32
     requires { ⌜ (Stepping n (now table) (now next) x) × (i ≤ n) ⌝ }
     ensures { λ r. ⌜ r ≡ step n (now (table .entry)) (now (next .entry)) i x ⌝ }
 {
+    let turned = word(next, x);
     if i == n - 1 {
-        word(next, x)
+        turned
     } else {
         link_in(table, i as usize, x)
     }

@@ -1,17 +1,22 @@
 -- `call_insert::insert_in` meets its contract: the wall tested, 14 by the slots found, 15 by the number of changes; the darts listed, the
 -- record drafted and carried out.
-use Prim.Native.Nat.{ℕ, _+_, _*_, _≤_}
-use mathlib.Core.Path.{_≡_, refl}
+use Prim.Native.Nat.{_+_, _*_, _≤_}
+use mathlib.Core.Path.{refl, _∙_}
+use mathlib.Core.Bool.{true}
 use native.Mathlib.Omega.{arith}
-use lib.ListN.{length}
+use lib.ListN.{length, drop}
 use borrow.Author.Needs.{needs}
 use borrow.Author.Tests.{not-true, not-false}
 use Rattle.model.specs.Table.{slots}
+use Rattle.model.specs.Insert.{insertTable}
 use Rattle.theorems.proofs.Maps.Tables.{mapTable}
+use Rattle.drafts.specs.Passes.{Drafted}
 use Rattle.answers.proofs.Given.{told-given}
 use Rattle.answers.proofs.Commits.{commit-full, commit-done}
-use Rattle.call_insert.proofs.Ends.{Opened, opened as is-opened, wall-refused, size-is, new-few, both-few, changes-few, insert-few}
-use Rattle.call_insert.proofs.Ends.{insert-goes, changes-number}
+use Rattle.new_darts.specs.News.{insertMade}
+use Rattle.new_darts.specs.Drafting.{Writing}
+use Rattle.call_insert.proofs.Ends.{Opened, opened as is-opened, wall-refused, new-few, both-few, changes-few, insert-few}
+use Rattle.call_insert.proofs.Ends.{insert-goes, changes-number, behind-asked, writing, insert-drafted, some-new, first-new, new-count}
 use Rattle.call_insert.proofs.insert_in.Statement.{statement}
 use Rattle.call_insert.proofs.insert_in.Tie as tie
 
@@ -58,8 +63,9 @@ returns c =
 
 mul-new : tie.Need-mul-new
 mul-new c =
-    let w = tested (c .before) in
-    let few = new-few (opened (start w)) (w .test .ensures) (c .if1 .left) in
+    let e = c .before in
+    let w = tested (e .before) in
+    let few = new-few (opened (start w)) (w .test .ensures) (e .if1 .left) in
     omega arith
 
 find-slots-requires : tie.Need-find-slots-requires
@@ -107,7 +113,7 @@ add-changes c =
 
 mul-changes-2 : tie.Need-mul-changes-2
 mul-changes-2 c =
-    let e = accepted (found (c .before)) in
+    let e = accepted (found (c .before .before)) in
     let w = tested (e .before) in
     let few = changes-few (opened (start w)) (w .test .ensures) (e .if1 .left) in
     omega arith
@@ -149,35 +155,113 @@ returns-3 c =
     (changes-number (opened (start w)) (w .test .ensures) (e .if1 .left) (f .find-slots .ensures) all)
     (k .record-fits .ensures) (not-true _ (c .if3 .taken))
 
-cast-list-darts : tie.Need-cast-list-darts
-cast-list-darts c = search needs
+-- ---- the record
 
-mul-list-darts : tie.Need-mul-list-darts
-mul-list-darts c = search needs
+-- 14 has passed, from where 15 has; the darts listed, from where the record is drafted
+abbrev enough : tie.Else3 → tie.Else2
+enough c = c .before .before .before .before
 
-sub-list-darts : tie.Need-sub-list-darts
-sub-list-darts c = ?
+abbrev fitting : tie.After-list-behind → tie.Else3
+fitting c = c .before .before .before
 
-part-list-darts-start : tie.Need-part-list-darts-start
-part-list-darts-start c = ?
+abbrev listed : tie.After-write-in → tie.After-list-behind
+listed c = c .before .before .before .before .before .before .before .before .before .before
 
-part-list-darts-end : tie.Need-part-list-darts-end
-part-list-darts-end c = ?
+abbrev wrote : tie.After-carry-out → tie.After-write-in
+wrote c = c .before .before .before .before .before
 
-list-darts-requires : tie.Need-list-darts-requires
-list-darts-requires c κs = ?
+-- the slices are as long as they were: the queue, where the slots are found; nexts and places, where the wall is tested
+queue-long : (f : tie.After-find-slots) →
+    slots (start (tested (accepted f .before)) .args .table .now) ≤ length (f .find-slots .last .1 .0)
+queue-long f =
+    let e = accepted f in
+    let room = start (tested (e .before)) .pre .1 .0 in
+    let kept = e .before .before .before .before .before .before .before .queue .given in
+    let same = f .find-slots .ensures .long in
+    omega arith
+
+nexts-long : (e : tie.Else1) →
+    slots (start (tested (e .before)) .args .table .now) ≤ length (tested (e .before) .test .last .1 .1 .1 .1 .0)
+nexts-long e =
+    let room = start (tested (e .before)) .pre .1 .1 in
+    let kept = e .before .before .before .before .before .nexts .given in
+    omega arith
+
+places-long : (e : tie.Else1) →
+    slots (start (tested (e .before)) .args .table .now) ≤ length (tested (e .before) .test .last .1 .1 .1 .1 .1 .0)
+places-long e =
+    let room = start (tested (e .before)) .pre .1 .2 in
+    let kept = e .before .before .before .places .given in
+    omega arith
+
+list-behind-requires : tie.Need-list-behind-requires
+list-behind-requires c κs =
+    let g = enough (c .before .before) in
+    let f = found (g .before) in
+    let e = accepted f in
+    let w = tested (e .before) in
+    behind-asked (opened (start w)) (w .test .ensures) (e .if1 .left) (f .find-slots .ensures) (not-false _ (g .if2 .left)) _ _
+    (queue-long f) (places-long e)
+
+write : (c : tie.After-list-behind) →
+    let e = accepted (found (enough (fitting c) .before)) in
+    let w = tested (e .before) in
+    let a = start w .args in
+    Writing (a .n) true (a .table .now) (insertMade (a .n) (a .table .now) (a .marks .now)) (w .test .last .1 .1 .1 .1 .0)
+    (drop (a .n * w .test .result .size) (c .list-behind .last .1 .1 .0)) (c .list-behind .last .1 .1 .0) (c .list-behind .last .1 .1 .1 .0)
+    (w .test .result .size) (a .journal .now)
+write c =
+    let h = fitting c in
+    let k = h .before in
+    let g = enough h in
+    let f = found (g .before) in
+    let e = accepted f in
+    let w = tested (e .before) in
+    writing (opened (start w)) (w .test .ensures) (e .if1 .left) (f .find-slots .ensures) (not-false _ (g .if2 .left)) refl
+    (k .record-fits .ensures) (not-false _ (h .if3 .left)) (c .list-behind .ensures) (queue-long f) (nexts-long e) (places-long e)
 
 write-in-requires : tie.Need-write-in-requires
-write-in-requires c κs = ?
+write-in-requires c κs =
+    let l = c .before .before .before .before .before .before .before .before .before in
+    let e = accepted (found (enough (fitting l) .before)) in
+    let w = tested (e .before) in
+    let few = new-few (opened (start w)) (w .test .ensures) (e .if1 .left) in
+    ((_, write l), omega arith)
+
+-- the record is drafted
+draft : (c : tie.After-write-in) →
+    let w = tested (accepted (found (enough (fitting (listed c)) .before)) .before) in
+    let a = start w .args in
+    Drafted (a .table .now) (insertTable (a .n) (a .table .now) (a .marks .now)) (a .journal .now) ((4 * a .n + 1) * w .test .result .size)
+    (c .write-in .last .1 .1 .0)
+draft c =
+    let h = fitting (listed c) in
+    let k = h .before in
+    let g = enough h in
+    let f = found (g .before) in
+    let e = accepted f in
+    let w = tested (e .before) in
+    insert-drafted (opened (start w)) (w .test .ensures) (e .if1 .left) (f .find-slots .ensures) (not-false _ (g .if2 .left)) refl
+    (k .record-fits .ensures) (not-false _ (h .if3 .left)) _ (c .write-in .ensures _ (write (listed c)))
 
 carry-out-requires : tie.Need-carry-out-requires
-carry-out-requires c κs = ?
+carry-out-requires c κs = record { u = _; j = _; drafted = draft (c .before .before .before .before) }
 
-slice-read-t54 : tie.Need-slice-read-t54
-slice-read-t54 c = ?
+slice-read-t50 : tie.Need-slice-read-t50
+slice-read-t50 c =
+    let l = listed (wrote (c .before .before .before .before .before)) in
+    let g = enough (fitting l) in
+    let f = found (g .before) in
+    let e = accepted f in
+    let w = tested (e .before) in
+    let some = some-new (opened (start w)) (w .test .ensures) (e .if1 .left) (f .find-slots .ensures) (not-false _ (g .if2 .left)) in
+    let within = f .find-slots .ensures .within (not-false _ (g .if2 .left)) in
+    let long = queue-long f in
+    let same = l .list-behind .ensures .long in
+    omega arith
 
 cast-t27 : tie.Need-cast-t27
-cast-t27 c = ?
+cast-t27 c = omega (arith, c .slice-known15 .given 0)
 
 same-length-14 : tie.Need-same-length-14
 same-length-14 c = search needs
@@ -186,16 +270,38 @@ same-length-15 : tie.Need-same-length-15
 same-length-15 c = search needs
 
 same-length-16 : tie.Need-same-length-16
-same-length-16 c = search needs
+same-length-16 c =
+    let l = listed (wrote (c .before .before .before .before .before)) in
+    let f = found (enough (fitting l) .before) in
+    l .list-behind .ensures .long ∙ f .find-slots .ensures .long
+    ∙ accepted f .before .before .before .before .before .before .before .queue .given
 
 same-length-17 : tie.Need-same-length-17
-same-length-17 c = search needs
+same-length-17 c =
+    let l = listed (wrote (c .before .before .before .before .before)) in
+    accepted (found (enough (fitting l) .before)) .before .before .before .before .before .nexts .given
 
 same-length-18 : tie.Need-same-length-18
-same-length-18 c = search needs
+same-length-18 c =
+    let l = listed (wrote (c .before .before .before .before .before)) in
+    l .list-behind .ensures .placed .wide ∙ accepted (found (enough (fitting l) .before)) .before .before .before .places .given
 
 returns-4 : tie.Need-returns-4
-returns-4 c = ?
+returns-4 c =
+    let done = c .before .before .before .before .before in
+    let d = wrote done in
+    let h = fitting (listed d) in
+    let k = h .before in
+    let g = enough h in
+    let f = found (g .before) in
+    let e = accepted f in
+    let w = tested (e .before) in
+    let all = not-false _ (g .if2 .left) in
+    commit-done _ _ _ _ _ _ _ (insert-goes (opened (start w)) (w .test .ensures) (e .if1 .left) (f .find-slots .ensures) all _)
+    (changes-number (opened (start w)) (w .test .ensures) (e .if1 .left) (f .find-slots .ensures) all)
+    (k .record-fits .ensures) (not-false _ (h .if3 .left)) (done .carry-out .ensures _ _ (draft d))
+    (first-new (opened (start w)) (w .test .ensures) (e .if1 .left) (f .find-slots .ensures) all _ (listed d .list-behind .ensures .before))
+    (new-count (opened (start w)) (w .test .ensures) (e .if1 .left) (f .find-slots .ensures) all)
 
 pub insert-in-spec : {M : Type 1} → statement M
 insert-in-spec =
@@ -224,15 +330,10 @@ insert-in-spec =
     same-length-12
     same-length-13
     returns-3
-    cast-list-darts
-    mul-list-darts
-    sub-list-darts
-    part-list-darts-start
-    part-list-darts-end
-    list-darts-requires
+    list-behind-requires
     write-in-requires
     carry-out-requires
-    slice-read-t54
+    slice-read-t50
     cast-t27
     same-length-14
     same-length-15

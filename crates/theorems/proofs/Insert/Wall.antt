@@ -2,7 +2,7 @@
 -- `clear-of`, `joined-of`), and it is not empty (`wall-some`). `wall-reached-is`: what is reached from the wall's first dart.
 use Prim.Native.Nat.{ℕ, suc, _*_, _-_, _≤_, _<_}
 use mathlib.Core.Path.{_≡_, refl, sym, ap, _∙_, subst}
-use mathlib.Core.Logic.{_⊎_, inl, inr, _≢_, _↔_, ⊎-elim}
+use mathlib.Core.Logic.{inl, inr, _≢_, _↔_, ⊎-elim}
 use mathlib.Core.Bool.{Bool, true, false, not, _&&_, _||_}
 use mathlib.Core.List.{List, [], _∷_, List·Memᴰ as In, List·Memᴰ·eq-of-singleton as sole, List·Memᴰ·head as here}
 use mathlib.Core.List.{Memᴰ·cast as in-cast}
@@ -18,7 +18,7 @@ use Rattle.model.specs.Sew.{side}
 use Rattle.model.specs.Wall.{endsFree, next, drawn, closedAt, enclosed, sewnWall, bothFree, nextOver, nextApart, turnsWell}
 use Rattle.model.specs.Wall.{wallTable, wallReached, connected}
 use Rattle.model.specs.Meaning.Maps.{BlockTable, Dim, Rule}
-use Rattle.model.specs.Meaning.Sets.{Marked, Bits, LeastSet, Least, ByLink}
+use Rattle.model.specs.Meaning.Sets.{Marked, Bits, LeastSet, Least}
 use Rattle.model.specs.Meaning.Walls.{Drawn, WallStep, Wall, Clear, Joined, Inserts}
 use Rattle.theorems.proofs.Lists.Scan.{if-eq, if-lt, and-l, and-r, and-i, or-cases, below-at}
 use Rattle.theorems.proofs.Lists.Ones.{getD-in, ones-of, ones-in, each-at, marked-pass}

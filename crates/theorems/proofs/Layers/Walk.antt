@@ -138,7 +138,7 @@ module _ (n : ℕ) (t m : List ℕ) where
       let rec = outside-reaches fuel (hop n t y) in
       test (marked m y) (λ e. rw (e, outside) (onward e rec)) (λ e. rw (e, outside) (arrived refl))
 
-  outside-leaves : (fuel y : ℕ) → outside n t m fuel y ≡ leave (marked m) (hop n t) fuel y
+  pub outside-leaves : (fuel y : ℕ) → outside n t m fuel y ≡ leave (marked m) (hop n t) fuel y
   unfolding outside leave hop
   outside-leaves zero y = refl
   outside-leaves (suc fuel) y =

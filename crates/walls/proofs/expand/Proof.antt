@@ -3,7 +3,6 @@ use Prim.Native.Nat.{_+_, _-_}
 use mathlib.Core.Path.{refl, sym, ap, _∙_}
 use mathlib.Core.Bool.{true}
 use native.Mathlib.Omega.{arith}
-use borrow.Author.Needs.{needs}
 use Rattle.model.specs.Table.{slots}
 use Rattle.reach.specs.Search.{Search, searchOf, meet}
 use Rattle.reach.proofs.Meeting.{Going, going-from, going-on, going-all, going-long, meet-asks, follow-takes}

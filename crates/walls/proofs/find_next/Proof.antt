@@ -1,6 +1,6 @@
 -- `walls::find_next` meets its contract. The loop's invariant: next of the darts before the k-th is found.
 use Prim.Native.Nat.{_-_, _≤_, _<_}
-use mathlib.Core.Path.{_≡_, refl, sym, ap, _∙_}
+use mathlib.Core.Path.{_≡_, refl, _∙_}
 use native.Mathlib.Omega.{arith}
 use lib.ListN.{length, length-set}
 use Rattle.model.specs.Table.{slots}

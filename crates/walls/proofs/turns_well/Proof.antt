@@ -1,9 +1,5 @@
 -- `walls::turns_well` meets its contract.
-use Prim.Native.Nat.{_<_}
-use mathlib.Core.Path.{_≡_}
 use native.Mathlib.Omega.{arith}
-use Rattle.model.specs.Table.{slots, link}
-use Rattle.model.specs.Meaning.Sets.{Marked}
 use Rattle.theorems.proofs.Insert.Turn.{next-on}
 use Rattle.walls.proofs.Drawings.{dart-in, entry-of}
 use Rattle.walls.proofs.Nexting.{drawn-of}
