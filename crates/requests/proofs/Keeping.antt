@@ -18,6 +18,11 @@ module _ (r : Answer) (t m j : List ℕ) {o : Outcome} where
   unfolding keeping
   keeps-marks e = ap (λ o. keeping o m (o .journal)) e
 
+  -- of a call that is lent marks and does not write them
+  pub keeps-lent : outcome r t m j ≡ o → outcome r t m j ≡ keeping o m (o .journal)
+  unfolding keeping
+  keeps-lent e = ap (λ o. keeping o m (o .journal)) e
+
   pub keeps-journal : outcome r t m [] ≡ o → outcome r t m j ≡ keeping o (o .marks) j
   unfolding keeping
   keeps-journal e = ap (λ o. keeping o (o .marks) j) e

@@ -1,24 +1,59 @@
 -- `requests::any_request` meets its contract: insert, or a request of the session.
-use mathlib.Core.Path.{sym, ap, _∙_}
-use mathlib.Core.List.{List}
 use borrow.Author.Needs.{needs}
 use borrow.Author.Tests.{ne-eqb}
-use Rattle.model.specs.Runs.{doCall, keeping}
+use Rattle.model.specs.Runs.{doCall}
 use Rattle.requests.specs.Asked.{anyCall}
+use Rattle.requests.proofs.Keeping.{keeps-lent}
 use Rattle.requests.proofs.any_request.Statement.{statement}
 use Rattle.requests.proofs.any_request.Tie as tie
 
 insert-requires : tie.Need-insert-requires
 insert-requires c κs = search needs
 
-returns : tie.Need-returns
-returns c = ?
-
 request-requires : tie.Need-request-requires
 request-requires c κs = search needs
 
+same-length : tie.Need-same-length
+same-length c = search needs
+
+same-length-2 : tie.Need-same-length-2
+same-length-2 c = search needs
+
+same-length-3 : tie.Need-same-length-3
+same-length-3 c = search needs
+
+returns : tie.Need-returns
+unfolding doCall anyCall
+returns c =
+    let asked = c .before .before .before .before in
+    rw (asked .before .before .before .before .if1 .taken) (keeps-lent _ _ _ _ (asked .insert .ensures))
+
+same-length-4 : tie.Need-same-length-4
+same-length-4 c = search needs
+
+same-length-5 : tie.Need-same-length-5
+same-length-5 c = search needs
+
+same-length-6 : tie.Need-same-length-6
+same-length-6 c = search needs
+
 returns-2 : tie.Need-returns-2
-returns-2 c = ?
+unfolding anyCall
+returns-2 c =
+    let asked = c .before .before .before .before .before .before in
+    rw (ne-eqb _ 10 (asked .before .before .before .before .if1 .left), anyCall) (asked .request .ensures)
 
 pub any-request-spec : {M : Type 1} → statement M
-any-request-spec = tie.close (tie.spec insert-requires returns request-requires returns-2)
+any-request-spec =
+    tie.close
+    (tie.spec
+    insert-requires
+    request-requires
+    same-length
+    same-length-2
+    same-length-3
+    returns
+    same-length-4
+    same-length-5
+    same-length-6
+    returns-2)
