@@ -14,9 +14,9 @@
  * The library is x86-64 code for Linux. Of the C library it takes memcpy and memset, and no more. It
  * allocates nothing, keeps nothing between calls and has no global state: calls on different buffers
  * may run on different threads.
- * A call takes at most 300,000 bytes of stack, and at most 16,384 on a table of up to 2,048 slots
- * (bench/README.md has the figures measured). Every call reads the whole table, to see that it is a
- * map: its time is linear in the length of the table, whatever it changes.
+ * A call takes at most 300,000 bytes of stack, insert at most 400,000, and each at most 16,384 on a
+ * table of up to 2,048 slots (bench/README.md has the figures measured). Every call reads the whole
+ * table, to see that it is a map: its time is linear in the length of the table, whatever it changes.
  *
  *
  * 2. Words

@@ -1,7 +1,7 @@
 -- How insert ends: refused by the checks up to 8 or by its wall (`insert-refused`, `wall-refused`), by 14 (`insert-few`), else (`Ready`) by
 -- what is left of it, `commit` (`insert-goes`); and what it knows on the way: what the record is written from (`writing`), and its draft
 -- (`insert-drafted`).
-use Prim.Native.Nat.{ℕ, suc, _+_, _-_, _*_, _≤_, _<_}
+use Prim.Native.Nat.{ℕ, _+_, _-_, _*_, _≤_, _<_}
 use mathlib.Core.Path.{_≡_, refl, sym, ap, _∙_}
 use mathlib.Core.Logic.{_≢_}
 use mathlib.Core.Bool.{Bool, true, false}
@@ -10,7 +10,7 @@ use native.Mathlib.Nat.{mul-pos}
 use native.Mathlib.Omega.{arith}
 use lib.ListN.{length, getD, take, drop, length-drop}
 use lib.Seq.{getD-take}
-use lib.Dec.{leb, eqb}
+use lib.Dec.{leb}
 use borrow.Author.Tests.{eqb-true, eq-eqb, ne-eqb}
 use Rattle.model.specs.Lists.{ones, indexOf}
 use Rattle.model.specs.Table.{slots, unusedSlots}

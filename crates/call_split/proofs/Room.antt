@@ -1,10 +1,10 @@
 -- Where split passes its checks, the darts of S and the new ones are few: `split-room`. n copies of S are live: S, its links 1, and for
 -- n = 3 the links 2 of these.
-use Prim.Native.Nat.{ℕ, _+_, _*_, _≤_, _<_}
-use mathlib.Core.Path.{_≡_, refl, sym, ap, _∙_}
+use Prim.Native.Nat.{ℕ, _+_, _*_, _≤_}
+use mathlib.Core.Path.{_≡_, sym, ap, _∙_}
 use mathlib.Core.Logic.{⊎-elim}
 use mathlib.Core.Bool.{true}
-use mathlib.Core.List.{List, [], _∷_, _++_, List·Memᴰ as In, Memᴰ·cast as in-cast, List·Memᴰ·append-cases as in-append}
+use mathlib.Core.List.{List, _++_, List·Memᴰ as In, Memᴰ·cast as in-cast, List·Memᴰ·append-cases as in-append}
 use native.Mathlib.Omega.{arith}
 use lib.ListN.{length, getD, length-append}
 use Rattle.model.specs.Lists.{ones, tabulateFrom}

@@ -1,7 +1,7 @@
 -- What the new table says, of split and of insert alike: `Spread`, for what either makes (`spread`).
 use Prim.Native.Nat.{ℕ, _*_, _<_}
 use mathlib.Core.Path.{_≡_}
-use mathlib.Core.Bool.{Bool, true, false}
+use mathlib.Core.Bool.{Bool, true}
 use mathlib.Core.List.{List, List·Memᴰ as In}
 use native.Mathlib.Omega.{arith}
 use lib.ListN.{length}

@@ -1,6 +1,6 @@
 -- Walls (02, R-5), as properties and not as tests: the refusals 28 to 32 in words, and what the passed checks of insert say: `Drawn`,
 -- `Wall` with `Clear` and `Joined`, `Inserts`; the links of its new darts (`InsertLinks`).
-use Prim.Native.Nat.{ℕ, _+_, _*_, _-_, _≤_, _<_}
+use Prim.Native.Nat.{ℕ, _+_, _*_, _-_, _≤_}
 use mathlib.Core.Path.{_≡_}
 use mathlib.Core.Logic.{_⊎_, _≢_}
 use mathlib.Core.Bool.{true, false}

@@ -1,5 +1,4 @@
 -- `new_darts::changed_link` meets its contract.
-use mathlib.Core.Path.{sym, ap}
 use Rattle.new_darts.specs.News.{changedLink}
 use Rattle.new_darts.proofs.changed_link.Statement.{statement}
 use Rattle.new_darts.proofs.changed_link.Tie as tie

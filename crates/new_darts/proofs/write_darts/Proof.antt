@@ -7,7 +7,7 @@ use lib.ListN.{getD}
 use borrow.Author.Needs.{needs}
 use Rattle.drafts.specs.Passes.{OneLink}
 use Rattle.drafts.proofs.Passes.{pass-word, pass-length}
-use Rattle.new_darts.specs.News.{Made, changedLink}
+use Rattle.new_darts.specs.News.{Made}
 use Rattle.new_darts.specs.Drafting.{Drafting}
 use Rattle.new_darts.proofs.News.{new-asked, new-found}
 use Rattle.new_darts.proofs.Lists.{spreads, dart-in, dart-inside, news, dart-link}

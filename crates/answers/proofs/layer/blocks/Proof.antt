@@ -1,5 +1,4 @@
 -- `answers::layer::blocks` meets its contract.
-use borrow.Author.Needs.{needs}
 use Rattle.reading.proofs.Passed.{table-short}
 use Rattle.answers.proofs.Verdicts.{least-passes, least-refuses, block-test}
 use Rattle.answers.proofs.Settled.{settles-refusal, settles-pass}
