@@ -5,7 +5,6 @@ use mathlib.Core.Bool.{Bool, true}
 use mathlib.Core.List.{List, List·Memᴰ as In}
 use native.Mathlib.Omega.{arith}
 use lib.ListN.{length}
-use Rattle.model.specs.Lists.{ones}
 use Rattle.model.specs.Table.{link, live}
 use Rattle.model.specs.NewDarts.{newDart}
 use Rattle.model.specs.Sheet.{sheet}

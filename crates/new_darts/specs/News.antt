@@ -4,7 +4,6 @@ use mathlib.Core.Path.{_≡_}
 use mathlib.Core.Bool.{Bool, true, false}
 use mathlib.Core.List.{List, List·Memᴰ as In}
 use lib.ListN.{length, getD}
-use Rattle.model.specs.Lists.{ones}
 use Rattle.model.specs.Table.{slots, link}
 use Rattle.model.specs.NewDarts.{newDart}
 use Rattle.model.specs.Split.{splitTable}

@@ -8,10 +8,12 @@ pub mod Mirror
 pub mod Remove
 pub mod RemoveCounts
 pub mod NewDarts
+pub mod Roles
 pub mod Splitting
 pub mod Role
 pub mod SplitMap
 pub mod Half
+pub mod Spots
 pub mod Spot
 pub mod SplitSides
 pub mod SplitBlock

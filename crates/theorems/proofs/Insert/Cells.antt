@@ -30,12 +30,13 @@ use Rattle.theorems.proofs.Cells.Chart.{Charted, block-by, block-straig
 use Rattle.theorems.proofs.Cells.Chart.{place-chart, place-zero, place-live, place-one}
 use Rattle.theorems.proofs.Layers.Near.{inFace, face-low, face-word}
 use Rattle.theorems.proofs.Layers.NewDarts.{Live, old, new, new-one}
-use Rattle.theorems.proofs.Layers.Role.{roleDart, live-role}
+use Rattle.theorems.proofs.Layers.Roles.{roleDart, live-role}
+use Rattle.theorems.proofs.Layers.Spots.{spot-valid, spots-chart}
 use Rattle.theorems.proofs.Insert.Laid.{Laying, spread, laid-kept}
 use Rattle.theorems.proofs.Insert.Role.{letter, spell, letter-link, roleTo, roleWord, role-link}
 use Rattle.theorems.proofs.Insert.Table.{laid-table, laid-live, live-laid}
 use Rattle.theorems.proofs.Insert.Spot.{Spot, spot, spotLink, spotAt, movePlace, moveSide, level, valid}
-use Rattle.theorems.proofs.Insert.Spot.{spot-same, spot-valid, spot-link, spot-apart, word-level, role-held}
+use Rattle.theorems.proofs.Insert.Spot.{spot-same, cell-fitting, word-level, role-held}
 use Rattle.theorems.proofs.Insert.Sides.{laid-straight}
 
 -- ---- the face of a dart h of the wall
@@ -199,15 +200,11 @@ module _ {n : ℕ} {t hs fs : List ℕ} {nx : ℕ → ℕ} (C : Laying n t hs fs
 
     pub new-chart : Chart n after (cellDart n t hs fs h)
     unfolding cellDart
-    new-chart = record {
-      follow = λ j k hj hk. spot-follows (spotAt n k) j (spot-valid n dim k hk) hj ∙ ap at (spot-link n dim j k hj hk);
-      apart = λ a b ab hb e. spot-apart n dim a b ab hb
-          (spot-one (spotAt n a) (spotAt n b) (spot-valid n dim a (omega arith)) (spot-valid n dim b hb) e);
-    }
+    new-chart = spots-chart (cell-fitting n dim) after at spot-follows spot-one
 
     pub new-base : live after (cellDart n t hs fs h 0) ≡ true
     unfolding cellDart
-    new-base = spot-lives (spotAt n 0) (spot-valid n dim 0 (size-some n dim))
+    new-base = spot-lives (spotAt n 0) (spot-valid (cell-fitting n dim) 0 (size-some n dim))
 
     -- the new darts of h are in its cell
     pub new-in-cell : (r : ℕ) → r < n → InNewCell n t hs fs h (newDart n hs fs r h)

@@ -39,7 +39,7 @@ use Rattle.theorems.proofs.Operations.Slots.{ones-rising, Filled, lowes
 use Rattle.theorems.proofs.Operations.Slots.{filled-count, filled-changes}
 use Rattle.theorems.proofs.Layers.Marks.{marks-cells}
 use Rattle.theorems.proofs.Layers.NewDarts.{old, new, new-slot, new-in, new-one, slot-new, live-which}
-use Rattle.theorems.proofs.Layers.Role.{roleDart}
+use Rattle.theorems.proofs.Layers.Roles.{roleDart}
 use Rattle.theorems.proofs.Insert.Wall.{wall-some, wall-bits, drawn-of, clear-of, joined-of}
 use Rattle.theorems.proofs.Insert.Laid.{Laying, laying-of, spread, laid-slots, laid-length, laid-whole, laid-wall, laid-kept}
 use Rattle.theorems.proofs.Insert.Role.{letter, spell, roleTo, roleWord, role-link}

@@ -17,7 +17,7 @@ use Rattle.model.specs.Meaning.Maps.{Dim}
 use Rattle.model.specs.Meaning.Walls.{Wall}
 use Rattle.theorems.proofs.Lists.Scan.{and-l, and-r, or-cases, if-eq, below-three, below-four}
 use Rattle.theorems.proofs.Maps.Dim.{two-cases}
-use Rattle.theorems.proofs.Layers.Role.{roleDart}
+use Rattle.theorems.proofs.Layers.Roles.{roleDart}
 use Rattle.theorems.proofs.Insert.Laid.{Laying, laid-wall, new-link, laid-kept}
 
 -- ---- words over the wall

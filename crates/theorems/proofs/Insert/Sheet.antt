@@ -31,19 +31,19 @@ use Rattle.theorems.proofs.Cells.Rows.{small, walk-keeps}
 use Rattle.theorems.proofs.Cells.Cell.{cell-own, cell-goes}
 use Rattle.theorems.proofs.Layers.Marks.{marks-cells}
 use Rattle.theorems.proofs.Layers.NewDarts.{new-in, slot-new}
-use Rattle.theorems.proofs.Layers.Role.{opposed, roleDart, last-role, live-role}
+use Rattle.theorems.proofs.Layers.Roles.{roleDart, last-role, live-role, roleEnd, rolePath, leads, allLead, lead-low, role-walk}
+use Rattle.theorems.proofs.Layers.Role.{opposed}
 use Rattle.theorems.proofs.Insert.Laid.{Laying, spread}
 use Rattle.theorems.proofs.Insert.Role.{spell, letter-next, letter-link, keepsWall, spell-keeps}
 use Rattle.theorems.proofs.Insert.Role.{roleTo, roleWord, role-link}
-use Rattle.theorems.proofs.Insert.Table.{roleEnd, rolePath, leads, allLead, computed, lead-low, role-walk}
-use Rattle.theorems.proofs.Insert.Table.{laid-table, laid-live}
+use Rattle.theorems.proofs.Insert.Table.{layerRows, computed, layer-roles, laid-table, laid-live}
 use Rattle.theorems.proofs.Insert.Cells.{laid-block}
 
 -- ---- the moves of the last role, computed
 
 -- from the role r the word v leads to the role q, and over the wall by the word w
 unfoldable pub moves : ℕ → ℕ → List ℕ → ℕ → List ℕ → Bool
-moves n r v q w = allLead n v r && (eqb (roleEnd n v r) q && same (rolePath n v r) w)
+moves n r v q w = allLead n (layerRows n) v r && (eqb (roleEnd (layerRows n) v r) q && same (rolePath (layerRows n) v r) w)
 
 -- the steps of a sheet from the last role: link 0 over link n, 1.0.1 over link 0, link n over next, for n = 3 link 2 over link 1
 record Moves (n : ℕ) : Type 0 where
@@ -79,7 +79,7 @@ comes-to n dim = two-cases n dim (λ n. allBelow n (comesTo n) ≡ true) refl re
 
 -- a link below n leads from a new dart to a new dart
 staysNew : ℕ → ℕ → ℕ → Bool
-staysNew n r j = leads n (suc r) j && ltb 0 (roleTo n (suc r) j)
+staysNew n r j = leads n (layerRows n) (suc r) j && ltb 0 (roleTo n (suc r) j)
 
 stays-new : (n : ℕ) → Dim n → allBelow n (λ r. allBelow n (staysNew n r)) ≡ true
 unfolding computed staysNew
@@ -103,10 +103,10 @@ module _ {n : ℕ} {t hs fs : List ℕ} {nx : ℕ → ℕ} (C : Laying n t hs fs
   moved : (r q : ℕ) (v w : List ℕ) → moves n r v q w ≡ true → r ≤ n → (h : ℕ) → In h hs → walk after v (role r h) ≡ role q (spell t nx w h)
   unfolding moves
   moved r q v w m b h i =
-      let ends = eqb (roleEnd n v r) q in
-      let word = same (rolePath n v r) w in
-      let rest : (ends && word) ≡ true = and-r (allLead n v r) (ends && word) m in
-      role-walk C v r h (and-l (allLead n v r) (ends && word) m) b i
+      let ends = eqb (roleEnd (layerRows n) v r) q in
+      let word = same (rolePath (layerRows n) v r) w in
+      let rest : (ends && word) ≡ true = and-r (allLead n (layerRows n) v r) (ends && word) m in
+      role-walk (layer-roles C) v r h (and-l (allLead n (layerRows n) v r) (ends && word) m) b i
       ∙ ap₂ role (eqb-true _ _ (and-l ends word rest)) (ap (λ (w : List ℕ). spell t nx w h) (same-eq _ w (and-r ends word rest)))
 
   -- ---- the sheet
@@ -221,10 +221,10 @@ module _ {n : ℕ} {t hs fs : List ℕ} {nx : ℕ → ℕ} (C : Laying n t hs fs
       row = below-both (staysNew n) n n (stays-new n dim) (w .role) j (w .low) b
 
       low : (j < 4) × (roleTo n (suc (w .role)) j ≤ n) × (keepsWall n (roleWord n (suc (w .role)) j) ≡ true)
-      low = lead-low C (suc (w .role)) j (and-l (leads n (suc (w .role)) j) _ row)
+      low = lead-low (layer-roles C) (suc (w .role)) j (and-l (leads n (layerRows n) (suc (w .role)) j) _ row)
 
       some : 0 < roleTo n (suc (w .role)) j
-      some = ltb-true _ _ (and-r (leads n (suc (w .role)) j) _ row)
+      some = ltb-true _ _ (and-r (leads n (layerRows n) (suc (w .role)) j) _ row)
 
       there : In (spell t nx (roleWord n (suc (w .role)) j) (w .of)) hs
       there = spell-keeps dim (C .wall) (roleWord n (suc (w .role)) j) (w .of) (low .2) (w .member)

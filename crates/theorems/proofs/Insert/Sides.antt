@@ -26,7 +26,7 @@ use Rattle.theorems.proofs.Sewing.Side.{past, on-side, side-live, side-
 use Rattle.theorems.proofs.Cells.Places.{same, same-eq}
 use Rattle.theorems.proofs.Cells.Chart.{block-straight}
 use Rattle.theorems.proofs.Layers.NewDarts.{Live, old, new, new-in, new-one, not-new}
-use Rattle.theorems.proofs.Layers.Role.{roleDart}
+use Rattle.theorems.proofs.Layers.Roles.{roleDart}
 use Rattle.theorems.proofs.Insert.Laid.{Laying, spread, laid-wall, laid-kept}
 use Rattle.theorems.proofs.Insert.Role.{spell, letter-next, letter-link, roleTo, roleWord, role-link}
 use Rattle.theorems.proofs.Insert.Table.{computed, live-laid}

@@ -1,32 +1,29 @@
 -- insert keeps a map (`laid-table`): the words of a map's rules lead from role to role (`role-walk`), and back to where they began; computed
 -- over the roles. The live slots after are the live ones before and the new darts (`Live`, `laid-ruled`).
-use Prim.Native.Nat.{ℕ, suc, _+_, _≤_, _<_}
-use mathlib.Core.Path.{_≡_, refl, sym, ap, ap₂, _∙_}
-use mathlib.Core.Logic.{_⊎_, inl, inr, ⊎-elim}
-use mathlib.Core.Bool.{Bool, true, false, not, _&&_, _||_}
-use mathlib.Core.List.{List, [], _∷_, _++_, List·Memᴰ as In, Memᴰ·cast as in-cast}
+use Prim.Native.Nat.{ℕ, suc, _<_}
+use mathlib.Core.Path.{_≡_, refl, ap, ap₂, _∙_}
+use mathlib.Core.Logic.{inl, ⊎-elim}
+use mathlib.Core.Bool.{Bool, true, _&&_, _||_}
+use mathlib.Core.List.{List, [], _∷_, List·Memᴰ as In}
 use native.Mathlib.Nat.{le-refl}
 use native.Mathlib.Omega.{arith}
 use lib.ListN.{getD}
-use lib.Dec.{eqb, ltb, leb}
-use borrow.Author.Tests.{eqb-true, ltb-true, leb-true, le-ltb, ne-eqb, eq-eqb}
-use Rattle.model.specs.Lists.{allBelow}
-use Rattle.model.specs.Table.{slots, link, walk, live}
+use lib.Dec.{eqb, ltb}
+use borrow.Author.Tests.{eqb-true, ltb-true, ne-eqb, eq-eqb}
+use Rattle.model.specs.Table.{link, live}
 use Rattle.model.specs.Insert.{laid}
 use Rattle.model.specs.Everything.{everything}
 use Rattle.model.specs.Meaning.Maps.{BlockTable, MapTable, Dim, Rule}
 use Rattle.model.specs.Meaning.Walls.{Wall}
-use Rattle.theorems.proofs.Lists.Scan.{test, if-eq, clash, and-l, and-r, below-at, or-cases}
-use Rattle.theorems.proofs.Lists.Ones.{in-or}
+use Rattle.theorems.proofs.Lists.Scan.{if-eq, and-l, and-r, or-cases}
 use Rattle.theorems.proofs.Maps.Dim.{two-cases}
-use Rattle.theorems.proofs.Maps.Tables.{mapTable, live-below, rule-at}
+use Rattle.theorems.proofs.Maps.Tables.{mapTable, rule-at}
 use Rattle.theorems.proofs.Sewing.Side.{past}
 use Rattle.theorems.proofs.Cells.Places.{same, same-eq}
-use Rattle.theorems.proofs.Cells.Chart.{Ruled, ruled-table, live-of, of-live, live-same}
 use Rattle.theorems.proofs.Operations.Frame.{insert-frame}
-use Rattle.theorems.proofs.Layers.NewDarts.{Live, old, new, new-in, slot-new}
-use Rattle.theorems.proofs.Layers.Role.{roleDart, live-role}
-use Rattle.theorems.proofs.Insert.Laid.{Laying, spread, laid-slots, laid-whole, laid-kept}
+use Rattle.theorems.proofs.Layers.NewDarts.{Live}
+use Rattle.theorems.proofs.Layers.Roles.{roleDart, RoleRows, Roles, rulesHold, rules, roles-table, roles-live, live-roles}
+use Rattle.theorems.proofs.Insert.Laid.{Laying, spread, laid-slots, laid-whole}
 use Rattle.theorems.proofs.Insert.Role.{letter, spell, letter-next, letter-link, spell-append, keeps, keepsWall}
 use Rattle.theorems.proofs.Insert.Role.{letter-keeps, spell-keeps, roleTo, roleWord, role-link}
 
@@ -44,7 +41,7 @@ goesPast n a b = (eqb a n && (eqb b 4 || ltb (suc b) n)) || (eqb n 3 && (eqb a 0
 square : ℕ → List ℕ → Bool
 square n w = same w (getD w 0 0 ∷ getD w 1 0 ∷ getD w 0 0 ∷ getD w 1 0 ∷ []) && goesPast n (getD w 0 0) (getD w 1 0)
 
-leadsBack : ℕ → List ℕ → Bool
+pub leadsBack : ℕ → List ℕ → Bool
 leadsBack n w = same w [] || (twice n w || square n w)
 
 module _ {n : ℕ} {t hs : List ℕ} {nx : ℕ → ℕ} (B : BlockTable n t) (W : Wall n t hs nx) where
@@ -139,53 +136,19 @@ module _ {n : ℕ} {t hs : List ℕ} {nx : ℕ → ℕ} (B : BlockTable n t) (W 
           ∙ ap (λ (z : ℕ). go b (go a z)) (swap g i)
           ∙ ap (go b) (letter-back a (go b g) ka (letter-keeps (B .dim) W b g kb i)) ∙ letter-back b g kb i
 
--- ---- walks from role to role
+-- ---- the rows
 
--- where a word leads from a role: the role, and the word over the wall
-unfoldable pub roleEnd : ℕ → List ℕ → ℕ → ℕ
-roleEnd n [] r = r
-roleEnd n (j ∷ v) r = roleEnd n v (roleTo n r j)
+abbrev pub layerRows : ℕ → RoleRows
+layerRows n = record { changed = n; to = roleTo n; word = roleWord n; keeps = keepsWall n; back = leadsBack n }
 
-unfoldable pub rolePath : ℕ → List ℕ → ℕ → List ℕ
-rolePath n [] r = []
-rolePath n (j ∷ v) r = roleWord n r j ++ rolePath n v (roleTo n r j)
-
--- link j of the role r leads to a role of a dart of the wall
-unfoldable pub leads : ℕ → ℕ → ℕ → Bool
-leads n r j = ltb j 4 && (leb (roleTo n r j) n && keepsWall n (roleWord n r j))
-
--- and so does each step of a word
-unfoldable pub allLead : ℕ → List ℕ → ℕ → Bool
-allLead n [] r = true
-allLead n (j ∷ v) r = leads n r j && allLead n v (roleTo n r j)
-
-returns : ℕ → ℕ → List ℕ → Bool
-returns n r v = allLead n v r && (eqb (roleEnd n v r) r && leadsBack n (rolePath n v r))
-
--- the links of the darts of the wall but link n stay
-stays : ℕ → ℕ → ℕ → Bool
-stays n r j = eqb r 0 && not (eqb j n)
-
--- the words of a map's rules return, from each role
-roleTwice : ℕ → ℕ → ℕ → Bool
-roleTwice n r j = stays n r j || returns n r (j ∷ j ∷ [])
-
-roleCross : ℕ → ℕ → ℕ → ℕ → Bool
-roleCross n r i j = stays n r j || (ltb j (i + 2) || returns n r (i ∷ j ∷ i ∷ j ∷ []))
-
--- to unfold `computed` is to unfold what the tests compute with
+-- to unfold `computed` is to unfold what tests of the rows compute with
 unfoldable pub computed : Unit {0}
-unfolding everything stays returns leadsBack twice square goesPast leads allLead rolePath roleEnd roleTo roleWord keeps keepsWall
+unfolding everything rules leadsBack twice square goesPast roleTo roleWord keeps keepsWall
 computed = tt
 
-twice-true : (n : ℕ) → Dim n → allBelow (suc n) (λ r. allBelow 4 (roleTwice n r)) ≡ true
-unfolding computed roleTwice
-twice-true n dim = two-cases n dim (λ n. allBelow (suc n) (λ r. allBelow 4 (roleTwice n r)) ≡ true) refl refl
-
-cross-true : (n : ℕ) → Dim n → allBelow (suc n) (λ r. allBelow 2 (λ i. allBelow (suc n) (roleCross n r i))) ≡ true
-unfolding computed roleCross
-cross-true n dim =
-    two-cases n dim (λ n. allBelow (suc n) (λ r. allBelow 2 (λ i. allBelow (suc n) (roleCross n r i))) ≡ true) refl refl
+rules-true : (n : ℕ) → Dim n → rulesHold n (layerRows n) ≡ true
+unfolding computed
+rules-true n dim = two-cases n dim (λ n. rulesHold n (layerRows n) ≡ true) refl refl
 
 -- for n = 2 link 3 is the dart itself
 planeRow : ℕ → Bool
@@ -195,102 +158,12 @@ plane-true : (planeRow 1 ≡ true) × (planeRow 2 ≡ true)
 unfolding computed planeRow
 plane-true = (refl, refl)
 
-module _ (n r j : ℕ) (made : r ≡ 0 → j ≡ n) (b : Bool) where
-  not-stays : (stays n r j || b) ≡ true → b ≡ true
-  unfolding stays
-  not-stays h = if-eq r 0 (λ e. rw (eq-eqb r 0 e, eq-eqb j n (made e)) at h) (λ e. rw (ne-eqb r 0 e) at h)
-
 module _ {n : ℕ} {t hs fs : List ℕ} {nx : ℕ → ℕ} (C : Laying n t hs fs nx) where
   abbrev after : List ℕ
   after = laid n t hs fs nx
 
   abbrev role : ℕ → ℕ → ℕ
   role = roleDart n hs fs
-
-  abbrev dim : Dim n
-  dim = C .table .dim
-
-  pub lead-low : (r j : ℕ) → leads n r j ≡ true → (j < 4) × (roleTo n r j ≤ n) × (keepsWall n (roleWord n r j) ≡ true)
-  unfolding leads
-  lead-low r j h =
-      let to = leb (roleTo n r j) n in
-      let word = keepsWall n (roleWord n r j) in
-      let q : (to && word) ≡ true = and-r (ltb j 4) (to && word) h in
-      (ltb-true j 4 (and-l (ltb j 4) (to && word) h), leb-true _ _ (and-l to word q), and-r to word q)
-
-  pub role-walk : (v : List ℕ) (r g : ℕ) → allLead n v r ≡ true → r ≤ n → In g hs
-      → walk after v (role r g) ≡ role (roleEnd n v r) (spell t nx (rolePath n v r) g)
-  unfolding allLead roleEnd rolePath walk spell
-  role-walk [] r g h b i = refl
-  role-walk (j ∷ v) r g h b i =
-      let low = lead-low r j (and-l (leads n r j) _ h) in
-      let y = spell t nx (roleWord n r j) g in
-      let m = spell-keeps dim (C .wall) (roleWord n r j) g (low .2) i in
-      ap (walk after v) (role-link C r g j b i (low .0)) ∙ role-walk v (roleTo n r j) y (and-r (leads n r j) _ h) (low .1) m
-      ∙ ap (role (roleEnd n v (roleTo n r j))) (sym (spell-append t nx (roleWord n r j) (rolePath n v (roleTo n r j)) g))
-
-  return-walk : (v : List ℕ) (r g : ℕ) → returns n r v ≡ true → r ≤ n → In g hs → walk after v (role r g) ≡ role r g
-  unfolding returns
-  return-walk v r g h b i =
-      let ends = eqb (roleEnd n v r) r in
-      let back = leadsBack n (rolePath n v r) in
-      let q : (ends && back) ≡ true = and-r (allLead n v r) (ends && back) h in
-      let round = back-spell (C .table) (C .wall) (rolePath n v r) g (and-r ends back q) i in
-      role-walk v r g (and-l (allLead n v r) (ends && back) h) b i ∙ ap₂ role (eqb-true _ _ (and-l ends back q)) round
-
-  -- the links that insert makes: those of the new darts, and link n of the darts of the wall
-  made-twice : (r j : ℕ) → r ≤ n → j < 4 → (r ≡ 0 → j ≡ n) → returns n r (j ∷ j ∷ []) ≡ true
-  unfolding roleTwice
-  made-twice r j b h made = not-stays n r j made _
-      (below-at (roleTwice n r) 4 (below-at (λ r. allBelow 4 (roleTwice n r)) (suc n) (twice-true n dim) r (omega arith)) j h)
-
-  role-twice : (r g j : ℕ) → r ≤ n → In g hs → j < 4 → (r ≡ 0 → j ≡ n) → link after j (link after j (role r g)) ≡ role r g
-  unfolding walk
-  role-twice r g j b i h made = return-walk (j ∷ j ∷ []) r g (made-twice r j b h made) b i
-
-  role-cross : (r g i j : ℕ) → r ≤ n → In g hs → i + 2 ≤ j → j ≤ n → (r ≡ 0 → j ≡ n)
-      → link after j (link after i (link after j (link after i (role r g)))) ≡ role r g
-  unfolding walk roleCross
-  role-cross r g i j b m ij jn made =
-      return-walk (i ∷ j ∷ i ∷ j ∷ []) r g (rw (le-ltb j (i + 2) ij) at (not-stays n r j made _ tested)) b m
-    where
-      firsts : ℕ → Bool
-      firsts i = allBelow (suc n) (roleCross n r i)
-
-      tested : roleCross n r i j ≡ true
-      tested =
-          let top = dim .1 in
-          let roles : ℕ → Bool = λ r. allBelow 2 (λ i. allBelow (suc n) (roleCross n r i)) in
-          let at-role = below-at roles (suc n) (cross-true n dim) r (omega arith) in
-          below-at (roleCross n r i) (suc n) (below-at firsts 2 at-role i (omega arith)) j (omega arith)
-
-  -- ---- the live slots after
-
-  role-goes : (r g j : ℕ) → r ≤ n → In g hs → j < 4 → (r ≡ 0 → j ≡ n) → Live n t hs fs (link after j (role r g))
-  unfolding returns allLead
-  role-goes r g j b i h made =
-      let low = lead-low r j (and-l (leads n r j) _ (and-l (allLead n (j ∷ j ∷ []) r) _ (made-twice r j b h made))) in
-      let m = spell-keeps dim (C .wall) (roleWord n r j) g (low .2) i in
-      rw (role-link C r g j b i h) (live-role (C .wall .lives) (roleTo n r j) _ (low .1) m)
-
-  -- link j of an old dart x: link n of a dart of the wall, or it stays
-  Stays : ℕ → ℕ → Type 0
-  Stays x j = j ≡ n → In x hs → ⊥
-
-  made-or : {P : Type 0} (x j : ℕ) → (j ≡ n → In x hs → P) → (Stays x j → P) → P
-  unfolding Stays
-  made-or x j f k = ⊎-elim (λ i. if-eq j n (λ e. f e i) (λ e. k (λ z. absurd (e z)))) (λ i. k (λ _. i)) (in-or hs x)
-
-  -- and then it stays from there on
-  stays-over : (x j : ℕ) → live t x ≡ true → Stays x j → Stays (link t j x) j
-  unfolding Stays
-  stays-over x j l k e i = let top = dim .1 in
-      k e (in-cast (sym (rule (C .table) (C .wall) x l .comes n (omega arith))) (C .wall .over (link t n x) (rw e at i)))
-
-  stays-along : (x i : ℕ) → i + 2 ≤ n → live t x ≡ true → Stays x n → Stays (link t i x) n
-  unfolding Stays
-  stays-along x j far l k e i = let top = dim .1 in
-      k refl (in-cast (sym (rule (C .table) (C .wall) x l .comes j (omega arith))) (C .wall .along (link t j x) j far i))
 
   role-plane : (r g : ℕ) → n ≡ 2 → r < n → In g hs → link after 3 (role (suc r) g) ≡ role (suc r) g
   unfolding planeRow spell
@@ -304,79 +177,32 @@ module _ {n : ℕ} {t hs fs : List ℕ} {nx : ℕ → ℕ} (C : Laying n t hs fs
       at-word : roleWord n (suc r) 3 ≡ [] → spell t nx (roleWord n (suc r) 3) g ≡ g
       at-word e = ap (λ (w : List ℕ). spell t nx w g) e
 
-  pub laid-ruled : Ruled n after (Live n t hs fs)
-  unfolding roleDart Stays
-  laid-ruled = record {
-    few = let same = laid-slots C in let few = C .table .few in omega arith;
-    inside = inside;
-    other = other;
-    goes = goes;
-    comes = comes;
-    cross = cross;
-    plane = plane;
+  pub layer-roles : Roles n (layerRows n) t (laid n t hs fs nx) hs fs (spell t nx)
+  unfolding spell
+  layer-roles = record {
+    table = mapTable (C .table);
+    spread = spread C;
+    top = le-refl n;
+    lives = C .wall .lives;
+    over = C .wall .over;
+    far = λ x j top two m. C .wall .along x j (⊎-elim (λ b. b) (λ b. absurd (omega arith)) two) m;
+    none = λ g. refl;
+    both = spell-append t nx;
+    within = λ w g h i. spell-keeps (C .table .dim) (C .wall) w g h i;
+    home = λ w g h i. back-spell (C .table) (C .wall) w g h i;
+    rules = rules-true n (C .table .dim);
+    same = laid-slots C;
+    whole = laid-whole C;
+    rows = role-link C;
+    rest = λ x j low b k off. insert-frame t (C .table .whole) x low n hs fs nx k j b off;
+    plane = role-plane;
   }
-    where
-      before : (x : ℕ) → live t x ≡ true → Rule n t x
-      before = rule (C .table) (C .wall)
-
-      kept : (x j : ℕ) → live t x ≡ true → j < 4 → Stays x j → link after j x ≡ link t j x
-      kept = laid-kept C
-
-      inside : (x : ℕ) → Live n t hs fs x → x < slots after
-      inside x (old l) = rw (laid-slots C) (live-below (mapTable (C .table)) x l)
-      inside x (new w) = rw (laid-slots C, w .is) (C .vacant .inside _ (new-in (spread C) (w .role) (w .of) (w .low) (w .member)))
-
-      other : (x : ℕ) → x < slots after → Live n t hs fs x ⊎ (live after x ≡ false)
-      other x h =
-          let low : x < slots t = rw (laid-slots C) at h in
-          ⊎-elim (λ i. inl (new (slot-new (spread C) x i)))
-          (λ k. test (live t x) (λ l. inl (old l))
-          (λ l.
-          let off : In x hs → ⊥ = λ i. clash (C .wall .lives x i) l in
-          inr (live-same t after x (λ j b. insert-frame t (C .table .whole) x low n hs fs nx k j b (λ _. off)) ∙ l))) (in-or fs x)
-
-      goes : (x j : ℕ) → j < 4 → Live n t hs fs x → Live n t hs fs (link after j x)
-      goes x j b (old l) = made-or x j (λ e i. role-goes 0 x j (omega arith) i b (λ _. e))
-          (λ k. old (rw (kept x j l b k) (before x l .goes j b)))
-      goes x j b (new w) = rw (w .is) (role-goes (suc (w .role)) (w .of) j (w .low) (w .member) b (λ z. absurd (omega arith)))
-
-      comes : (x j : ℕ) → j < 4 → Live n t hs fs x → link after j (link after j x) ≡ x
-      comes x j b (old l) = made-or x j (λ e i. role-twice 0 x j (omega arith) i b (λ _. e))
-          (λ k.
-          let y = link t j x in
-          ap (link after j) (kept x j l b k) ∙ kept y j (before x l .goes j b) b (stays-over x j l k) ∙ before x l .comes j b)
-      comes x j b (new w) = rw (w .is) (role-twice (suc (w .role)) (w .of) j (w .low) (w .member) b (λ z. absurd (omega arith)))
-
-      cross : (x i j : ℕ) → i + 2 ≤ j → j ≤ n → Live n t hs fs x → link after j (link after i (link after j (link after i x))) ≡ x
-      cross x i j ij jn (old l) = made-or x j (λ e m. role-cross 0 x i j (omega arith) m ij jn (λ _. e))
-          (λ k.
-          let top = dim .1 in
-          let low : (y : ℕ) → Stays y i = λ y z. absurd (omega arith) in
-          let y = link t i x in
-          let z = link t j y in
-          let ly = before x l .goes i (omega arith) in
-          let lz = before y ly .goes j (omega arith) in
-          let lw = before z lz .goes i (omega arith) in
-          let on-y : Stays y j = λ e. stays-along x i (omega arith) l (λ _. k e) refl in
-          let on-z : Stays z j = stays-over y j ly on-y in
-          let on-w : Stays (link t i z) j = λ e. stays-along z i (omega arith) lz (λ _. on-z e) refl in
-          let first = kept x i l (omega arith) (low x) in
-          let second = kept y j ly (omega arith) on-y in
-          let third = kept z i lz (omega arith) (low z) in
-          let last = kept (link t i z) j lw (omega arith) on-w in
-          rw (first, second, third, last) (before x l .cross i j ij jn))
-      cross x i j ij jn (new w) =
-          rw (w .is) (role-cross (suc (w .role)) (w .of) i j (w .low) (w .member) ij jn (λ z. absurd (omega arith)))
-
-      plane : (x : ℕ) → n ≡ 2 → Live n t hs fs x → link after 3 x ≡ x
-      plane x p (old l) = kept x 3 l (omega arith) (λ z. absurd (omega arith)) ∙ before x l .plane p
-      plane x p (new w) = rw (w .is) (role-plane (w .role) (w .of) p (w .low) (w .member))
 
   pub laid-table : MapTable n (laid n t hs fs nx)
-  laid-table = ruled-table dim (laid-whole C) laid-ruled
+  laid-table = roles-table layer-roles
 
   pub laid-live : (x : ℕ) → Live n t hs fs x → live (laid n t hs fs nx) x ≡ true
-  laid-live = live-of n after (Live n t hs fs) laid-ruled
+  laid-live = roles-live layer-roles
 
   pub live-laid : (x : ℕ) → live (laid n t hs fs nx) x ≡ true → Live n t hs fs x
-  live-laid x l = of-live n after (Live n t hs fs) laid-ruled x (live-below laid-table x l) l
+  live-laid = live-roles layer-roles

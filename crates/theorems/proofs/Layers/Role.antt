@@ -1,6 +1,6 @@
 -- The darts of a sheet and their new darts, by roles: 0 is the dart itself, 1, 2 and 3 are its a, b and c. A link leads
 -- from a role to a role, of the dart that a word of the links before leads to: `role-link`.
-use Prim.Native.Nat.{ℕ, zero, suc, _-_, _≤_, _<_}
+use Prim.Native.Nat.{ℕ, zero, suc, _≤_, _<_}
 use mathlib.Core.Path.{_≡_, refl, sym, ap, _∙_}
 use mathlib.Core.Logic.{_≢_, ⊎-elim}
 use mathlib.Core.Bool.{Bool, true, false, not, _&&_, _||_}
@@ -9,17 +9,16 @@ use native.Mathlib.Omega.{arith}
 use lib.ListN.{getD}
 use lib.Dec.{eqb, ltb}
 use borrow.Author.Tests.{eqb-false, eq-eqb, ne-eqb, ltb-true, not-true}
-use Rattle.model.specs.Table.{link, walk, live}
+use Rattle.model.specs.Table.{link, walk}
 use Rattle.model.specs.NewDarts.{newDart}
 use Rattle.model.specs.Split.{newDartLink, splitBy}
-use Rattle.model.specs.Meaning.Maps.{BlockTable, Dim, Rule}
+use Rattle.model.specs.Meaning.Maps.{BlockTable, Rule}
 use Rattle.model.specs.Meaning.Sheets.{Sheet}
 use Rattle.model.specs.Meaning.Splits.{Splitting}
 use Rattle.theorems.proofs.Lists.Scan.{and-l, and-r, or-cases, if-eq, below-three, below-four}
-use Rattle.theorems.proofs.Maps.Dim.{two-cases}
 use Rattle.theorems.proofs.Maps.Tables.{mapTable, rule-at}
 use Rattle.theorems.proofs.Cells.Places.{same, same-eq}
-use Rattle.theorems.proofs.Layers.NewDarts.{Live, old, new}
+use Rattle.theorems.proofs.Layers.Roles.{roleDart}
 use Rattle.theorems.proofs.Layers.Splitting.{split-dart-link, new-link, split-kept}
 
 -- the opposite edge
@@ -47,23 +46,6 @@ roleWord n r j =
     ∷ (opposed ∷ [] ∷ elim (eqb n 3) [ true ↦ [] | false ↦ 0 ∷ [] ] ∷ (3 ∷ []) ∷ [])
     ∷ (opposed ∷ (2 ∷ []) ∷ [] ∷ (0 ∷ []) ∷ [])
     ∷ []) r []) j []
-
--- the dart of the role r of g
-unfoldable pub roleDart : ℕ → List ℕ → List ℕ → ℕ → ℕ → ℕ
-roleDart n gs fs zero g = g
-roleDart n gs fs (suc r) g = newDart n gs fs r g
-
--- the last role is that of the last new dart
-pub last-role : (n : ℕ) → Dim n → (gs fs : List ℕ) (g : ℕ) → roleDart n gs fs n g ≡ newDart n gs fs (n - 1) g
-unfolding roleDart
-last-role n dim gs fs g = two-cases n dim (λ n. roleDart n gs fs n g ≡ newDart n gs fs (n - 1) g) refl refl
-
--- the roles of live darts are live, when the new darts are there
-pub live-role : {n : ℕ} {t gs fs : List ℕ} → ((x : ℕ) → In x gs → live t x ≡ true) → (r g : ℕ) → r ≤ n → In g gs
-    → Live n t gs fs (roleDart n gs fs r g)
-unfolding roleDart
-live-role lives zero g b i = old (lives g i)
-live-role lives (suc r) g b i = new (record { role = r; of = g; low = b; member = i; is = refl })
 
 -- ---- words that keep to a sheet: of 1.0.1, and of links other than 1
 

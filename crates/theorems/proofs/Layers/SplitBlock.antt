@@ -27,13 +27,14 @@ use Rattle.theorems.proofs.Cells.Chart.{Charted, block-by, chart-kept}
 use Rattle.theorems.proofs.Cells.Chart.{place-chart, place-zero, place-live, place-back, place-one}
 use Rattle.theorems.proofs.Layers.NewDarts.{Live, old, new, new-in, new-one, not-new}
 use Rattle.theorems.proofs.Layers.Splitting.{spread, split-dart-link, split-kept}
-use Rattle.theorems.proofs.Layers.Role.{roleTo, roleWord, roleDart, live-role, sheet-rule, role-link}
+use Rattle.theorems.proofs.Layers.Roles.{roleDart, live-role}
+use Rattle.theorems.proofs.Layers.Role.{roleTo, roleWord, sheet-rule, role-link}
 use Rattle.theorems.proofs.Layers.SplitMap.{split-table, split-live, live-split}
 use Rattle.theorems.proofs.Layers.SplitSides.{split-straight}
 use Rattle.theorems.proofs.Layers.Half.{half-size, in-half, out-crosses}
-use Rattle.theorems.proofs.Layers.Spot.{Spot, spot, spotLink, spotAt, valid, across, Held}
-use Rattle.theorems.proofs.Layers.Spot.{spot-valid, spot-link, spot-apart, word-small}
-use Rattle.theorems.proofs.Layers.Spot.{role-held, place-held, across-not-held}
+use Rattle.theorems.proofs.Layers.Spots.{spots, Held, spot-valid, spots-chart}
+use Rattle.theorems.proofs.Layers.Spot.{Spot, spot, spotLink, spotAt, valid, across, halfSpots, half-fitting}
+use Rattle.theorems.proofs.Layers.Spot.{word-small, role-held, place-held, across-not-held}
 
 valid-role : (n r p : ℕ) → valid n (spot (suc r) p) ≡ true → (r < n) × (p < half n)
 unfolding valid
@@ -136,19 +137,15 @@ module _ {n : ℕ} {t gs fs : List ℕ} (C : Splitting n t gs fs) where
 
     pub half-chart : Chart n after (halfDart n t gs fs g)
     unfolding halfDart
-    half-chart = record {
-      follow = λ j k hj hk. spot-follows (spotAt n k) j (spot-valid n dim k hk) hj ∙ ap at (spot-link n dim j k hj hk);
-      apart = λ a b ab hb e. spot-apart n dim a b ab hb
-          (spot-one (spotAt n a) (spotAt n b) (spot-valid n dim a (omega arith)) (spot-valid n dim b hb) e);
-    }
+    half-chart = spots-chart (half-fitting n dim) after at spot-follows spot-one
 
     pub half-own : g ≡ halfDart n t gs fs g 0
-    unfolding halfDart spotDart roleDart spotAt path place walk
+    unfolding halfDart spotDart roleDart spots place walk
     half-own = two-cases n dim (λ n. g ≡ halfDart n t gs fs g 0) refl refl
 
     pub half-live : live after (halfDart n t gs fs g 0) ≡ true
     unfolding halfDart
-    half-live = split-live C _ (spot-lives (spotAt n 0) (spot-valid n dim 0 (size-some n dim)))
+    half-live = split-live C _ (spot-lives (spotAt n 0) (spot-valid (half-fitting n dim) 0 (size-some n dim)))
 
     -- the dart across link 0 is not in the half
     pub across-out : InHalf n t gs fs g (link t 0 g) → ⊥
@@ -157,7 +154,7 @@ module _ {n : ℕ} {t gs fs : List ℕ} (C : Splitting n t gs fs) where
         let size = size-some n dim in
         let valid-across = lt-ltb _ _ (rows-in n 0 0 dim some-link size) in
         let here = ap (link t 0) (place-zero B g lives) ∙ place-chart B g lives .follow 0 0 some-link size in
-        let same = spot-one (spotAt n k) (spot 0 (cellLink n 0 0)) (spot-valid n dim k h) valid-across (sym e ∙ here) in
+        let same = spot-one (spotAt n k) (spot 0 (cellLink n 0 0)) (spot-valid (half-fitting n dim) k h) valid-across (sym e ∙ here) in
         across-not-held n dim (k, h, same)
 
     -- what the half has of the table before are places of g
@@ -171,10 +168,10 @@ module _ {n : ℕ} {t gs fs : List ℕ} (C : Splitting n t gs fs) where
     pub half-old : (x : ℕ) → InHalf n t gs fs g x → live t x ≡ true → (p : ℕ) × (p < cellSize n) × (x ≡ place n t g p)
     unfolding halfDart
     half-old x (k, h, e) l =
-        let (p, hp, q) = old-seen (spotAt n k) (spot-valid n dim k h) (ap (live t) (sym e) ∙ l) in
+        let (p, hp, q) = old-seen (spotAt n k) (spot-valid (half-fitting n dim) k h) (ap (live t) (sym e) ∙ l) in
         (p, hp, e ∙ q)
 
-    held-in : (e : Spot) (x : ℕ) → Held n e → x ≡ at e → InHalf n t gs fs g x
+    held-in : (e : Spot) (x : ℕ) → Held n (halfSpots n) e → x ≡ at e → InHalf n t gs fs g x
     unfolding halfDart
     held-in e x h q = (h .0, h .1, q ∙ ap at (sym (h .2)))
 

@@ -34,7 +34,8 @@ use Rattle.theorems.proofs.Cells.Rows.{rowWalk, small, walk-keeps, walk
 use Rattle.theorems.proofs.Cells.Chart.{block-straight, place-chart, place-zero, place-one}
 use Rattle.theorems.proofs.Layers.NewDarts.{Live, old, new, new-in, new-one, not-new}
 use Rattle.theorems.proofs.Layers.Splitting.{spread, split-kept}
-use Rattle.theorems.proofs.Layers.Role.{roleTo, roleWord, roleDart, last-role, opposed, keepsSheet, sheet-walk, role-link}
+use Rattle.theorems.proofs.Layers.Roles.{roleDart, last-role}
+use Rattle.theorems.proofs.Layers.Role.{roleTo, roleWord, opposed, keepsSheet, sheet-walk, role-link}
 use Rattle.theorems.proofs.Layers.SplitMap.{live-split}
 use Rattle.theorems.proofs.Layers.Half.{half-size, in-half}
 
