@@ -16,7 +16,7 @@ use Rattle.theorems.proofs.Maps.Tables.{mapTable, live-below}
 use Rattle.theorems.proofs.Layers.Sheet.{sheet-live, sheet-of}
 use Rattle.theorems.proofs.Layers.Splitting.{splits-splitting}
 use Rattle.theorems.proofs.Layers.Roles.{roleDart}
-use Rattle.theorems.proofs.Layers.Role.{roleTo, roleWord, keepsSheet, sheet-walk, role-link}
+use Rattle.theorems.proofs.Layers.SplitRole.{roleTo, roleWord, keepsSheet, sheet-walk, role-link}
 use Rattle.theorems.proofs.Layers.Split.{split-links}
 use Rattle.new_darts.specs.Roles.{SplitRole, SomeSplitRole}
 use Rattle.new_darts.proofs.News.{new-asked, new-found}

@@ -10,11 +10,11 @@ pub mod RemoveCounts
 pub mod NewDarts
 pub mod Roles
 pub mod Splitting
-pub mod Role
+pub mod SplitRole
 pub mod SplitMap
 pub mod Half
 pub mod Spots
-pub mod Spot
+pub mod SplitSpot
 pub mod SplitSides
 pub mod SplitBlock
 pub mod SplitCells

@@ -15,7 +15,7 @@ use Rattle.model.specs.NewDarts.{newDart}
 use Rattle.model.specs.Insert.{layerLink, laid}
 use Rattle.model.specs.Meaning.Maps.{Dim}
 use Rattle.model.specs.Meaning.Walls.{Wall}
-use Rattle.theorems.proofs.Lists.Scan.{and-l, and-r, or-cases, if-eq, below-three, below-four}
+use Rattle.theorems.proofs.Lists.Scan.{and-l, and-r, or-cases, if-eq, below-two, below-three, below-four}
 use Rattle.theorems.proofs.Maps.Dim.{two-cases}
 use Rattle.theorems.proofs.Layers.Roles.{roleDart}
 use Rattle.theorems.proofs.Insert.Laid.{Laying, laid-wall, new-link, laid-kept}
@@ -95,11 +95,6 @@ roleWord n r j =
       | false ↦
           ((0 ∷ []) ∷ (1 ∷ []) ∷ [] ∷ (3 ∷ []) ∷ []) ∷ ((0 ∷ []) ∷ [] ∷ [] ∷ [] ∷ []) ∷ ((2 ∷ []) ∷ [] ∷ (4 ∷ []) ∷ [] ∷ []) ∷ []
     ]) r []) j []
-
-below-two : (P : ℕ → Type 0) → P 0 → P 1 → (j : ℕ) → j < 2 → P j
-below-two P p q zero h = p
-below-two P p q (suc zero) h = q
-below-two P p q (suc (suc j)) h = absurd (omega arith)
 
 module _ (t hs fs : List ℕ) (nx : ℕ → ℕ) (h : ℕ) where
   abbrev Leads : ℕ → ℕ → ℕ → Type 0

@@ -32,7 +32,7 @@ use Rattle.theorems.proofs.Cells.Cell.{cell-own, cell-goes}
 use Rattle.theorems.proofs.Layers.Marks.{marks-cells}
 use Rattle.theorems.proofs.Layers.NewDarts.{new-in, slot-new}
 use Rattle.theorems.proofs.Layers.Roles.{roleDart, last-role, live-role, roleEnd, rolePath, leads, allLead, lead-low, role-walk}
-use Rattle.theorems.proofs.Layers.Role.{opposed}
+use Rattle.theorems.proofs.Layers.SplitRole.{opposed}
 use Rattle.theorems.proofs.Insert.Laid.{Laying, spread}
 use Rattle.theorems.proofs.Insert.Role.{spell, letter-next, letter-link, keepsWall, spell-keeps}
 use Rattle.theorems.proofs.Insert.Role.{roleTo, roleWord, role-link}

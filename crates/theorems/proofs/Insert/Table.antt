@@ -1,5 +1,6 @@
--- insert keeps a map (`laid-table`): the words of a map's rules lead from role to role (`role-walk`), and back to where they began; computed
--- over the roles. The live slots after are the live ones before and the new darts (`Live`, `laid-ruled`).
+-- insert keeps a map (`laid-table`), by the laws of roles (`layer-roles`): words over the wall that lead back to where they began
+-- (`back-spell`), and the words of a map's rules, computed over the roles (`rules-true`). The live slots after are the live ones before and the
+-- new darts (`laid-live`, `live-laid`).
 use Prim.Native.Nat.{ℕ, suc, _<_}
 use mathlib.Core.Path.{_≡_, refl, ap, ap₂, _∙_}
 use mathlib.Core.Logic.{inl, ⊎-elim}
@@ -15,7 +16,7 @@ use Rattle.model.specs.Insert.{laid}
 use Rattle.model.specs.Everything.{everything}
 use Rattle.model.specs.Meaning.Maps.{BlockTable, MapTable, Dim, Rule}
 use Rattle.model.specs.Meaning.Walls.{Wall}
-use Rattle.theorems.proofs.Lists.Scan.{if-eq, and-l, and-r, or-cases}
+use Rattle.theorems.proofs.Lists.Scan.{if-eq, below-two, and-l, and-r, or-cases}
 use Rattle.theorems.proofs.Maps.Dim.{two-cases}
 use Rattle.theorems.proofs.Maps.Tables.{mapTable, rule-at}
 use Rattle.theorems.proofs.Sewing.Side.{past}
@@ -150,14 +151,6 @@ rules-true : (n : ℕ) → Dim n → rulesHold n (layerRows n) ≡ true
 unfolding computed
 rules-true n dim = two-cases n dim (λ n. rulesHold n (layerRows n) ≡ true) refl refl
 
--- for n = 2 link 3 is the dart itself
-planeRow : ℕ → Bool
-planeRow r = same (roleWord 2 r 3) [] && eqb (roleTo 2 r 3) r
-
-plane-true : (planeRow 1 ≡ true) × (planeRow 2 ≡ true)
-unfolding computed planeRow
-plane-true = (refl, refl)
-
 module _ {n : ℕ} {t hs fs : List ℕ} {nx : ℕ → ℕ} (C : Laying n t hs fs nx) where
   abbrev after : List ℕ
   after = laid n t hs fs nx
@@ -165,17 +158,12 @@ module _ {n : ℕ} {t hs fs : List ℕ} {nx : ℕ → ℕ} (C : Laying n t hs fs
   abbrev role : ℕ → ℕ → ℕ
   role = roleDart n hs fs
 
-  role-plane : (r g : ℕ) → n ≡ 2 → r < n → In g hs → link after 3 (role (suc r) g) ≡ role (suc r) g
-  unfolding planeRow spell
-  role-plane r g two b i =
-      let row : planeRow (suc r) ≡ true = if-eq r 0 (λ e. rw e (plane-true .0)) (λ e. let one : r ≡ 1 = omega arith in rw one (plane-true .1)) in
-      let word = same-eq (roleWord 2 (suc r) 3) [] (and-l (same (roleWord 2 (suc r) 3) []) _ row) in
-      let to = eqb-true _ _ (and-r (same (roleWord 2 (suc r) 3) []) _ row) in
-      role-link C (suc r) g 3 b i (omega arith)
-      ∙ ap₂ role (ap (λ (k : ℕ). roleTo k (suc r) 3) two ∙ to) (at-word (ap (λ (k : ℕ). roleWord k (suc r) 3) two ∙ word))
-    where
-      at-word : roleWord n (suc r) 3 ≡ [] → spell t nx (roleWord n (suc r) 3) g ≡ g
-      at-word e = ap (λ (w : List ℕ). spell t nx w g) e
+  -- for n = 2 link 3 is the dart itself
+  role-plane : (r h : ℕ) → n ≡ 2 → r < n → In h hs → link after 3 (role (suc r) h) ≡ role (suc r) h
+  unfolding roleTo roleWord spell
+  role-plane r h two b i = role-link C (suc r) h 3 b i (omega arith)
+      ∙ rw two (below-two (λ r. roleDart 2 hs fs (roleTo 2 (suc r) 3) (spell t nx (roleWord 2 (suc r) 3) h) ≡ roleDart 2 hs fs (suc r) h)
+      refl refl r (omega arith))
 
   pub layer-roles : Roles n (layerRows n) t (laid n t hs fs nx) hs fs (spell t nx)
   unfolding spell

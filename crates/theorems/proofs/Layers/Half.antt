@@ -20,7 +20,7 @@ use Rattle.theorems.proofs.Lists.Scan.{clash, and-l, and-r, below-at, o
 use Rattle.theorems.proofs.Maps.Dim.{two-cases}
 use Rattle.theorems.proofs.Cells.Rows.{rows-in}
 use Rattle.theorems.proofs.Cells.Chart.{place-chart}
-use Rattle.theorems.proofs.Layers.Role.{keepsSheet, sheet-walk}
+use Rattle.theorems.proofs.Layers.SplitRole.{keepsSheet, sheet-walk}
 
 -- ---- the places below `half n`, computed
 

@@ -35,7 +35,7 @@ use Rattle.theorems.proofs.Layers.Sheet.{sheet-own, sheet-least, sheet-
 use Rattle.theorems.proofs.Layers.NewDarts.{old, new, new-slot, new-in, new-one, slot-new, live-which}
 use Rattle.theorems.proofs.Layers.Splitting.{splits-splitting, spread, split-slots, split-whole}
 use Rattle.theorems.proofs.Layers.Roles.{roleDart}
-use Rattle.theorems.proofs.Layers.Role.{roleTo, roleWord, role-link, role-plane}
+use Rattle.theorems.proofs.Layers.SplitRole.{roleTo, roleWord, role-link, role-plane}
 use Rattle.theorems.proofs.Layers.SplitMap.{split-live, live-split}
 use Rattle.theorems.proofs.Layers.SplitBlock.{split-block}
 use Rattle.theorems.proofs.Layers.SplitCells.{two-cells, new-marked, cell-stays, all-cells}

@@ -28,13 +28,13 @@ use Rattle.theorems.proofs.Cells.Chart.{place-chart, place-zero, place-
 use Rattle.theorems.proofs.Layers.NewDarts.{Live, old, new, new-in, new-one, not-new}
 use Rattle.theorems.proofs.Layers.Splitting.{spread, split-dart-link, split-kept}
 use Rattle.theorems.proofs.Layers.Roles.{roleDart, live-role}
-use Rattle.theorems.proofs.Layers.Role.{roleTo, roleWord, sheet-rule, role-link}
+use Rattle.theorems.proofs.Layers.SplitRole.{roleTo, roleWord, sheet-rule, role-link}
 use Rattle.theorems.proofs.Layers.SplitMap.{split-table, split-live, live-split}
 use Rattle.theorems.proofs.Layers.SplitSides.{split-straight}
 use Rattle.theorems.proofs.Layers.Half.{half-size, in-half, out-crosses}
 use Rattle.theorems.proofs.Layers.Spots.{spots, Held, spot-valid, spots-chart}
-use Rattle.theorems.proofs.Layers.Spot.{Spot, spot, spotLink, spotAt, valid, across, halfSpots, half-fitting}
-use Rattle.theorems.proofs.Layers.Spot.{word-small, role-held, place-held, across-not-held}
+use Rattle.theorems.proofs.Layers.SplitSpot.{Spot, spot, spotLink, spotAt, valid, across, halfSpots, half-fitting}
+use Rattle.theorems.proofs.Layers.SplitSpot.{word-small, role-held, place-held, across-not-held}
 
 valid-role : (n r p : ℕ) → valid n (spot (suc r) p) ≡ true → (r < n) × (p < half n)
 unfolding valid

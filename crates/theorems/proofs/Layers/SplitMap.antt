@@ -1,5 +1,6 @@
--- Split keeps a map: the words of its rules lead from role to role (`role-walk`), and back to where they began; computed
--- over the roles. The live slots after are the live ones before and the new darts (`Live`, `split-ruled`).
+-- Split keeps a map (`split-table`), by the laws of roles (`roles`): words of links that lead back to where they began (`back-walk`), and
+-- the words of a map's rules, computed over the roles (`rules-true`). The live slots after are the live ones before and the new darts
+-- (`split-live`, `live-split`).
 use Prim.Native.Nat.{ℕ, suc}
 use mathlib.Core.Path.{_≡_, refl, ap, _∙_}
 use mathlib.Core.Logic.{inl, ⊎-elim}
@@ -27,7 +28,7 @@ use Rattle.theorems.proofs.Layers.Walk.{walk-append}
 use Rattle.theorems.proofs.Layers.NewDarts.{Live}
 use Rattle.theorems.proofs.Layers.Splitting.{spread, split-slots, split-whole}
 use Rattle.theorems.proofs.Layers.Roles.{RoleRows, Roles, rulesHold, rules, roles-table, roles-live, live-roles}
-use Rattle.theorems.proofs.Layers.Role.{roleTo, roleWord, opposed, keepsSheet, sheet-walk, role-link, role-plane}
+use Rattle.theorems.proofs.Layers.SplitRole.{roleTo, roleWord, opposed, keepsSheet, sheet-walk, role-link, role-plane}
 
 -- ---- words that lead back
 

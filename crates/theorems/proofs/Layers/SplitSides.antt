@@ -35,7 +35,7 @@ use Rattle.theorems.proofs.Cells.Chart.{block-straight, place-chart, pl
 use Rattle.theorems.proofs.Layers.NewDarts.{Live, old, new, new-in, new-one, not-new}
 use Rattle.theorems.proofs.Layers.Splitting.{spread, split-kept}
 use Rattle.theorems.proofs.Layers.Roles.{roleDart, last-role}
-use Rattle.theorems.proofs.Layers.Role.{roleTo, roleWord, opposed, keepsSheet, sheet-walk, role-link}
+use Rattle.theorems.proofs.Layers.SplitRole.{roleTo, roleWord, opposed, keepsSheet, sheet-walk, role-link}
 use Rattle.theorems.proofs.Layers.SplitMap.{live-split}
 use Rattle.theorems.proofs.Layers.Half.{half-size, in-half}
 

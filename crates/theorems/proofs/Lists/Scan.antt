@@ -62,11 +62,14 @@ if-eq {P} a b f g = go (ℕ-discrete a b)
 pub if-lt : {P : Type 0} (a b : ℕ) → (a < b → P) → (b ≤ a → P) → P
 if-lt a b f g = test (ltb a b) (λ e. f (ltb-true a b e)) (λ e. g (ltb-false a b e))
 
+pub below-two : (P : ℕ → Type 0) → P 0 → P 1 → (i : ℕ) → i < 2 → P i
+below-two P a b zero l = a
+below-two P a b (suc zero) l = b
+below-two P a b (suc (suc i)) l = absurd (omega arith)
+
 pub below-three : (P : ℕ → Type 0) → P 0 → P 1 → P 2 → (i : ℕ) → i < 3 → P i
 below-three P a b c zero l = a
-below-three P a b c (suc zero) l = b
-below-three P a b c (suc (suc zero)) l = c
-below-three P a b c (suc (suc (suc i))) l = absurd (omega arith)
+below-three P a b c (suc i) l = below-two (λ k. P (suc k)) b c i (omega arith)
 
 pub below-four : (P : ℕ → Type 0) → P 0 → P 1 → P 2 → P 3 → (i : ℕ) → i < 4 → P i
 below-four P a b c d zero l = a

@@ -19,7 +19,7 @@ use Rattle.model.specs.Meaning.Sheets.{half}
 use Rattle.theorems.proofs.Lists.Scan.{clash, and-l, and-r, and-i, below-at, below-both, or-cases}
 use Rattle.theorems.proofs.Maps.Dim.{two-cases}
 use Rattle.theorems.proofs.Cells.Rows.{rowWalk, small}
-use Rattle.theorems.proofs.Layers.Role.{roleTo, roleWord}
+use Rattle.theorems.proofs.Layers.SplitRole.{roleTo, roleWord}
 use Rattle.theorems.proofs.Layers.Spots.{Spots, standing, holds, Fitting, Held, held, spots}
 
 -- a role of a place
