@@ -2,7 +2,7 @@
 -- (`back-spell`), and the words of a map's rules, computed over the roles (`rules-true`). The live slots after are the live ones before and the
 -- new darts (`laid-live`, `live-laid`).
 use Prim.Native.Nat.{ℕ, suc, _<_}
-use mathlib.Core.Path.{_≡_, refl, ap, ap₂, _∙_}
+use mathlib.Core.Path.{_≡_, refl, ap, _∙_}
 use mathlib.Core.Logic.{inl, ⊎-elim}
 use mathlib.Core.Bool.{Bool, true, _&&_, _||_}
 use mathlib.Core.List.{List, [], _∷_, List·Memᴰ as In}
