@@ -6,8 +6,8 @@
  * Both are lent the same buffers: number, place, count and all of table, marks and journal must
  * come out alike, and what stands before and behind each buffer must stay. What an insert changed
  * must come back, by remove and by undo. Each number that the header lists for a call must come up,
- * so that no part of the comparison is empty, and no other may. numbers.h, which the script `run` makes, has the header's lines "Numbers:" as strings, with
- * a blank before and behind each number. */
+ * so that no part of the comparison is empty, and no other may. numbers.h, which the script `run`
+ * makes, has the header's lines "Numbers:" as strings, with a blank before and behind each number. */
 #include <inttypes.h>
 #include <stdio.h>
 #include <stdlib.h>

@@ -1,4 +1,4 @@
--- The darts of a sheet, listed with the places of their new darts: `Placed`.
+-- The darts that get new ones, of a sheet or a wall, listed with the places of these: `Placed`.
 use Prim.Native.Nat.{ℕ, _*_, _<_}
 use mathlib.Core.Path.{_≡_}
 use mathlib.Core.Bool.{Bool, true, false}
