@@ -88,7 +88,7 @@ module _ {n : ℕ} {t hs fs : List ℕ} {nx : ℕ → ℕ} (C : Laying n t hs fs
       (λ out. if-eq j n (λ e. rw e (back-n x b out))
       (λ e. R .stays x j l e (out-marked x out) ∙ kept x j b out l (λ q. absurd (e q)))) (in-or fs x)
 
-  pub remove-crossing : removeTable n (laid n t hs fs nx) (crossing C h) ≡ t
+  remove-crossing : removeTable n (laid n t hs fs nx) (crossing C h) ≡ t
   remove-crossing = table-same t (C .table .whole) left (R .long ∙ laid-length C) back-link
 
   -- "Removing the sheet through the new crossing edges must .. give back the old table entry for entry"

@@ -198,16 +198,16 @@ module _ {n : ℕ} {t hs fs : List ℕ} {nx : ℕ → ℕ} (C : Laying n t hs fs
         let two = face-one p o s z (a .2) (b .2) (one .1) in
         spot-same (suc r) (suc q) p o s z (ap suc (one .0)) (two .0) (two .1)
 
-    pub new-chart : Chart n after (cellDart n t hs fs h)
+    new-chart : Chart n after (cellDart n t hs fs h)
     unfolding cellDart
     new-chart = spots-chart (cell-fitting n dim) after at spot-follows spot-one
 
-    pub new-base : live after (cellDart n t hs fs h 0) ≡ true
+    new-base : live after (cellDart n t hs fs h 0) ≡ true
     unfolding cellDart
     new-base = spot-lives (spotAt n 0) (spot-valid (cell-fitting n dim) 0 (size-some n dim))
 
     -- the new darts of h are in its cell
-    pub new-in-cell : (r : ℕ) → r < n → InNewCell n t hs fs h (newDart n hs fs r h)
+    new-in-cell : (r : ℕ) → r < n → InNewCell n t hs fs h (newDart n hs fs r h)
     unfolding cellDart spotDart roleDart faceDart
     new-in-cell r b =
         let (k, low, e) = role-held n dim r b in

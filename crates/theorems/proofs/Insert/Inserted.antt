@@ -52,7 +52,7 @@ module _ (n : ℕ) (t m : List ℕ) where
   pub wall-rising : Rising (wallDarts n t m)
   wall-rising = ones-rising m 0
 
-  pub wall-number : length (wallDarts n t m) ≡ count 1 m
+  wall-number : length (wallDarts n t m) ≡ count 1 m
   wall-number = length-ones m 0
 
 -- ---- the links
@@ -163,7 +163,7 @@ module _ {n : ℕ} {t m : List ℕ} (I : Inserts n t m) where
   slot-has-layer = slot-new (spread given)
 
   -- a dart of the wall, the first of it
-  pub wall-first : Marked m (getD (wallDarts n t m) 0 0)
+  wall-first : Marked m (getD (wallDarts n t m) 0 0)
   wall-first = ones-of m _ (getD-in (wallDarts n t m) 0 0 (wall-some I))
 
   -- "place: first new slot"
@@ -221,7 +221,7 @@ module _ {n : ℕ} {t m : List ℕ} (I : Inserts n t m) where
       )
 
   -- its cells are the new darts; so are its marks 1 and 2
-  pub insert-marks : (h : ℕ) → Marked m h → (x : ℕ)
+  insert-marks : (h : ℕ) → Marked m h → (x : ℕ)
       → (marked (marksOf n (insertTable n t m) (layerDart n t m (n - 1) h)) x ≡ true) ↔ In x (layerSlots n t m)
   unfolding insertTable
   insert-marks h i x = subst (λ (d : ℕ). (marked (marksOf n (insertTable n t m) d) x ≡ true) ↔ In x (layerSlots n t m))
@@ -241,7 +241,7 @@ module _ {n : ℕ} {t m : List ℕ} (I : Inserts n t m) where
   -- ---- the entries changed
 
   -- link n of a wall dart led to a live dart, and leads to a new one
-  pub insert-moves : (h : ℕ) → Marked m h → link t n h ≢ link (insertTable n t m) n h
+  insert-moves : (h : ℕ) → Marked m h → link t n h ≢ link (insertTable n t m) n h
   insert-moves h k e =
       let lives = rule-at (mapTable B) h (drawn-of I .lives h k) .goes n top in
       let new = insert-lowest .vacant .dead _ (layer-in-slot 0 h some k) in

@@ -161,7 +161,7 @@ module _ {n : ℕ} {t m : List ℕ} (D : Drawn n t m) where
           on-parts n t m x on .0 (from-over x l (subst (Marked m) (sym back) i));
     }
 
-    pub end-live : live t (turnEnd n t m h) ≡ true
+    end-live : live t (turnEnd n t m h) ≡ true
     unfolding turnEnd
     end-live = from-leaves (slots t) (link t (n - 1) h) first .1
 
@@ -173,7 +173,7 @@ module _ {n : ℕ} {t m : List ℕ} (D : Drawn n t m) where
         let out = ap goesOn same ∙ escapes one-way in
         test (turnsOn n t m (turnEnd n t m h)) (λ e. absurd (clash (and-i e end-live) out)) (λ e. e)
 
-    pub end-turns : Turns n t m (turnEnd n t m h) (link t (n - 1) h)
+    end-turns : Turns n t m (turnEnd n t m h) (link t (n - 1) h)
     unfolding turnEnd
     end-turns = from-turns n t m (slots t) (link t (n - 1) h)
 
@@ -190,7 +190,7 @@ module _ {n : ℕ} {t m : List ℕ} (D : Drawn n t m) where
       turns-back (turn-goes x l) p (rw (turn-comes x l) again)
 
   -- from the wall dart that it meets, it leads back
-  pub end-back : (h : ℕ) → Marked m h → Marked m (turnEnd n t m h) → turnEnd n t m (turnEnd n t m h) ≡ h
+  end-back : (h : ℕ) → Marked m h → Marked m (turnEnd n t m h) → turnEnd n t m (turnEnd n t m h) ≡ h
   end-back h i met =
       let start : Turns n t m h (link t (n - 1) (link t (n - 1) h)) = arrived (rule h (lives h i) .comes (n - 1) last) in
       end-is (turnEnd n t m h) met h (wall-stops n t m h i) (turns-back (first h i) (end-turns h i) start)
@@ -225,7 +225,7 @@ module _ {n : ℕ} {t m : List ℕ} (D : Drawn n t m) where
         = ap (link t (n - 1)) (past-n x l) ∙ past-last (link t n x) (link-goes x l) in
         onward (λ k. off (from-far x l k)) (sewn-far x l sewn) (rw same (turns-far (turn-goes x l) p))
 
-    pub turn-far : (h : ℕ) → Marked m h → turnEnd n t m (link t j h) ≡ link t j (turnEnd n t m h)
+    turn-far : (h : ℕ) → Marked m h → turnEnd n t m (link t j h) ≡ link t j (turnEnd n t m h)
     turn-far h i =
         end-is (link t j h) (D .along h j (omega arith) i) (link t j (turnEnd n t m h)) (far-stops _ (end-live h i) (turn-ends h i))
         (rw (past-last h (lives h i)) (turns-far (first h i) (end-turns h i)))
@@ -241,7 +241,7 @@ module _ {n : ℕ} {t m : List ℕ} (D : Drawn n t m) where
     unfolding endsFree inSet
     met-of met = rw (eq-eqb (getD m (turnEnd n t m h) 0) 1 met)
 
-    pub of-free : endsFree n t m h ≡ true → Marked m (turnEnd n t m h) → ⊥
+    of-free : endsFree n t m h ≡ true → Marked m (turnEnd n t m h) → ⊥
     of-free e met = clash e (met-of met)
 
     pub next-free : endsFree n t m h ≡ true → next n t m h ≡ h
@@ -252,7 +252,7 @@ module _ {n : ℕ} {t m : List ℕ} (D : Drawn n t m) where
     unfolding next
     next-met e = rw (e, next)
 
-    pub met-marked : endsFree n t m h ≡ false → Marked m (turnEnd n t m h)
+    met-marked : endsFree n t m h ≡ false → Marked m (turnEnd n t m h)
     met-marked e = if-eq (getD m (turnEnd n t m h) 0) 1 (λ k. k) (λ k. absurd (clash (free-of k) e))
 
     pub next-on : Marked m h → Marked m (next n t m h)
@@ -307,7 +307,7 @@ module _ {n : ℕ} {t m : List ℕ} (D : Drawn n t m) where
       let back : link t n x ≡ y = ap (link t n) over ∙ link-comes y ly in
       no-middle k (turn n t x) y (turn-goes x l) c (ap (link t (n - 1)) back)
 
-  pub end-other : (h : ℕ) → Marked m h → turnEnd n t m h ≢ h
+  end-other : (h : ℕ) → Marked m h → turnEnd n t m h ≢ h
   end-other h i e =
       let (k, b) = by-of (end-turns h i) in
       no-middle k (link t (n - 1) h) (turnEnd n t m h) (first h i) b (ap (link t (n - 1)) (sym e))

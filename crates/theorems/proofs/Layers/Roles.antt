@@ -255,7 +255,7 @@ module _ {n : ℕ} {R : RoleRows} {t u gs fs : List ℕ} {spell : List ℕ → �
     second-out : (x : ℕ) → live t x ≡ true → Out x → Out (link t j x)
     second-out x l k o m = let top = dim .1 in k o (in-cast (sym (rule x l .comes j (omega arith))) (second-in o (link t j x) m))
 
-  pub roles-ruled : Ruled n u L
+  roles-ruled : Ruled n u L
   unfolding roleDart Stays
   roles-ruled = record {
     few = let same = M .same in let few = M .table .few in omega arith;
