@@ -1,8 +1,8 @@
 -- The calls: each gives "number, place, count", and the table, marks and journal as it leaves them.
 -- A call that takes no marks or no journal has [] for it.
-use Prim.Native.Nat.{ℕ, _+_, _*_, _-_}
+use Prim.Native.Nat.{ℕ, zero, suc, _+_, _*_, _-_}
 use mathlib.Core.Bool.{Bool, true, false, _&&_}
-use mathlib.Core.List.{List, []}
+use mathlib.Core.List.{List, [], _∷_}
 use lib.ListN.{length, getD, set}
 use lib.Dec.{leb}
 use Rattle.model.specs.Lists.{count, ones}
@@ -19,7 +19,7 @@ use Rattle.model.specs.Insert.{insertTable}
 use Rattle.model.specs.Journal.{Change, cursor, changesFrom, recordOf, recordLength, written, changesAt, tagAt, put}
 use Rattle.model.specs.Journal.{unbroken}
 use Rattle.model.specs.Checks.{pass, refuse, inOrder, checkChecks, orbitChecks, sheetChecks, addChecks, sewChecks, unsewChecks}
-use Rattle.model.specs.Checks.{layerChecks, splitChecks, insertChecks, stepChecks, undoOk, redoOk}
+use Rattle.model.specs.Checks.{listChecks, layerChecks, splitChecks, insertChecks, stepChecks, undoOk, redoOk}
 
 pub record Outcome : Type 0 where
   pub number : ℕ
@@ -140,6 +140,46 @@ insertCall n t m j tag =
           let hs = ones m in
           commit t (insertTable n t m) m j tag (getD (slotsFor n t hs) 0 0) (λ cs. n * length hs))
       | refuse k p q ↦ refused k p q t m j
+    ]
+
+-- ---- 02, R-9: a list of sews
+
+-- "(i, d, e)"
+pub record Item : Type 0 where
+  pub i : ℕ
+  pub d : ℕ
+  pub e : ℕ
+
+-- the items of a list, three words each
+unfoldable pub items : List ℕ → List Item
+items [] = []
+items (i ∷ []) = []
+items (i ∷ d ∷ []) = []
+items (i ∷ d ∷ e ∷ l) = record { i = i; d = d; e = e } ∷ items l
+
+-- "it must equal the single calls in order, stopping at the first refusal", behind k items that stand and changed q entries:
+-- "place says which item was refused, from 1"; "count is the entries changed by the items that stand, on a refusal too"
+unfoldable pub sewItems : ℕ → ℕ → ℕ → ℕ → List ℕ → List ℕ → List Item → Outcome
+sewItems n tag k q t j [] = record { number = 0; place = 0; count = q; table = t; marks = []; journal = j }
+sewItems n tag k q t j (x ∷ xs) =
+    let r = sewCall n t j tag (x .i) (x .d) (x .e) in
+    elim (r .number) [
+      | zero ↦ sewItems n tag (suc k) (q + r .count) (r .table) (r .journal) xs
+      | suc z ↦ record {
+        number = r .number;
+        place = suc k;
+        count = q;
+        table = r .table;
+        marks = [];
+        journal = r .journal;
+      }
+    ]
+
+unfoldable pub sewListCall : ℕ → List ℕ → List ℕ → ℕ → List ℕ → Outcome
+sewListCall n t j tag l =
+    elim (inOrder (listChecks n t j l)) [
+      | pass ↦ sewItems n tag 0 0 t j (items l)
+      | refuse k p q ↦ refused k p q t [] j
     ]
 
 -- ---- undo and redo

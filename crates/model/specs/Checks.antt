@@ -1,5 +1,6 @@
 -- Numbers a call gives back: for each number the check that refuses by it, and for each call its checks, which "run in the
--- order of the numbers", 24 to 26 in 5's place and 28 to 32 behind 8. 15 and 17 ask what a call would write or put back: they stand with the calls.
+-- order of the numbers", 24 to 26 in 5's place, 38 behind them and 28 to 32 behind 8. 15 and 17 ask what a call would write or put
+-- back: they stand with the calls.
 use Prim.Native.Nat.{ℕ, _+_, _*_, _%_, _^_}
 use mathlib.Core.Bool.{Bool, true, false, not, _&&_, _||_}
 use mathlib.Core.List.{List, [], _∷_, _++_}
@@ -77,6 +78,10 @@ ruleOk n t r =
 -- "in 5's place in the sequence"
 unfoldable pub mapChecks : ℕ → List ℕ → List Check
 mapChecks n t = ruleOk n t links-live ∷ ruleOk n t links-return ∷ ruleOk n t pairs-commute ∷ ruleOk n t stays-flat ∷ []
+
+-- 38: "list length no multiple of three"
+unfoldable pub listOk : List ℕ → Check
+listOk l = must (eqb (length l % 3) 0) 38
 
 -- 6: "i above n, or mask above 2^(n+1) - 1"
 unfoldable pub indexOk : ℕ → ℕ → Check
@@ -169,6 +174,10 @@ sidesChecks n t j i d e =
 
 unfoldable pub sewChecks : ℕ → List ℕ → List ℕ → ℕ → ℕ → ℕ → List Check
 sewChecks n t j i d e = sidesChecks n t j i d e ++ (pairingOk n t i d e ∷ [])
+
+-- of sew_list those before any item: "38 .. after 5 and R-3's numbers"
+unfoldable pub listChecks : ℕ → List ℕ → List ℕ → List ℕ → List Check
+listChecks n t j l = dimOk n ∷ tableOk t ∷ journalOk j ∷ (mapChecks n t ++ (listOk l ∷ []))
 
 unfoldable pub unsewChecks : ℕ → List ℕ → List ℕ → ℕ → ℕ → List Check
 unsewChecks n t j i d =

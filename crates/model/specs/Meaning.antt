@@ -15,4 +15,5 @@ pub mod Ends
 pub mod Records
 pub mod Numbers
 pub mod Demand
+pub mod SewLists
 pub mod Worked

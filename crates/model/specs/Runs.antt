@@ -1,7 +1,8 @@
 -- Demand 3: runs of calls over one table and one journal, and the operations that stand after them.
--- "An accepted add, sew, unsew, remove or split .. is an operation in demand 3, and no other is"; of 02 insert is one too.
+-- "An accepted add, sew, unsew, remove or split .. is an operation in demand 3, and no other is"; of 02 insert is one too, and each
+-- item of a list of sews.
 use Prim.Native.Nat.{ℕ, zero, suc, _*_, _-_}
-use mathlib.Core.List.{List, [], _∷_}
+use mathlib.Core.List.{List, [], _∷_, _++_}
 use lib.ListN.{replicate}
 use Rattle.model.specs.Table.{unused}
 use Rattle.model.specs.Add.{addTable}
@@ -9,8 +10,9 @@ use Rattle.model.specs.Sew.{sewTable, unsewTable}
 use Rattle.model.specs.Remove.{removeTable}
 use Rattle.model.specs.Split.{splitTable}
 use Rattle.model.specs.Insert.{insertTable}
+use Rattle.model.specs.Checks.{pass, refuse, inOrder, listChecks}
 use Rattle.model.specs.Calls.{Outcome, checkCall, orbitCall, sheetCall, addCall, sewCall, unsewCall, removeCall, splitCall}
-use Rattle.model.specs.Calls.{insertCall, undoCall, redoCall}
+use Rattle.model.specs.Calls.{insertCall, Item, items, sewListCall, undoCall, redoCall}
 
 -- ---- calls as data
 
@@ -146,3 +148,50 @@ stepped n s c = record { outcome = answer n s c; history = answered (answer n s 
 unfoldable pub run : ℕ → State → List Step → State
 run n s [] = s
 run n s (c ∷ cs) = run n (stepped n s c) cs
+
+-- ---- runs with lists: "demand 3 counts each item as a call" (02, R-9)
+
+-- the sew of an item, with the tag of its list
+unfoldable pub itemStep : ℕ → Item → Step
+itemStep tag x = record { call = Call.op tag (Op.sew (x .i) (x .d) (x .e)); marks = [] }
+
+-- the calls of these items, up to the first that is refused and with it
+unfoldable pub itemSteps : ℕ → State → ℕ → List Item → List Step
+itemSteps n s tag [] = []
+itemSteps n s tag (x ∷ xs) =
+    let r = stepped n s (itemStep tag x) in
+    itemStep tag x ∷ (elim (r .outcome .number) [ zero ↦ itemSteps n r tag xs | suc z ↦ [] ])
+
+-- the calls that a list counts as: none where it is refused before any item
+unfoldable pub listSteps : ℕ → State → ℕ → List ℕ → List Step
+listSteps n s tag l =
+    elim (inOrder (listChecks n (s .outcome .table) (s .outcome .journal) l)) [
+      | pass ↦ itemSteps n s tag (items l)
+      | refuse k p q ↦ []
+    ]
+
+-- a single call, or sew_list with its tag and list
+pub data Turn : Type 0 where
+  single : Step → Turn
+  listed : ℕ → List ℕ → Turn
+
+-- after a list the table and the journal are those that it leaves, the history is that of its calls
+unfoldable pub turned : ℕ → State → Turn → State
+turned n s (single c) = stepped n s c
+turned n s (listed tag l) = record {
+  outcome = sewListCall n (s .outcome .table) (s .outcome .journal) tag l;
+  history = run n s (listSteps n s tag l) .history;
+}
+
+unfoldable pub runTurns : ℕ → State → List Turn → State
+runTurns n s [] = s
+runTurns n s (c ∷ cs) = runTurns n (turned n s c) cs
+
+-- the calls that a turn counts as, and those of a run
+unfoldable pub turnSteps : ℕ → State → Turn → List Step
+turnSteps n s (single c) = c ∷ []
+turnSteps n s (listed tag l) = listSteps n s tag l
+
+unfoldable pub singleSteps : ℕ → State → List Turn → List Step
+singleSteps n s [] = []
+singleSteps n s (c ∷ cs) = turnSteps n s c ++ singleSteps n (turned n s c) cs

@@ -20,8 +20,8 @@ use Rattle.model.specs.Everything.{everything}
 use Rattle.model.specs.Meaning.Ends.{lent}
 use Rattle.model.specs.Meaning.Lists.{member}
 use Rattle.model.specs.Meaning.Worked.{Case, Seen, gives, goes, marksAre, markedAre, cursorIs, endIs, wordsAre, frees}
-use Rattle.model.specs.Meaning.Worked.{changes, liveAre, restores, beginOn, doAll, sees, seesAll, holdsFrom, holds}
-use Rattle.model.specs.Meaning.Worked.{failing}
+use Rattle.model.specs.Meaning.Worked.{changes, liveAre, restores, asCalls, beginOn, doAll, sees, seesAll, holdsFrom, holds}
+use Rattle.model.specs.Meaning.Worked.{failing, ListCase, holdsList, failingLists}
 
 -- operations that all have one tag
 tagged : ℕ → List Op → List Call
@@ -321,6 +321,43 @@ cases =
 pub all-hold : failing cases ≡ []
 unfolding everything liveCount cases row rowAfter rowOn rowWith tagged madeOf made effect quad three halves bent unlinked quadTable hexahedronTable damaged foldedEdge foldedFace middle ring named cut cutRecord joined wall insertAt between both rings round torus tube seams bentAndRing apart fan corner hinge hingeFaces member failing holds holdsFrom seesAll sees begin beginOn doAll doCall keeping equal
 all-hold = refl
+
+-- ---- R-9: lists of sews, with the tag 7
+
+-- the quads of T, not sewn; and Q with link 0 between 0 and 1 undone, with a quad beside it
+parts : List ℕ
+parts = made 2 24 (Op.add ∷ Op.add ∷ Op.add ∷ [])
+
+unlinkedParts : List ℕ
+unlinkedParts = made 2 16 (unlinked ++ quad)
+
+-- label, table, words of the journal, list, what is seen
+listRow : ℕ → List ℕ → ℕ → List ℕ → List Seen → ListCase
+listRow l t w list ss = record { label = l; dim = 2; start = beginOn t w; tag = 7; list = list; seen = ss }
+
+-- both sews of T, with just room, and a word less; none; an item refused, the first, one between others, the last; 38, before an item
+-- that is wrong, and behind a rule of a map
+pub listCases : List ListCase
+listCases =
+    listRow 10901 parts 32 (2 ∷ 5 ∷ 12 ∷ 2 ∷ 13 ∷ 20 ∷ [])
+    (gives 0 0 8 ∷ goes 5 2 12 ∷ goes 15 2 22 ∷ changes 8 ∷ wordsAre 0 (32 ∷ 32 ∷ 4 ∷ 7 ∷ 22 ∷ 5 ∷ 12 ∷ []) ∷ wordsAre 16 (4 ∷ 4 ∷ 7 ∷ [])
+    ∷ asCalls (tagged 7 (Op.sew 2 5 12 ∷ Op.sew 2 13 20 ∷ [])) ∷ [])
+    ∷ listRow 10902 parts 31 (2 ∷ 5 ∷ 12 ∷ 2 ∷ 13 ∷ 20 ∷ [])
+    (gives 15 2 4 ∷ changes 4 ∷ cursorIs 17 ∷ asCalls (tagged 7 (Op.sew 2 5 12 ∷ [])) ∷ [])
+    ∷ listRow 10903 parts 2 [] (gives 0 0 0 ∷ changes 0 ∷ cursorIs 2 ∷ endIs 2 ∷ [])
+    ∷ listRow 10904 parts 32 (3 ∷ 5 ∷ 12 ∷ 2 ∷ 13 ∷ 20 ∷ []) (gives 6 1 0 ∷ changes 0 ∷ cursorIs 2 ∷ [])
+    ∷ listRow 10905 parts 32 (2 ∷ 5 ∷ 12 ∷ 2 ∷ 24 ∷ 0 ∷ 2 ∷ 13 ∷ 20 ∷ []) (gives 7 2 4 ∷ changes 4 ∷ cursorIs 17 ∷ goes 13 2 13 ∷ [])
+    ∷ listRow 10906 parts 32 (2 ∷ 5 ∷ 12 ∷ 2 ∷ 0 ∷ 1 ∷ []) (gives 9 2 4 ∷ changes 4 ∷ [])
+    ∷ listRow 10907 parts 47 (2 ∷ 5 ∷ 12 ∷ 2 ∷ 13 ∷ 20 ∷ 2 ∷ 14 ∷ 0 ∷ []) (gives 10 3 8 ∷ changes 8 ∷ cursorIs 32 ∷ [])
+    ∷ listRow 10908 unlinkedParts 32 (2 ∷ 2 ∷ 12 ∷ 2 ∷ 0 ∷ 8 ∷ []) (gives 12 2 4 ∷ changes 4 ∷ cursorIs 17 ∷ [])
+    ∷ listRow 10909 parts 32 (3 ∷ 5 ∷ 12 ∷ 2 ∷ []) (gives 38 0 0 ∷ changes 0 ∷ cursorIs 2 ∷ [])
+    ∷ listRow 10910 parts 32 (2 ∷ 5 ∷ []) (gives 38 0 0 ∷ changes 0 ∷ [])
+    ∷ listRow 10911 (damaged 1 2 unused quadTable) 32 (2 ∷ 5 ∷ []) (gives 25 0 0 ∷ changes 0 ∷ [])
+    ∷ []
+
+pub lists-hold : failingLists listCases ≡ []
+unfolding everything listCases listRow parts unlinkedParts tagged madeOf made effect quad unlinked quadTable damaged failingLists holdsList seesAll sees begin beginOn doAll doCall keeping equal
+lists-hold = refl
 
 -- 14: "262,144 entries pass check 2, 262,148 don't"
 pub longest-passes : (t : List ℕ) → length t ≡ 262144 → tableOk t ≡ pass

@@ -5,5 +5,7 @@ pub mod Log
 pub mod Ops
 pub mod Words
 pub mod Counts
+pub mod Items
 pub mod Invariant
 pub mod Demand
+pub mod Lists

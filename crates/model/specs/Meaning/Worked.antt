@@ -7,7 +7,7 @@ use lib.Dec.{eqb}
 use Rattle.model.specs.Lists.{count, equal}
 use Rattle.model.specs.Table.{slots, link, live, liveCount}
 use Rattle.model.specs.Journal.{cursor, end, changesFrom}
-use Rattle.model.specs.Calls.{Outcome}
+use Rattle.model.specs.Calls.{Outcome, sewListCall}
 use Rattle.model.specs.Runs.{Op, Call, begin, doCall}
 use Rattle.model.specs.Meaning.Ends.{lent}
 
@@ -23,6 +23,7 @@ pub data Seen : Type 0 where
   changes : ℕ → Seen  -- so many entries
   liveAre : ℕ → Seen  -- so many slots
   restores : ℕ → Seen  -- remove at d is then accepted, and gives the table back that was before the last call
+  asCalls : List Call → Seen  -- table and journal are as after these calls instead of the last one
 
 -- the label is a hundred times the case's number in 01, and counts its parts: 301 is the first part of 3; that of a request
 -- of 02 is ten thousand more: 10401 is the first of R-4. Our own are twenty thousand more: 201 the words of a record, 202 records
@@ -58,6 +59,9 @@ sees n old new (liveAre k) = eqb (liveCount (new .table)) k
 sees n old new (restores d) =
     let r = doCall n new (Call.op 0 (Op.remove d)) in
     eqb (r .number) 0 && equal (r .table) (old .table)
+sees n old new (asCalls cs) =
+    let r = doAll n old cs in
+    equal (r .table) (new .table) && equal (r .journal) (new .journal)
 
 unfoldable pub seesAll : ℕ → Outcome → Outcome → List Seen → Bool
 seesAll n old new [] = true
@@ -73,3 +77,22 @@ holds c = holdsFrom (c .dim) (doAll (c .dim) (c .start) (c .before)) (c .call) (
 unfoldable pub failing : List Case → List ℕ
 failing [] = []
 failing (c ∷ cs) = elim (holds c) [ true ↦ failing cs | false ↦ c .label ∷ failing cs ]
+
+-- ---- lists of sews (02, R-9)
+
+pub record ListCase : Type 0 where
+  pub label : ℕ
+  pub dim : ℕ
+  pub start : Outcome
+  pub tag : ℕ
+  pub list : List ℕ
+  pub seen : List Seen
+
+unfoldable pub holdsList : ListCase → Bool
+holdsList c =
+    let o = c .start in
+    seesAll (c .dim) o (sewListCall (c .dim) (o .table) (o .journal) (c .tag) (c .list)) (c .seen)
+
+unfoldable pub failingLists : List ListCase → List ℕ
+failingLists [] = []
+failingLists (c ∷ cs) = elim (holdsList c) [ true ↦ failingLists cs | false ↦ c .label ∷ failingLists cs ]

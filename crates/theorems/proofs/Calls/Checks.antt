@@ -13,7 +13,7 @@ use Rattle.model.specs.Lists.{indexOf}
 use Rattle.model.specs.Map.{MapRule, links-live, links-return, pairs-commute, stays-flat, breakingLink, leastBreaking, isMap}
 use Rattle.model.specs.Checks.{Check, pass, refuse, andThen, must, mustAt, inOrder}
 use Rattle.model.specs.Checks.{dimOk, tableOk, marksOk, journalOk, ruleNumber, ruleOk, mapChecks, indexOk, maskOk, dartOk}
-use Rattle.model.specs.Checks.{blockOk, apartOk, freeOk}
+use Rattle.model.specs.Checks.{blockOk, apartOk, freeOk, listOk, listChecks}
 use Rattle.model.specs.Checks.{drawnOk, enclosedOk, sewnWallOk, turnsOk, connectedOk}
 use Rattle.model.specs.Checks.{sewnOk, pairingOk, crossingOk, addRoomOk, newRoomOk, undoOk, redoOk}
 use Rattle.model.specs.Checks.{checkChecks, orbitChecks, sheetChecks, addChecks, sidesChecks, unsewChecks}
@@ -23,6 +23,7 @@ use Rattle.model.specs.Runs.{Op, Call}
 use Rattle.model.specs.Meaning.Lists.{member}
 use Rattle.model.specs.Meaning.Maps.{byRule, NoRule}
 use Rattle.model.specs.Meaning.Ends.{recordOk, stepOk, checks, numbers, refusalPlace, refusalCount, checksOf}
+use Rattle.model.specs.Meaning.SewLists.{listNumbers}
 use Rattle.theorems.proofs.Lists.Ones.{in-member}
 use Rattle.theorems.proofs.Lists.Scan.{clash, test, or-false}
 use Rattle.theorems.proofs.Maps.Broken.{by-rule}
@@ -250,6 +251,11 @@ module _ (n : ℕ) (o : Outcome) where
   unfolding mapChecks ruleNumber
   map-then w =
       rule-numbered links-live then rule-numbered links-return then rule-numbered pairs-commute then rule-numbered stays-flat then w
+
+  -- those of sew_list before any item
+  pub list-numbers : (l : List ℕ) → Has listNumbers (listChecks n (o .table) (o .journal) l)
+  unfolding listChecks dimOk tableOk listOk member indexOf
+  list-numbers l = plain _ 1 refl then plain _ 2 refl then journal-4 then map-then (plain _ 38 refl then last)
 
   pub call-numbers : (c : Call) → Has (numbers c) (checks n o c)
   unfolding checksOf mapChecks checkChecks orbitChecks sheetChecks addChecks sidesChecks unsewChecks layerChecks splitChecks wallChecks insertChecks stepChecks dimOk tableOk marksOk indexOk maskOk dartOk drawnOk enclosedOk sewnWallOk turnsOk connectedOk apartOk freeOk sewnOk pairingOk crossingOk addRoomOk newRoomOk undoOk redoOk recordOk stepOk member indexOf

@@ -1,4 +1,5 @@
 -- `number-table`: each call gives the number of the first of its rows of 01's table that is given, or 0. `none-given`: 0 where none is.
+-- `list-table`: the same of sew_list before any item, and what it leaves then; `list-passes`: where none is given its checks pass.
 use Prim.Native.Nat.{ℕ, _<_}
 use mathlib.Core.Path.{_≡_, refl, sym, ap, _∙_, subst}
 use mathlib.Core.Logic.{inl, inr, _≢_, _↔_}
@@ -10,21 +11,22 @@ use Rattle.model.specs.Map.{MapRule, links-live, links-return, pairs-commute, s
 use Rattle.model.specs.Sheet.{sheet}
 use Rattle.model.specs.Checks.{Check, pass, refuse, andThen, inOrder, dimOk, tableOk, marksOk, journalOk, ruleNumber, ruleOk}
 use Rattle.model.specs.Checks.{mapChecks, checkChecks, orbitChecks, sheetChecks, addChecks, sidesChecks, unsewChecks}
-use Rattle.model.specs.Checks.{layerChecks, splitChecks, wallChecks, insertChecks, stepChecks}
-use Rattle.model.specs.Calls.{Outcome, refused}
+use Rattle.model.specs.Checks.{listChecks, layerChecks, splitChecks, wallChecks, insertChecks, stepChecks}
+use Rattle.model.specs.Calls.{Outcome, refused, sewListCall}
 use Rattle.model.specs.Runs.{Op, Call, doCall}
-use Rattle.model.specs.Meaning.Ends.{stepOk, checksOf, checks, opNumbers, numbers}
+use Rattle.model.specs.Meaning.Ends.{stepOk, lent, checksOf, checks, opNumbers, numbers, refusalPlace, refusalCount}
 use Rattle.model.specs.Meaning.Maps.{Dim}
 use Rattle.model.specs.Meaning.Numbers.{NumberRow, First, dimRow, tableRow, marksRow, journalRow, mapRows, dartRow, blockRow}
 use Rattle.model.specs.Meaning.Numbers.{stepRow, numberRows}
+use Rattle.model.specs.Meaning.SewLists.{listRows, RefusedFirst}
 use Rattle.theorems.proofs.Maps.Broken.{each-earlier}
 use Rattle.theorems.proofs.Calls.Checks.{not-pass, passed-at, passed-number, passed-append, append-passed, Numbered, Numbers}
-use Rattle.theorems.proofs.Calls.Checks.{_then_, call-numbers}
+use Rattle.theorems.proofs.Calls.Checks.{_then_, list-numbers, call-numbers, refusal-says}
 use Rattle.theorems.proofs.Calls.Pass.{dim-pass, rules-pass, table-of, sides-passed, wall-drawn}
 use Rattle.theorems.proofs.Calls.Fails.{dim-fails, table-fails, marks-fails, journal-fails, rule-fails, index-fails, mask-fails}
 use Rattle.theorems.proofs.Calls.Fails.{dart-fails, block-fails, apart-fails, free-fails, sewn-fails, pairing-fails}
 use Rattle.theorems.proofs.Calls.Fails.{crossing-fails, add-room-fails, new-room-fails, record-fails, undo-fails, redo-fails}
-use Rattle.theorems.proofs.Calls.Fails.{step-fails, drawn-fails, enclosed-fails, sewn-wall-fails, turns-fails, connected-fails}
+use Rattle.theorems.proofs.Calls.Fails.{list-fails, step-fails, drawn-fails, enclosed-fails, sewn-wall-fails, turns-fails, connected-fails}
 use Rattle.theorems.proofs.Calls.Ends.{call-ends, done-number}
 
 -- two numbers of the first row that is given are one
@@ -227,3 +229,39 @@ module _ (n : ℕ) (o : Outcome) where
 
   pub none-given : (c : Call) → NoneGiven (numberRows n (o .table) (o .marks) (o .journal) c) → doCall n o c .number ≡ 0
   none-given c none = number-table c 0 .1 (first-none _ none)
+
+-- ---- sew_list, before any item
+
+module _ (n : ℕ) (t j l : List ℕ) where
+  list-first : First (listRows n t j l) (numberIn (inOrder (listChecks n t j l)))
+  unfolding listChecks mapChecks ruleNumber inOrder
+  list-first = first-number [] (listRows n t j l) (listChecks n t j l) refl (with-journal n (lent t [] j) (list-fails l next no-more))
+      (list-numbers n (lent t [] j) l)
+
+  pub list-table : (tag k : ℕ) → k ≢ 0 → First (listRows n t j l) k → RefusedFirst n t j k (sewListCall n t j tag l)
+  unfolding numberIn sewListCall refused
+  list-table tag k some given = go (inOrder (listChecks n t j l)) refl (first-once (listRows n t j l) _ k list-first given)
+    where
+      go : (c : Check) → inOrder (listChecks n t j l) ≡ c → numberIn (inOrder (listChecks n t j l)) ≡ k
+          → RefusedFirst n t j k (sewListCall n t j tag l)
+      go pass e h = absurd (some (sym h ∙ ap numberIn e))
+      go (refuse z p q) e h =
+          let is : z ≡ k = sym (ap numberIn e) ∙ h in
+          let says = refusal-says (listChecks n t j l) (list-numbers n (lent t [] j) l) z p q e .1 in
+          rw (e, sewListCall) (record {
+            number = is;
+            place = says .place ∙ ap (refusalPlace n t) is;
+            count = says .count ∙ ap (refusalCount n t) is;
+            table = refl;
+            journal = refl;
+          })
+
+  pub list-passes : First (listRows n t j l) 0 → inOrder (listChecks n t j l) ≡ pass
+  unfolding numberIn
+  list-passes given = go (inOrder (listChecks n t j l)) refl (first-once (listRows n t j l) _ 0 list-first given)
+    where
+      go : (c : Check) → inOrder (listChecks n t j l) ≡ c → numberIn (inOrder (listChecks n t j l)) ≡ 0
+          → inOrder (listChecks n t j l) ≡ pass
+      go pass e h = e
+      go (refuse z p q) e h =
+          absurd (refusal-says (listChecks n t j l) (list-numbers n (lent t [] j) l) z p q e .1 .not-0 (sym (ap numberIn e) ∙ h))

@@ -49,7 +49,7 @@ step-17 (p ∷ ps) e = omega arith
 
 -- ---- a state where the invariant holds
 
-abbrev InvariantAt : ℕ → List ℕ → State → Type 0
+abbrev pub InvariantAt : ℕ → List ℕ → State → Type 0
 InvariantAt n first s = Invariant n first (s .history) (s .outcome .table) (s .outcome .journal)
 
 module _ {n : ℕ} {first : List ℕ} (s : State) (inv : InvariantAt n first s) where
@@ -89,7 +89,7 @@ module _ {n : ℕ} {first : List ℕ} (s : State) (inv : InvariantAt n first s) 
   no-rule c m r e =
       clash (rule-now (s .outcome) inv .map) (call-refusal c m (λ q. rule-not-0 r (sym e ∙ q)) .2 .map r e)
 
-  invariant-stands : Stands n first s
+  pub invariant-stands : Stands n first s
   invariant-stands = record {
     table = inv .table;
     map = rule-now (s .outcome) inv .map;
@@ -111,7 +111,7 @@ module _ {n : ℕ} {first : List ℕ} (s : State) (inv : InvariantAt n first s) 
       given-16 : {k : ℕ} {ps : List Tagged} → k ≡ stepNumber ps → (k ≡ 16) ↔ (ps ≡ [])
       given-16 {k} {ps} e = (λ q. step-16 ps .0 (sym e ∙ q), λ q. e ∙ step-16 ps .1 q)
 
-run-invariant : {n : ℕ} {first : List ℕ} (cs : List Step) (s : State) → InvariantAt n first s → InvariantAt n first (run n s cs)
+pub run-invariant : {n : ℕ} {first : List ℕ} (cs : List Step) (s : State) → InvariantAt n first s → InvariantAt n first (run n s cs)
 unfolding run
 run-invariant [] s inv = inv
 run-invariant (c ∷ cs) s inv = run-invariant cs (stepped _ s c) (step-invariant s inv c)
@@ -126,7 +126,7 @@ table-ok : (t : List ℕ) → length t % 4 ≡ 0 → length t ≤ 262144 → tab
 unfolding tableOk must
 table-ok t whole few = rw (whole, le-leb (length t) 262144 few)
 
-start-invariant : (n : ℕ) (t j : List ℕ) → FreshStart n t j → InvariantAt n t (start t j)
+pub start-invariant : (n : ℕ) (t j : List ℕ) → FreshStart n t j → InvariantAt n t (start t j)
 unfolding start replay historyWords journalOf standingWords undoneWords cursor end
 start-invariant n t [] fresh = absurd (let l = fresh .low in omega arith)
 start-invariant n t (c ∷ []) fresh = absurd (let l = fresh .low in omega arith)
