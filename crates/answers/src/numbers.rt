@@ -49,6 +49,13 @@ pub const WRONG_JOURNAL: Answer = Answer {
     count: 0,
 };
 
+// 38: "list length no multiple of three"
+pub const WRONG_LIST_LENGTH: Answer = Answer {
+    number: 38,
+    place: 0,
+    count: 0,
+};
+
 // 6: "i above n, or mask above 2^(n+1) - 1"
 pub const OUT_OF_RANGE: Answer = Answer {
     number: 6,

@@ -4,6 +4,7 @@ ghost use mathlib.Core.Bool.{true, false};
 ghost use mathlib.Core.List.{List};
 ghost use Prim.Native.Nat.{ℕ, _+_};
 ghost use Rattle.model.specs.Journal.{changesFrom};
+ghost use Rattle.scans.specs.Clear.{Grouped};
 ghost use Rattle.drafts.specs.Drafts.{drafted};
 ghost use Rattle.marked_links.specs.Marked.{before, after, MarkedRecord, SomeMarkedRecord, MarkedPass, ToMarked};
 
@@ -38,18 +39,26 @@ fn write_one(
 }
 
 // Drafts the record of the change between the table and the one in which the darts marked with 1 are i-free: where it sews, to the
-// table, else from it.
-pub fn write_marked(table: &[u32], journal: &mut [u32], marks: &[u8], i: u32, sews: bool)
+// table, else from it. It costs what the groups with a mark cost.
+pub fn write_marked(
+    table: &[u32],
+    journal: &mut [u32],
+    marks: &[u8],
+    groups: &[u8],
+    i: u32,
+    sews: bool,
+)
     requires { ⌜ SomeMarkedRecord sews (now table) (now marks) i (now journal) ⌝ }
+    requires { ⌜ Grouped (now marks) (now groups) ⌝ }
     ensures { λ _. ⌜ ((v : List ℕ) → MarkedRecord sews (now (table .entry)) v (now (marks .entry)) i (now (journal .entry))
         → now (journal .exit) ≡ drafted (now (journal .entry))
         (changesFrom 0 (before sews (now (table .entry)) v) (after sews (now (table .entry)) v))) ⌝ }
 {
     let end = reading::slots(table) as usize;
     let mut w = journal[0] as usize + 2;
-    let mut x = scans::skip_blocks(marks, 0);
+    let mut x = scans::skip_grouped(marks, groups, 0);
     while x < end {
         w = write_one(table, journal, marks, i, sews, w, x as u32);
-        x = scans::skip_clear(marks, x + 1);
+        x = scans::skip_grouped(marks, groups, x + 1);
     }
 }

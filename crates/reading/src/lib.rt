@@ -26,6 +26,9 @@ pub const MIDDLE: usize = 16384;
 
 pub const LARGE: usize = 65536;
 
+// So many marks are a group.
+pub const GROUP: usize = 256;
+
 // Whether check 1 passes.
 pub fn dim_fits(n: u32) -> bool
     ensures { λ r. ⌜ must r 1 ≡ dimOk n ⌝ }

@@ -1,5 +1,5 @@
--- Marks that are 0, between two slots.
-use Prim.Native.Nat.{ℕ, _≤_, _<_}
+-- Marks that are 0, between two slots; and marks with groups.
+use Prim.Native.Nat.{ℕ, _+_, _*_, _≤_, _<_}
 use mathlib.Core.Path.{_≡_}
 use mathlib.Core.List.{List}
 use lib.ListN.{length, getD}
@@ -13,3 +13,8 @@ pub record Skips (m : List ℕ) (x y : ℕ) : Type 0 where
   pub onward : x ≤ y
   pub within : y ≤ length m
   pub clear : Clear m x y
+
+-- each 256 marks have a group, and where its own mark is 0, theirs are
+pub record Grouped (m gs : List ℕ) : Type 0 where
+  pub long : length m ≡ 256 * length gs
+  pub clear : (g : ℕ) → getD gs g 0 ≡ 0 → Clear m (256 * g) (256 * g + 256)

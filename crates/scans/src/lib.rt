@@ -1,4 +1,4 @@
-// Passes over all slots: marks cleared, marks of 0 passed over 32 at a time, the darts with the mark 1 and the lowest unused slots listed.
+// Passes over all slots: marks cleared, marks of 0 passed over 32 at a time or by groups, the darts with the mark 1 and the lowest unused slots listed.
 ghost use mathlib.Core.Path.{_≡_};
 ghost use mathlib.Core.Bool.{true};
 ghost use Prim.Native.Nat.{_+_, _<_, _≤_, min};
@@ -7,8 +7,9 @@ ghost use Rattle.model.specs.Lists.{ones};
 ghost use Rattle.model.specs.Table.{slots, unusedSlots};
 ghost use Rattle.model.specs.Checks.{pass, tableOk};
 ghost use Rattle.reading.specs.Told.{Told};
-ghost use Rattle.scans.specs.Clear.{Clear, Skips};
+ghost use Rattle.scans.specs.Clear.{Clear, Skips, Grouped};
 ghost use Rattle.scans.specs.Lowest.{Lists, Entered};
+use reading::GROUP;
 use reading::UNUSED;
 use reading::link_in;
 use reading::slots;
@@ -58,6 +59,56 @@ pub fn skip_clear(marks: &[u8], x: usize) -> usize
 {
     if x % 32 == 0 {
         skip_blocks(marks, x)
+    } else {
+        x
+    }
+}
+
+// ---- marks with groups
+
+// Past the groups from g on whose mark is 0.
+fn skip_groups(groups: &[u8], g: usize) -> usize
+    requires { ⌜ g ≤ length (now groups) ⌝ }
+    ensures { λ r. ⌜ Skips (now (groups .entry)) g r ⌝ }
+{
+    let mut h = skip_blocks(groups, g);
+    while h < groups.len() {
+        if groups[h] != 0 {
+            return h;
+        }
+        h = skip_clear(groups, h + 1);
+    }
+    h
+}
+
+// Past the marks from x on that are 0, by groups and by blocks of 32, where a block begins at x.
+fn skip_in_groups(marks: &[u8], groups: &[u8], x: usize) -> usize
+    requires { ⌜ (Grouped (now marks) (now groups)) × (x ≤ length (now marks)) ⌝ }
+    ensures { λ r. ⌜ Skips (now (marks .entry)) x r ⌝ }
+{
+    let mut y = x;
+    loop {
+        if y % GROUP == 0 {
+            y = GROUP * skip_groups(groups, y / GROUP);
+        }
+        if marks.len() - y < 32 {
+            return y;
+        }
+        if !block_clear(marks, y) {
+            return y;
+        }
+        y += 32;
+    }
+}
+
+// The same where a block of 32 begins at x, else x. A pass over marks with groups begins and goes on with it: it costs what the
+// groups with a mark cost.
+pub fn skip_grouped(marks: &[u8], groups: &[u8], x: usize) -> usize
+    requires { ⌜ (Grouped (now marks) (now groups)) × (x ≤ length (now marks)) ⌝ }
+    ensures { λ r. ⌜ Skips (now (marks .entry)) x r ⌝ }
+{
+    if x % 32 == 0 {
+        skip_in_groups(marks, groups, x)
     } else {
         x
     }

@@ -11,24 +11,24 @@ use Rattle.marked_links.proofs.write_marked.Statement.{statement}
 use Rattle.marked_links.proofs.write_marked.Tie as tie
 
 abbrev Inv-loop : tie.InvT-loop
-Inv-loop table journal₀ marks i sews end w₀ x₀ journal w x =
+Inv-loop table journal₀ marks groups i sews end w₀ x₀ journal w x =
     (end ≡ slots table) × ((v : List ℕ) → MarkedRecord sews table v marks i journal₀ → Skipped sews table v marks i journal₀ x w journal)
 
 abbrev μ-loop : tie.MeasureT-loop
-μ-loop table journal₀ marks i sews end w₀ x₀ journal w x = end - x
+μ-loop table journal₀ marks groups i sews end w₀ x₀ journal w x = end - x
 
 -- the function's entry, from where the loop stands
 abbrev start : tie.At-loop Inv-loop μ-loop → tie.Start Inv-loop μ-loop
-start l = l .before .before .before .before .before .before .before
+start l = l .before .before .before .before .before .before .before .before
 
 slots-requires : tie.Need-slots-requires Inv-loop μ-loop
-slots-requires c κs = let freed = c .before .before .before .pre .is .freed in omega (arith, freed .fits, freed .few)
+slots-requires c κs = let freed = c .before .before .before .before .pre .0 .is .freed in omega (arith, freed .fits, freed .few)
 
 cast-end : tie.Need-cast-end Inv-loop μ-loop
-cast-end c = let few = c .before .before .before .before .pre .is .freed .few in omega (arith, c .slots .ensures)
+cast-end c = let few = c .before .before .before .before .before .pre .0 .is .freed .few in omega (arith, c .slots .ensures)
 
 slice-read-w : tie.Need-slice-read-w Inv-loop μ-loop
-slice-read-w c = let long = c .before .before .before .before .before .pre .is .rule .long in omega arith
+slice-read-w c = let long = c .before .before .before .before .before .before .pre .0 .is .rule .long in omega arith
 
 cast-w : tie.Need-cast-w Inv-loop μ-loop
 cast-w c = omega (arith, c .slice-known2 .given 0)
@@ -36,18 +36,18 @@ cast-w c = omega (arith, c .slice-known2 .given 0)
 add-w : tie.Need-add-w Inv-loop μ-loop
 add-w c = omega (arith, c .slice-known2 .given 0)
 
-skip-blocks-requires : tie.Need-skip-blocks-requires Inv-loop μ-loop
-skip-blocks-requires c κs = omega arith
+skip-grouped-requires : tie.Need-skip-grouped-requires Inv-loop μ-loop
+skip-grouped-requires c κs = (c .before .before .before .before .before .before .pre .1, omega arith)
 
 loop-holds : tie.Need-loop-holds Inv-loop μ-loop
 unfolding cursor
 loop-holds c =
-    (c .before .before .slots .ensures, λ v T. record { y = 0; inside = omega arith; skips = c .skip-blocks .ensures; met = marked-start T })
+    (c .before .before .slots .ensures, λ v T. record { y = 0; inside = omega arith; skips = c .skip-grouped .ensures; met = marked-start T })
 
 cast-write-one : tie.Need-cast-write-one Inv-loop μ-loop
 cast-write-one c =
     let l = c .before .before in
-    let few = start l .pre .is .freed .few in
+    let few = start l .pre .0 .is .freed .few in
     let same = l .loop .inv .0 in
     let low = c .before .loop-test .taken in
     omega arith
@@ -57,28 +57,29 @@ write-one-requires c κs =
     let l = c .before .before in
     let same = l .loop .inv .0 in
     let low = c .before .loop-test .taken in
-    record { v = _; j = _; met = skipped-here (l .loop .inv .1 _ (start l .pre .is)) (omega arith); inside = omega arith }
+    record { v = _; j = _; met = skipped-here (l .loop .inv .1 _ (start l .pre .0 .is)) (omega arith); inside = omega arith }
 
-add-skip-clear : tie.Need-add-skip-clear Inv-loop μ-loop
-add-skip-clear c =
+add-skip-grouped : tie.Need-add-skip-grouped Inv-loop μ-loop
+add-skip-grouped c =
     let i = c .before .before .before .before in
-    let few = start (i .before) .pre .is .freed .few in
+    let few = start (i .before) .pre .0 .is .freed .few in
     let same = i .before .loop .inv .0 in
     let low = i .loop-test .taken in
     omega arith
 
-skip-clear-requires : tie.Need-skip-clear-requires Inv-loop μ-loop
-skip-clear-requires c κs =
+skip-grouped-requires-2 : tie.Need-skip-grouped-requires-2 Inv-loop μ-loop
+skip-grouped-requires-2 c κs =
     let i = c .before .before .before .before in
-    let wide = start (i .before) .pre .is .freed .wide in
+    let pre = start (i .before) .pre in
+    let wide = pre .0 .is .freed .wide in
     let same = i .before .loop .inv .0 in
     let low = i .loop-test .taken in
-    omega arith
+    (pre .1, omega arith)
 
 loop-less : tie.Need-loop-less Inv-loop μ-loop
 loop-less c =
     let i = c .before .before .before .before .before in
-    let on = c .skip-clear .ensures .onward in
+    let on = c .skip-grouped2 .ensures .onward in
     let low = i .loop-test .taken in
     omega arith
 
@@ -93,7 +94,7 @@ loop-again c =
       λ v T. record {
         y = l .loop .x + 1;
         inside = omega arith;
-        skips = c .skip-clear .ensures;
+        skips = c .skip-grouped2 .ensures;
         met = w .write-one .ensures _ _ (skipped-here (l .loop .inv .1 v T) (omega arith));
       },
     )
@@ -102,7 +103,7 @@ same-length : tie.Need-same-length Inv-loop μ-loop
 same-length c =
     let l = c .before in
     let same = l .loop .inv .0 in
-    let S = l .loop .inv .1 _ (start l .pre .is) in
+    let S = l .loop .inv .1 _ (start l .pre .0 .is) in
     marked-length (S .met) (S .inside)
 
 returns : tie.Need-returns Inv-loop μ-loop
@@ -123,12 +124,12 @@ write-marked-spec =
     slice-read-w
     cast-w
     add-w
-    skip-blocks-requires
+    skip-grouped-requires
     loop-holds
     cast-write-one
     write-one-requires
-    add-skip-clear
-    skip-clear-requires
+    add-skip-grouped
+    skip-grouped-requires-2
     loop-less
     loop-again
     same-length

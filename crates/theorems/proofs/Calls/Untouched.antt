@@ -90,7 +90,7 @@ module _ (n : ℕ) (o : Outcome) (d : ℕ) where
 
 -- ---- the marks of a wall
 
-commit-marks : (t u m j : List ℕ) (tag p : ℕ) (size : List Change → ℕ) → commit t u m j tag p size .marks ≡ m
+pub commit-marks : (t u m j : List ℕ) (tag p : ℕ) (size : List Change → ℕ) → commit t u m j tag p size .marks ≡ m
 unfolding commit refused
 commit-marks t u m j tag p size =
     test (leb (length (recordOf tag (changesFrom 0 t u))) (length j - cursor j)) (λ e. rw (e, commit)) (λ e. rw (e, commit))

@@ -8,19 +8,23 @@ use mathlib.Core.Bool.{true}
 use mathlib.Core.List.{List, [], _∷_, _++_}
 use native.Mathlib.Omega.{arith}
 use lib.ListN.{length}
-use Rattle.model.specs.Map.{links-live, links-return, pairs-commute, stays-flat, isMap}
+use Rattle.model.specs.Lists.{indexOf}
+use Rattle.model.specs.Map.{isMap}
 use Rattle.model.specs.Journal.{cursor, end, changesFrom, recordOf, recordLength}
-use Rattle.model.specs.Checks.{Check, pass, refuse, inOrder, tableOk, listChecks}
+use Rattle.model.specs.Checks.{Check, pass, refuse, inOrder, tableOk, sewChecks, listChecks}
 use Rattle.model.specs.Calls.{Outcome, refused, sewCall, Item, items, sewItems, sewListCall}
 use Rattle.model.specs.Runs.{Op, Call, doCall, keeping, Step, State, answer, stepped, run, itemStep}
-use Rattle.model.specs.Meaning.Ends.{lent}
+use Rattle.model.specs.Meaning.Lists.{member}
+use Rattle.model.specs.Meaning.Maps.{NoRule}
+use Rattle.model.specs.Meaning.Ends.{lent, numbers, doneOf}
 use Rattle.model.specs.Meaning.Numbers.{JournalRule}
 use Rattle.model.specs.Meaning.SewLists.{Ready, sewsOf, AllAccepted, countOf, Standing, AllSewn, Stopped}
-use Rattle.theorems.proofs.Lists.Scan.{if-eq}
+use Rattle.theorems.proofs.Lists.Scan.{if-eq, clash}
+use Rattle.theorems.proofs.Lists.Ones.{in-member}
 use Rattle.theorems.proofs.Calls.Pass.{journal-pass}
 use Rattle.theorems.proofs.Calls.Fails.{journal-holds}
-use Rattle.theorems.proofs.Calls.Ends.{op-accepted}
-use Rattle.theorems.proofs.Calls.Untouched.{call-untouched}
+use Rattle.theorems.proofs.Calls.Ends.{call-says, call-done, call-refused, op-accepted}
+use Rattle.theorems.proofs.Calls.Untouched.{call-untouched, place-of-others, count-of-others, commit-marks}
 use Rattle.theorems.proofs.Calls.Written.{op-recorded}
 use Rattle.theorems.proofs.History.Record.{length-record}
 use Rattle.theorems.proofs.History.Ops.{effect-length, op-map}
@@ -73,20 +77,91 @@ sew-ready n t j tag i d e ready h =
       some = counts .some;
     }
 
+-- ---- the answer of one
+
+sew-number : (n : ℕ) (t j : List ℕ) (tag i d e : ℕ) → Ready n t j → sewCall n t j tag i d e .number ≢ 0
+    → NoRule (sewCall n t j tag i d e .number) × (sewCall n t j tag i d e .number ≢ 8)
+unfolding doCall keeping member indexOf
+sew-number n t j tag i d e ready h =
+    let c = Call.op tag (Op.sew i d e) in
+    let o = lent t [] j in
+    let (p, q, refuses, _) = call-refused n o c h in
+    let (own, says) = call-says n o c _ p q refuses in
+    (λ r e. clash (ready .map) (says .map r e), λ e. clash (rw e at (in-member (numbers c) _ own)) refl)
+
+sew-marks : (n : ℕ) (t j : List ℕ) (tag i d e : ℕ) → sewCall n t j tag i d e .marks ≡ []
+unfolding sewCall refused
+sew-marks n t j tag i d e = go (inOrder (sewChecks n t j i d e)) refl
+  where
+    go : (c : Check) → inOrder (sewChecks n t j i d e) ≡ c → sewCall n t j tag i d e .marks ≡ []
+    go pass e = rw (e, sewCall) (commit-marks t _ [] j tag 0 _)
+    go (refuse k p q) e = rw (e, sewCall)
+
+-- a sew with a map has the place 0, no marks, and where it is refused the count 0
+pub sew-answer : (n : ℕ) (t j : List ℕ) (tag i d e : ℕ) → Ready n t j →
+    let r = sewCall n t j tag i d e in
+    (r .place ≡ 0) × (r .marks ≡ []) × (r .number ≢ 0 → r .count ≡ 0)
+unfolding doCall keeping doneOf
+sew-answer n t j tag i d e ready =
+    let c = Call.op tag (Op.sew i d e) in
+    let o = lent t [] j in
+    let r = sewCall n t j tag i d e in (
+      if-eq (r .number) 0 (λ h. ap (λ (x : Outcome). x .place) (call-done n o c h))
+      (λ h. let other = sew-number n t j tag i d e ready h in place-of-others n o c h (other .0) (other .1)),
+      sew-marks n t j tag i d e,
+      λ h. count-of-others n o c h (sew-number n t j tag i d e ready h .0),
+    )
+
 -- ---- how the items end
+
+module _ (n tag k q : ℕ) (t j : List ℕ) (x : Item) (xs : List Item) where
+  abbrev one : Outcome
+  one = sewCall n t j tag (x .i) (x .d) (x .e)
+
+  -- the first item is accepted, and the others follow
+  pub item-next : one .number ≡ 0 → sewItems n tag k q t j (x ∷ xs) ≡ sewItems n tag (suc k) (q + one .count) (one .table) (one .journal) xs
+  unfolding sewItems
+  item-next h = rw (h, sewItems)
+
+  -- it is refused
+  pub item-stop : one .number ≢ 0 → sewItems n tag k q t j (x ∷ xs) ≡ record {
+    number = one .number;
+    place = suc k;
+    count = q;
+    table = one .table;
+    marks = [];
+    journal = one .journal;
+  }
+  unfolding sewItems
+  item-stop h = go (one .number) refl
+    where
+      go : (z : ℕ) → one .number ≡ z → sewItems n tag k q t j (x ∷ xs) ≡ record {
+        number = one .number;
+        place = suc k;
+        count = q;
+        table = one .table;
+        marks = [];
+        journal = one .journal;
+      }
+      go zero e = absurd (h e)
+      go (suc z) e = rw (e, sewItems) (rw e)
+
+  -- it changes nothing then
+  pub item-untouched : one .number ≢ 0 → (one .table ≡ t) × (one .journal ≡ j)
+  unfolding doCall keeping
+  item-untouched h = let same = call-untouched n (lent t [] j) (Call.op tag (Op.sew (x .i) (x .d) (x .e))) h in (same .table, same .journal)
 
 module _ (n tag : ℕ) where
   -- the outcome of the items xs, behind k that stand and changed q entries
   abbrev pub sewsTo : ℕ → ℕ → State → List Item → Outcome
   sewsTo k q s xs = sewItems n tag k q (s .outcome .table) (s .outcome .journal) xs
 
-  -- the first item is accepted, and the others follow
+  -- the same of a state, with the answer of the single call
   pub items-next : (k q : ℕ) (s : State) (x : Item) (xs : List Item) → answer n s (itemStep tag x) .number ≡ 0
       → sewsTo k q s (x ∷ xs) ≡ sewsTo (suc k) (q + answer n s (itemStep tag x) .count) (stepped n s (itemStep tag x)) xs
-  unfolding sewItems stepped answer itemStep doCall keeping
-  items-next k q s x xs h = rw (h, sewItems)
+  unfolding stepped answer itemStep doCall keeping
+  items-next k q s x xs h = item-next n tag k q (s .outcome .table) (s .outcome .journal) x xs h
 
-  -- it is refused
   pub items-stop : (k q : ℕ) (s : State) (x : Item) (xs : List Item) → answer n s (itemStep tag x) .number ≢ 0
       → sewsTo k q s (x ∷ xs) ≡ record {
         number = answer n s (itemStep tag x) .number;
@@ -96,25 +171,12 @@ module _ (n tag : ℕ) where
         marks = [];
         journal = s .outcome .journal;
       }
-  unfolding sewItems answer itemStep doCall keeping
+  unfolding answer itemStep doCall keeping
   items-stop k q s x xs h =
-      let same = call-untouched n (lent (s .outcome .table) [] (s .outcome .journal)) (Call.op tag (Op.sew (x .i) (x .d) (x .e))) h in
-      go _ refl h (same .table) (same .journal)
-    where
-      r : Outcome
-      r = sewCall n (s .outcome .table) (s .outcome .journal) tag (x .i) (x .d) (x .e)
-
-      go : (z : ℕ) → r .number ≡ z → r .number ≢ 0 → r .table ≡ s .outcome .table → r .journal ≡ s .outcome .journal
-          → sewsTo k q s (x ∷ xs) ≡ record {
-            number = r .number;
-            place = suc k;
-            count = q;
-            table = s .outcome .table;
-            marks = [];
-            journal = s .outcome .journal;
-          }
-      go zero e some a b = absurd (some e)
-      go (suc z) e some a b = rw (e, sewItems, a, b) (rw e)
+      let t = s .outcome .table in
+      let j = s .outcome .journal in
+      let same = item-untouched n tag k q t j x xs h in
+      rw (item-stop n tag k q t j x xs h, same .0, same .1)
 
   abbrev EndsFrom : ℕ → ℕ → State → List Item → Type 0
   EndsFrom k q s xs = AllSewn n s tag q xs (sewsTo k q s xs) ⊎ Stopped n s tag k q xs (sewsTo k q s xs)
@@ -185,21 +247,12 @@ list-ends n s tag l h = rw (list-items n _ _ tag l h) (items-end n tag 0 0 s (it
 items-map : (n tag k q : ℕ) (t j : List ℕ) (xs : List Item) → isMap n t ≡ true → isMap n (sewItems n tag k q t j xs .table) ≡ true
 unfolding sewItems doCall keeping
 items-map n tag k q t j [] map = map
-items-map n tag k q t j (x ∷ xs) map = go (r .number) refl (items-map n tag (suc k) (q + r .count) (r .table) (r .journal) xs)
-  where
-    r : Outcome
-    r = sewCall n t j tag (x .i) (x .d) (x .e)
-
-    sews : Call
-    sews = Call.op tag (Op.sew (x .i) (x .d) (x .e))
-
-    go : (z : ℕ) → r .number ≡ z
-        → (isMap n (r .table) ≡ true → isMap n (sewItems n tag (suc k) (q + r .count) (r .table) (r .journal) xs .table) ≡ true)
-        → isMap n (sewItems n tag k q t j (x ∷ xs) .table) ≡ true
-    go zero e later = rw (e, sewItems) (later (op-map n (lent t [] j) tag (Op.sew (x .i) (x .d) (x .e)) e))
-    go (suc z) e later =
-        let none : r .number ≢ 0 = λ h. absurd (omega (arith, h, e)) in
-        rw (e, sewItems, call-untouched n (lent t [] j) sews none .table) map
+items-map n tag k q t j (x ∷ xs) map =
+    let r = sewCall n t j tag (x .i) (x .d) (x .e) in
+    let later = items-map n tag (suc k) (q + r .count) (r .table) (r .journal) xs in
+    if-eq (r .number) 0
+    (λ h. rw (item-next n tag k q t j x xs h) (later (op-map n (lent t [] j) tag (Op.sew (x .i) (x .d) (x .e)) h)))
+    (λ h. rw (item-stop n tag k q t j x xs h, item-untouched n tag k q t j x xs h .0) map)
 
 pub list-map : (n : ℕ) (t j : List ℕ) (tag : ℕ) (l : List ℕ) → isMap n t ≡ true → isMap n (sewListCall n t j tag l .table) ≡ true
 unfolding sewListCall refused

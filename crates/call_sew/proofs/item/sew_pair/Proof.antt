@@ -1,5 +1,5 @@
--- `call_sew::sew_in` meets its contract: both sides listed in step, or refused by 12; 15 by the number of changes; the sides joined and
--- the record drafted and closed.
+-- `call_sew::item::sew_pair` meets its contract: both sides listed in step, or refused by 12; 15 by the number of changes; the sides joined and
+-- the record drafted and closed; the marks taken back.
 use native.Mathlib.Omega.{arith}
 use borrow.Author.Needs.{needs}
 use borrow.Author.Tests.{not-true, not-false}
@@ -17,16 +17,16 @@ use Rattle.marked_links.specs.Marked.{MarkedRecord}
 use Rattle.call_sew.specs.Joins.{Joining, Joined}
 use Rattle.call_sew.proofs.Ends.{sew-unpaired, sew-goes, journal-rule, sides-apart, size-few, step-paired, changes-number}
 use Rattle.call_sew.proofs.Ends.{joining, sewn-record, sewn-drafted}
-use Rattle.call_sew.proofs.sew_in.Statement.{statement}
-use Rattle.call_sew.proofs.sew_in.Tie as tie
+use Rattle.call_sew.proofs.item.sew_pair.Statement.{statement}
+use Rattle.call_sew.proofs.item.sew_pair.Tie as tie
 
 -- ---- places in the code
 
 -- the function's entry, from where the sides are walked
 abbrev start : tie.After-in-step → tie.Start
-start s = s .before .before .before .before .before .before .before .before .before
+start s = s .before .before .before .before .before .before .before .before .before .before
 
-abbrev stepped : tie.After-slice-known7 → tie.After-in-step
+abbrev stepped : tie.After-slice-known8 → tie.After-in-step
 stepped c = c .before .before .before .before
 
 -- where they are paired, from where the record fits
@@ -35,11 +35,15 @@ paired c = c .before .before .before
 
 -- where the record fits, from where the sides are joined
 abbrev fitting : tie.After-join → tie.Else2
-fitting c = c .before .before .before .before .before
+fitting c = c .before .before .before .before .before .before
 
 -- where they are joined, from where the record is drafted
 abbrev joined : tie.After-write-marked → tie.After-join
-joined c = c .before .before .before .before .before .before .before .before
+joined c = c .before .before .before .before .before .before .before .before .before .before .before
+
+-- where the sides are walked, from the end
+abbrev listed : tie.After-slice-known15 → tie.After-in-step
+listed c = stepped (paired (fitting (joined (c .before .before .before .before .before .before .before .before .before .before .before .before .before .before .before))) .before)
 
 -- ---- what is known there
 
@@ -61,7 +65,7 @@ room c =
 joins : (c : tie.Else2) →
     let s = stepped (paired c .before) in
     let a = start s .args in
-    Joining (a .n) (a .table .now) (a .marks .now) (a .i) (a .d) (a .e)
+    Joining (a .n) (a .table .now) (a .marks .now) (a .groups .now) (a .i) (a .d) (a .e)
     (s .in-step .last .1 .1 .1 .1 .1 .0) (s .in-step .last .1 .1 .1 .1 .1 .1 .0) (s .in-step .result)
 joins c =
     let p = paired c in
@@ -69,13 +73,15 @@ joins c =
     let pre = start s .pre .1 in
     let long = s .in-step .kept .1 .1 .1 .1 .1 .0 in
     let wide = s .in-step .kept .1 .1 .1 .1 .1 .1 .0 in
-    let left = pre .1 .0 in
-    let right = pre .1 .1 in
-    joining (passed (start s)) (s .in-step .ensures) (p .if1 .left) (pre .0 .0) (pre .0 .1) (omega arith) (omega arith)
+    let left = pre .left in
+    let right = pre .right in
+    joining (passed (start s)) (s .in-step .ensures) (p .if1 .left) (pre .blank) (pre .wide) (omega arith) (omega arith)
 
 sewn : (c : tie.After-join) →
-    let a = start (stepped (paired (fitting c) .before)) .args in
-    Joined (a .n) (a .table .now) (a .i) (a .d) (a .e) (c .join .last .0) (c .join .last .1 .0)
+    let s = stepped (paired (fitting c) .before) in
+    let a = start s .args in
+    Joined (a .n) (a .table .now) (a .i) (a .d) (a .e) (s .in-step .last .1 .1 .1 .1 .1 .0) (s .in-step .last .1 .1 .1 .1 .1 .1 .0)
+    (s .in-step .result) (c .join .last .0) (c .join .last .1 .0) (c .join .last .1 .1 .0)
 sewn c = c .join .ensures _ _ _ (joins (fitting c))
 
 recorded : (c : tie.After-join) →
@@ -104,8 +110,8 @@ drafts c =
 
 in-step-requires : tie.Need-in-step-requires
 in-step-requires c κs =
-    let s = c .before .before .before .before .before .before .before .before in
-    sides-apart (passed s) (s .pre .1 .1 .0) (s .pre .1 .1 .1)
+    let s = c .before .before .before .before .before .before .before .before .before in
+    sides-apart (passed s) (s .pre .1 .left) (s .pre .1 .right)
 
 same-length : tie.Need-same-length
 same-length c = search needs
@@ -119,7 +125,7 @@ same-length-3 c = search needs
 returns : tie.Need-returns
 returns c =
     let s = stepped (c .before) in
-    sew-unpaired _ _ _ _ _ _ _ (start s .pre .0) (s .in-step .ensures .differs (c .if1 .taken))
+    (sew-unpaired _ _ _ _ _ _ _ (start s .pre .0) (s .in-step .ensures .differs (c .if1 .taken)), start s .pre .1 .blank)
 
 mul-changes : tie.Need-mul-changes
 mul-changes c =
@@ -152,17 +158,25 @@ returns-2 c =
     let p = c .before .before .before in
     let s = stepped (p .before) in
     let step = s .in-step .ensures in
-    commit-full _ _ _ _ _ _ _ (sew-goes _ _ _ _ _ _ _ (start s .pre .0) (step-paired (passed (start s)) step (p .if1 .left)))
-    (changes-number (passed (start s)) step (p .if1 .left)) (c .before .record-fits .ensures) (not-true _ (c .if2 .taken))
+    let goes = sew-goes _ _ _ _ _ _ _ (start s .pre .0) (step-paired (passed (start s)) step (p .if1 .left)) in (
+      commit-full _ _ _ _ _ _ _ goes (changes-number (passed (start s)) step (p .if1 .left)) (c .before .record-fits .ensures)
+      (not-true _ (c .if2 .taken)),
+      start s .pre .1 .blank,
+    )
 
 join-requires : tie.Need-join-requires
-join-requires c κs = record { n = _; d = _; e = _; is = joins (c .before .before .before .before) }
+join-requires c κs = record { n = _; d = _; e = _; is = joins (c .before .before .before .before .before) }
 
 write-marked-requires : tie.Need-write-marked-requires
-write-marked-requires c κs = record { v = _; is = recorded (c .before .before .before .before .before .before .before) }
+write-marked-requires c κs =
+    let j = c .before .before .before .before .before .before .before .before .before .before in
+    (record { v = _; is = recorded j }, sewn j .grouped)
 
 close-record-requires : tie.Need-close-record-requires
 close-record-requires c κs = draft-closes (drafts (c .before .before .before))
+
+unmark-requires : tie.Need-unmark-requires
+unmark-requires c κs = sewn (joined (c .before .before .before .before .before .before .before .before .before .before)) .unmarking
 
 same-length-8 : tie.Need-same-length-8
 same-length-8 c = search needs
@@ -177,11 +191,14 @@ same-length-11 : tie.Need-same-length-11
 same-length-11 c = search needs
 
 same-length-12 : tie.Need-same-length-12
-same-length-12 c = search needs
+same-length-12 c = listed c .in-step .kept .1 .1 .1 .1 .1 .0
+
+same-length-13 : tie.Need-same-length-13
+same-length-13 c = listed c .in-step .kept .1 .1 .1 .1 .1 .1 .0
 
 returns-3 : tie.Need-returns-3
 returns-3 c =
-    let closed = c .before .before in
+    let closed = c .before .before .before .before .before .before .before .before .before .before .before in
     let w = closed .before .before .before .before in
     let f = fitting (joined w) in
     let p = paired f in
@@ -189,12 +206,14 @@ returns-3 c =
     let step = s .in-step .ensures in
     let count = changes-number (passed (start s)) step (p .if1 .left) in
     let D = drafts w in
-    commit-done _ _ _ _ _ _ _ (sew-goes _ _ _ _ _ _ _ (start s .pre .0) (step-paired (passed (start s)) step (p .if1 .left)))
-    count (f .before .record-fits .ensures) (not-false _ (f .if2 .left))
-    (sewn (joined w) .table, closed .close-record .ensures _ _ (D .draft) (D .count)) refl count
+    let goes = sew-goes _ _ _ _ _ _ _ (start s .pre .0) (step-paired (passed (start s)) step (p .if1 .left)) in (
+      commit-done _ _ _ _ _ _ _ goes count (f .before .record-fits .ensures) (not-false _ (f .if2 .left))
+      (sewn (joined w) .table, closed .close-record .ensures _ _ (D .draft) (D .count)) refl count,
+      c .before .before .before .before .unmark .ensures,
+    )
 
-pub sew-in-spec : {M : Type 1} → statement M
-sew-in-spec =
+pub sew-pair-spec : {M : Type 1} → statement M
+sew-pair-spec =
     tie.close
     (tie.spec
     in-step-requires
@@ -212,9 +231,11 @@ sew-in-spec =
     join-requires
     write-marked-requires
     close-record-requires
+    unmark-requires
     same-length-8
     same-length-9
     same-length-10
     same-length-11
     same-length-12
+    same-length-13
     returns-3)
