@@ -166,13 +166,7 @@ pub fn sew(
 }
 
 // The items (i, d, e) of the list as single sews in order, up to the first that is refused: the table is tested once for all.
-pub fn sew_list(
-    n: u32,
-    table: &mut [u32],
-    journal: &mut [u32],
-    tag: u32,
-    list: &[u32],
-) -> Answer
+pub fn sew_list(n: u32, table: &mut [u32], journal: &mut [u32], tag: u32, list: &[u32]) -> Answer
     ensures { λ r. ⌜ outcome r (now (table .exit)) [] (now (journal .exit))
         ≡ sewListCall n (now (table .entry)) (now (journal .entry)) tag (now (list .entry)) ⌝ }
 {

@@ -1,17 +1,18 @@
 -- Darts that get the mark 1: where they have it all (`marking-none`, `marking-old`), one that has it not (`marking-new`), those of two sets
 -- (`marking-both`).
--- `marking-few`: no more than there are marks.
-use Prim.Native.Nat.{ℕ, _+_, _≤_, _<_}
+-- `marking-few`: no more than there are marks. `full-grouped`: where each group counts as marked, all marks are passed over one by one.
+use Prim.Native.Nat.{ℕ, _+_, _*_, _≤_, _<_}
 use mathlib.Core.Path.{_≡_, refl, sym, ap, _∙_, subst}
 use mathlib.Core.Logic.{_⊎_, inl, inr, _≢_, ⊎-elim}
 use mathlib.Core.List.{List}
 use native.Mathlib.Omega.{arith}
-use lib.ListN.{length, getD, set, length-set}
+use lib.ListN.{length, getD, set, replicate, length-set, length-replicate, getD-replicate, List·getD-eq-default}
 use lib.Seq.{getD-set-same, getD-set-other}
 use Rattle.model.specs.Meaning.Sets.{Marked}
-use Rattle.theorems.proofs.Lists.Scan.{if-eq}
+use Rattle.theorems.proofs.Lists.Scan.{if-eq, if-lt}
 use Rattle.theorems.proofs.Sets.Pigeon.{count-one, count-most}
-use Rattle.call_unsew.specs.Marking.{Marking}
+use Rattle.scans.specs.Clear.{Grouped}
+use Rattle.call_unsew.specs.Marking.{Marking, Full}
 
 -- they have it all
 pub marking-none : (m : List ℕ) {P : ℕ → Type 0} → ((x : ℕ) → P x → Marked m x) → Marking P m m 0
@@ -55,3 +56,18 @@ module _ {P : ℕ → Type 0} {m m′ : List ℕ} {r : ℕ} (M : Marking P m m�
     only = λ x h. ⊎-elim (λ k. ⊎-elim inl (λ p. inr (inl p)) (M .only x k)) (λ q. inr (inr q)) (N .only x h);
     new = let first = M .new in let second = N .new in omega arith;
   }
+
+-- ---- groups that count as marked
+
+pub full-grouped : {m m′ gs : List ℕ} → Full m gs → length m′ ≡ length m → Grouped m′ gs
+full-grouped {m} {m′} {gs} F long = record {
+  long = long ∙ F .long;
+  clear = λ g none z low high. if-lt g (length gs) (λ inside. absurd (omega (arith, none, F .marked g inside)))
+      (λ past. List·getD-eq-default m′ 0 (let all = F .long in omega arith));
+}
+
+pub full-new : (g : ℕ) → Full (replicate (256 * g) 0) (replicate g 1)
+full-new g =
+    let marks = length-replicate {A = ℕ} (256 * g) 0 in
+    let groups = length-replicate {A = ℕ} g 1 in
+    record { long = omega arith; marked = λ x low. getD-replicate g x 1 0 (omega arith) }

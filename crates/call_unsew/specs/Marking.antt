@@ -1,5 +1,5 @@
--- Darts that get the mark 1: what is left (`Marking`), and which darts they are (`Couple`, `Unsewn`).
-use Prim.Native.Nat.{ℕ, _+_, _≤_}
+-- Darts that get the mark 1: what is left (`Marking`), which darts they are (`Couple`, `Unsewn`), and buffers for it (`Wide`, `Full`).
+use Prim.Native.Nat.{ℕ, _+_, _*_, _≤_, _<_}
 use mathlib.Core.Path.{_≡_}
 use mathlib.Core.Logic.{_⊎_}
 use mathlib.Core.List.{List}
@@ -28,3 +28,8 @@ Unsewn n t i d z = (x : ℕ) × Marked (side n t i d) x × Couple t i x z
 -- each slot has a mark, and the marks are few
 abbrev pub Wide : List ℕ → List ℕ → Type 0
 Wide t m = (slots t ≤ length m) × (length m ≤ 65536)
+
+-- each group counts as marked
+pub record Full (m gs : List ℕ) : Type 0 where
+  pub long : length m ≡ 256 * length gs
+  pub marked : (g : ℕ) → g < length gs → Marked gs g

@@ -2,6 +2,7 @@
 // model's definition of the call.
 use answers::Answer;
 use answers::numbers;
+use reading::GROUP;
 use reading::LARGE;
 use reading::MIDDLE;
 use reading::SMALL;
@@ -17,7 +18,7 @@ ghost use Rattle.model.specs.Meaning.Sets.{Marked};
 ghost use Rattle.model.specs.Meaning.Pairings.{OnSide};
 ghost use Rattle.sides.specs.Turns.{Linked};
 ghost use Rattle.answers.specs.Answers.{outcome};
-ghost use Rattle.call_unsew.specs.Marking.{Marking, Couple, Unsewn, Wide};
+ghost use Rattle.call_unsew.specs.Marking.{Marking, Couple, Unsewn, Wide, Full};
 
 // The dart x gets the mark 1; 0 if it has it already, else 1.
 fn mark(marks: &mut [u8], x: u32) -> u32
@@ -64,7 +65,8 @@ fn mark_side(n: u32, table: &[u32], marks: &mut [u8], i: u32, d: u32) -> u32
     }
 }
 
-// unsew, where its checks have passed, with marks for the slots, of which none is set: one entry changes for each dart that is marked.
+// unsew, where its checks have passed, with marks for the slots, of which none is set, and groups that all count as marked: one entry
+// changes for each dart that is marked.
 fn unsew_in(
     n: u32,
     table: &mut [u32],
@@ -73,9 +75,10 @@ fn unsew_in(
     i: u32,
     d: u32,
     marks: &mut [u8],
+    groups: &[u8],
 ) -> Answer
     requires { ⌜ inOrder (unsewChecks n (now table) (now journal) i d) ≡ pass ⌝ }
-    requires { ⌜ ((x : ℕ) → Marked (now marks) x → ⊥) × (Wide (now table) (now marks)) ⌝ }
+    requires { ⌜ ((x : ℕ) → Marked (now marks) x → ⊥) × (Wide (now table) (now marks)) × (Full (now marks) (now groups)) ⌝ }
     ensures { λ r. ⌜ outcome r (now (table .exit)) [] (now (journal .exit))
         ≡ unsewCall n (now (table .entry)) (now (journal .entry)) tag i d ⌝ }
 {
@@ -83,7 +86,7 @@ fn unsew_in(
     if !journal::record_fits(journal, changes) {
         return numbers::NO_ROOM;
     }
-    marked_links::write_marked(table, journal, marks, i, false);
+    marked_links::write_marked(table, journal, marks, groups, i, false);
     drafts::carry_out(table, journal, changes, tag);
     Answer {
         number: 0,
@@ -105,10 +108,12 @@ fn unsew_large(n: u32, table: &mut [u32], journal: &mut [u32], tag: u32, i: u32,
     }
     if table.len() <= 4 * MIDDLE {
         let mut marks = [0u8; MIDDLE];
-        return unsew_in(n, table, journal, tag, i, d, &mut marks);
+        let groups = [1u8; MIDDLE / GROUP];
+        return unsew_in(n, table, journal, tag, i, d, &mut marks, &groups);
     }
     let mut marks = [0u8; LARGE];
-    unsew_in(n, table, journal, tag, i, d, &mut marks)
+    let groups = [1u8; LARGE / GROUP];
+    unsew_in(n, table, journal, tag, i, d, &mut marks, &groups)
 }
 
 // "Count: entries changed." A small table does not pay for clearing large buffers.
@@ -125,7 +130,8 @@ pub fn unsew(n: u32, table: &mut [u32], journal: &mut [u32], tag: u32, i: u32, d
     }
     if table.len() <= 4 * SMALL {
         let mut marks = [0u8; SMALL];
-        return unsew_in(n, table, journal, tag, i, d, &mut marks);
+        let groups = [1u8; SMALL / GROUP];
+        return unsew_in(n, table, journal, tag, i, d, &mut marks, &groups);
     }
     unsew_large(n, table, journal, tag, i, d)
 }

@@ -10,6 +10,7 @@ use Rattle.theorems.proofs.Calls.Checks.{not-pass}
 use Rattle.reading.proofs.table_fits.Reads as table-fits
 use Rattle.answers.proofs.Verdicts.{refuses}
 use Rattle.answers.proofs.Given.{room-given, room-small}
+use Rattle.call_unsew.proofs.Marks.{full-new}
 use Rattle.call_unsew.proofs.Ends.{table-rule}
 use Rattle.call_unsew.proofs.unsew_in.Reads as unsew-in
 use Rattle.call_unsew.proofs.unsew_large.Reads as unsew-large
@@ -70,11 +71,14 @@ module _ (t : ℕ) where
   slice-aggregate-unsew-in : lts.Need-slice-aggregate-unsew-in claims given unsew-large.Post
   slice-aggregate-unsew-in c = search needs
 
+  slice-aggregate-unsew-in-2 : lts.Need-slice-aggregate-unsew-in-2 claims given unsew-large.Post
+  slice-aggregate-unsew-in-2 c = search needs
+
   unsew-in-requires : lts.Need-unsew-in-requires claims given unsew-large.Post
   unsew-in-requires c κs =
-      let small = c .before .before .before in
+      let small = c .before .before .before .before in
       let h = start (small .before .before) .pre .1 in
-      (h, (none-marked 16384, (room-small 16384 _ (table-rule _ _ _ _ _ h) (small .if2 .taken), omega arith)))
+      (h, (none-marked 16384, (room-small 16384 _ (table-rule _ _ _ _ _ h) (small .if2 .taken), omega arith), full-new 64))
 
   same-length-3 : lts.Need-same-length-3 claims given unsew-large.Post
   same-length-3 c = search needs
@@ -85,13 +89,16 @@ module _ (t : ℕ) where
   returns-2 : lts.Need-returns-2 claims given unsew-large.Post
   returns-2 c = search needs
 
-  slice-aggregate-unsew-in-2 : lts.Need-slice-aggregate-unsew-in-2 claims given unsew-large.Post
-  slice-aggregate-unsew-in-2 c = search needs
+  slice-aggregate-unsew-in-3 : lts.Need-slice-aggregate-unsew-in-3 claims given unsew-large.Post
+  slice-aggregate-unsew-in-3 c = search needs
+
+  slice-aggregate-unsew-in-4 : lts.Need-slice-aggregate-unsew-in-4 claims given unsew-large.Post
+  slice-aggregate-unsew-in-4 c = search needs
 
   unsew-in-requires-2 : lts.Need-unsew-in-requires-2 claims given unsew-large.Post
   unsew-in-requires-2 c κs =
-      let h = start (c .before .before .before .before .before) .pre .1 in
-      (h, (none-marked 65536, (room-given _ (table-rule _ _ _ _ _ h), omega arith)))
+      let h = start (c .before .before .before .before .before .before) .pre .1 in
+      (h, (none-marked 65536, (room-given _ (table-rule _ _ _ _ _ h), omega arith), full-new 256))
 
   same-length-5 : lts.Need-same-length-5 claims given unsew-large.Post
   same-length-5 c = search needs
@@ -111,11 +118,13 @@ pub +unsew-large-spec : {M : Type 1} → statement M
     (returns t)
     (mul-if2 t)
     (slice-aggregate-unsew-in t)
+    (slice-aggregate-unsew-in-2 t)
     (unsew-in-requires t)
     (same-length-3 t)
     (same-length-4 t)
     (returns-2 t)
-    (slice-aggregate-unsew-in-2 t)
+    (slice-aggregate-unsew-in-3 t)
+    (slice-aggregate-unsew-in-4 t)
     (unsew-in-requires-2 t)
     (same-length-5 t)
     (same-length-6 t)

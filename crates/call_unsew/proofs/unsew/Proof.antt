@@ -12,6 +12,7 @@ use Rattle.answers.proofs.Verdicts.{clear-passes, clear-refuses}
 use Rattle.answers.proofs.Settled.{Opening, opened, handed-on}
 use Rattle.answers.proofs.Opened.{opened-side}
 use Rattle.answers.proofs.Given.{room-small}
+use Rattle.call_unsew.proofs.Marks.{full-new}
 use Rattle.call_unsew.proofs.Ends.{unsew-refused, sewn-test, table-rule}
 use Rattle.call_unsew.proofs.unsew.Statement.{statement}
 use Rattle.call_unsew.proofs.unsew.Tie as tie
@@ -97,11 +98,14 @@ mul-if3 c = search needs
 slice-aggregate-unsew-in : tie.Need-slice-aggregate-unsew-in
 slice-aggregate-unsew-in c = search needs
 
+slice-aggregate-unsew-in-2 : tie.Need-slice-aggregate-unsew-in-2
+slice-aggregate-unsew-in-2 c = search needs
+
 unsew-in-requires : tie.Need-unsew-in-requires
 unsew-in-requires c κs =
-    let small = c .before .before .before in
+    let small = c .before .before .before .before in
     let h = all-pass (small .before) in
-    (h, (none-marked 2048, (room-small 2048 _ (table-rule _ _ _ _ _ h) (small .if3 .taken), omega arith)))
+    (h, (none-marked 2048, (room-small 2048 _ (table-rule _ _ _ _ _ h) (small .if3 .taken), omega arith), full-new 8))
 
 same-length-5 : tie.Need-same-length-5
 same-length-5 c = search needs
@@ -139,6 +143,7 @@ unsew-spec =
     returns-2
     mul-if3
     slice-aggregate-unsew-in
+    slice-aggregate-unsew-in-2
     unsew-in-requires
     same-length-5
     same-length-6

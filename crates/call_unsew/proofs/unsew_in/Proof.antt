@@ -11,6 +11,7 @@ use Rattle.drafts.specs.Passes.{Room, Drafted}
 use Rattle.drafts.proofs.Commits.{fits-room}
 use Rattle.answers.proofs.Commits.{commit-full, commit-done}
 use Rattle.marked_links.specs.Marked.{MarkedRecord}
+use Rattle.call_unsew.proofs.Marks.{full-grouped}
 use Rattle.call_unsew.proofs.Ends.{unsew-goes, journal-rule, changes-number, unsewn-record, unsewn-drafted}
 use Rattle.call_unsew.proofs.unsew_in.Statement.{statement}
 use Rattle.call_unsew.proofs.unsew_in.Tie as tie
@@ -19,7 +20,7 @@ use Rattle.call_unsew.proofs.unsew_in.Tie as tie
 
 -- the function's entry, from where the darts are marked
 abbrev start : tie.After-mark-side → tie.Start
-start c = c .before .before .before .before .before .before
+start c = c .before .before .before .before .before .before .before
 
 -- where they are marked, from where the record is measured
 abbrev marked : tie.After-record-fits → tie.After-mark-side
@@ -71,7 +72,7 @@ drafts c =
 
 mark-side-requires : tie.Need-mark-side-requires
 mark-side-requires c κs =
-    let s = c .before .before .before .before .before in
+    let s = c .before .before .before .before .before .before in
     (unsew-side (passed s), s .pre .1 .1)
 
 record-fits-requires : tie.Need-record-fits-requires
@@ -100,7 +101,10 @@ returns c =
     (c .before .record-fits .ensures) (not-true _ (c .if1 .taken))
 
 write-marked-requires : tie.Need-write-marked-requires
-write-marked-requires c κs = record { v = _; is = recorded (c .before .before .before) }
+write-marked-requires c κs =
+    let f = c .before .before .before in
+    let m = marked (f .before) in
+    (record { v = _; is = recorded f }, full-grouped (start m .pre .1 .2) (m .mark-side .ensures .long))
 
 carry-out-requires : tie.Need-carry-out-requires
 carry-out-requires c κs = record { u = _; j = _; drafted = drafts (c .before .before .before .before) }

@@ -107,7 +107,7 @@ sew-answer n t j tag i d e ready =
     let o = lent t [] j in
     let r = sewCall n t j tag i d e in (
       if-eq (r .number) 0 (λ h. ap (λ (x : Outcome). x .place) (call-done n o c h))
-      (λ h. let other = sew-number n t j tag i d e ready h in place-of-others n o c h (other .0) (other .1)),
+          (λ h. let other = sew-number n t j tag i d e ready h in place-of-others n o c h (other .0) (other .1)),
       sew-marks n t j tag i d e,
       λ h. count-of-others n o c h (sew-number n t j tag i d e ready h .0),
     )

@@ -160,7 +160,7 @@ returns-2 c =
     let step = s .in-step .ensures in
     let goes = sew-goes _ _ _ _ _ _ _ (start s .pre .0) (step-paired (passed (start s)) step (p .if1 .left)) in (
       commit-full _ _ _ _ _ _ _ goes (changes-number (passed (start s)) step (p .if1 .left)) (c .before .record-fits .ensures)
-      (not-true _ (c .if2 .taken)),
+          (not-true _ (c .if2 .taken)),
       start s .pre .1 .blank,
     )
 
@@ -208,7 +208,7 @@ returns-3 c =
     let D = drafts w in
     let goes = sew-goes _ _ _ _ _ _ _ (start s .pre .0) (step-paired (passed (start s)) step (p .if1 .left)) in (
       commit-done _ _ _ _ _ _ _ goes count (f .before .record-fits .ensures) (not-false _ (f .if2 .left))
-      (sewn (joined w) .table, closed .close-record .ensures _ _ (D .draft) (D .count)) refl count,
+          (sewn (joined w) .table, closed .close-record .ensures _ _ (D .draft) (D .count)) refl count,
       c .before .before .before .before .unmark .ensures,
     )
 
