@@ -1,8 +1,8 @@
 /* yardstick.c - the calls of 01 and the requests of 02 that have landed (docs/REFERENCE.md has
  * both), in C99, tuned: what a careful engineer gets without proofs.
  *
- * Every call validates its whole input in one pass over the table and takes
- * time linear in slots plus entries written. Nothing is kept between calls but the lent buffers;
+ * Every call, one with a list of sews too, validates its whole input in one pass over the table and
+ * takes time linear in slots plus entries written. Nothing is kept between calls but the lent buffers;
  * the static scratch is written by a call before it is read (so: one call at a time).
  *
  * Functions marked INLINE take the dimension (or mask, or axis order) as a constant and are
@@ -229,6 +229,20 @@ COLD answer not_a_map(uint32_t n, const uint32_t *table, uint32_t slots)
             if (!returns(table, slots, d, i, j))
                 return (answer){25, d, i};
     return (answer){26, d, 3};
+}
+
+/* Gates 1, 2, 4 and 5 (24 to 26), of a call that takes any map and a journal: number 0 if they
+ * are passed. */
+static answer map_gate(uint32_t n, const uint32_t *table, size_t table_len,
+                       const uint32_t *journal, size_t journal_len)
+{
+    uint32_t no = gate(n, table_len);
+    if (no)
+        return refuse(no);
+    if (!journal_fits(journal, journal_len))
+        return refuse(4);
+    uint32_t slots = (uint32_t)(table_len / 4);
+    return map_ok(n, table, slots) ? accept(0, 0) : not_a_map(n, table, slots);
 }
 
 /* ---------------------------------------------------------------- cells */
@@ -675,7 +689,7 @@ uint32_t YARD(add)(uint32_t n, uint32_t *table, size_t table_len,
                        : add_in(2, table, slots, journal, journal_len, tag), place, count);
 }
 
-/* ---------------------------------------------------------------- sew, unsew */
+/* ---------------------------------------------------------------- sew, sew_list, unsew */
 
 /* The links j <= n with |j - i| >= 2 (never more than two) into links; gives their number. */
 static int side_links(uint32_t n, uint32_t i, uint32_t links[2])
@@ -734,11 +748,29 @@ static void sort_short(uint32_t *a, uint32_t len)
     }
 }
 
+/* Sorts slots, rising: by the low byte, then by the high one. */
+static void sort_by_bytes(uint32_t *a, uint32_t len)
+{
+    uint32_t *from = a, *to = work;
+    for (int shift = 0; shift < 16; shift += 8) {
+        uint32_t start[257] = {0}, *swap = from;
+        for (uint32_t x = 0; x < len; x++)
+            start[(from[x] >> shift & 255) + 1]++;
+        for (int b = 0; b < 256; b++)
+            start[b + 1] += start[b];
+        for (uint32_t x = 0; x < len; x++)
+            to[start[from[x] >> shift & 255]++] = from[x];
+        from = to;
+        to = swap;
+    }
+}
+
 /* The slots of both columns of the pairs, rising and without repeats, into list; gives their
- * number. Short lists are sorted, long ones set in a byte map and read back. */
+ * number. They are sorted, but where they are many beside all slots: then they are set in a byte
+ * map and read back. */
 static uint32_t rising(uint32_t size, uint32_t slots)
 {
-    if (size > 64) {
+    if (size > 64 && size > slots / 64) {
         memset(seen, 0, slots);
         for (uint32_t p = 0; p < size; p++)
             seen[pairs[p][0]] = seen[pairs[p][1]] = 1;
@@ -748,7 +780,10 @@ static uint32_t rising(uint32_t size, uint32_t slots)
         list[2 * p] = pairs[p][0];
         list[2 * p + 1] = pairs[p][1];
     }
-    sort_short(list, 2 * size);
+    if (size > 64)
+        sort_by_bytes(list, 2 * size);
+    else
+        sort_short(list, 2 * size);
     uint32_t len = 1;
     for (uint32_t x = 1; x < 2 * size; x++)
         if (list[x] != list[len - 1])
@@ -756,18 +791,11 @@ static uint32_t rising(uint32_t size, uint32_t slots)
     return len;
 }
 
-static answer sew(uint32_t n, uint32_t *table, size_t table_len,
-                  uint32_t *journal, size_t journal_len, uint32_t tag,
-                  uint32_t i, uint32_t d, uint32_t e)
+/* Sew behind gate 5, in a map, which it stays: the time goes by the two sides. */
+static answer sew_in_map(uint32_t n, uint32_t *table, uint32_t slots,
+                         uint32_t *journal, size_t journal_len, uint32_t tag,
+                         uint32_t i, uint32_t d, uint32_t e)
 {
-    uint32_t no = gate(n, table_len);
-    if (no)
-        return refuse(no);
-    if (!journal_fits(journal, journal_len))
-        return refuse(4);
-    uint32_t slots = (uint32_t)(table_len / 4);
-    if (!map_ok(n, table, slots))
-        return not_a_map(n, table, slots);
     if (i > n)
         return refuse(6);
     if (!live(table, slots, d) || !live(table, slots, e))
@@ -798,6 +826,16 @@ static answer sew(uint32_t n, uint32_t *table, size_t table_len,
     return accept(0, 2 * size);
 }
 
+static answer sew(uint32_t n, uint32_t *table, size_t table_len,
+                  uint32_t *journal, size_t journal_len, uint32_t tag,
+                  uint32_t i, uint32_t d, uint32_t e)
+{
+    answer gated = map_gate(n, table, table_len, journal, journal_len);
+    if (gated.no)
+        return gated;
+    return sew_in_map(n, table, (uint32_t)(table_len / 4), journal, journal_len, tag, i, d, e);
+}
+
 uint32_t YARD(sew)(uint32_t n, uint32_t *table, size_t table_len,
                    uint32_t *journal, size_t journal_len, uint32_t tag,
                    uint32_t i, uint32_t d, uint32_t e, uint32_t *place, uint32_t *count)
@@ -805,17 +843,43 @@ uint32_t YARD(sew)(uint32_t n, uint32_t *table, size_t table_len,
     return give(sew(n, table, table_len, journal, journal_len, tag, i, d, e), place, count);
 }
 
+/* Items of three words: i, d, e. */
+static answer sew_list(uint32_t n, uint32_t *table, size_t table_len,
+                       uint32_t *journal, size_t journal_len, uint32_t tag,
+                       const uint32_t *items, size_t items_len)
+{
+    answer gated = map_gate(n, table, table_len, journal, journal_len);
+    if (gated.no)
+        return gated;
+    if (items_len % 3 != 0)
+        return refuse(38);
+    uint32_t slots = (uint32_t)(table_len / 4), changed = 0;
+    for (size_t x = 0; x < items_len; x += 3) {
+        answer a = sew_in_map(n, table, slots, journal, journal_len, tag,
+                              items[x], items[x + 1], items[x + 2]);
+        if (a.no)
+            return (answer){a.no, (uint32_t)(x / 3) + 1, changed};
+        changed += a.count;
+    }
+    return accept(0, changed);
+}
+
+uint32_t YARD(sew_list)(uint32_t n, uint32_t *table, size_t table_len,
+                        uint32_t *journal, size_t journal_len, uint32_t tag,
+                        const uint32_t *items, size_t items_len,
+                        uint32_t *place, uint32_t *count)
+{
+    return give(sew_list(n, table, table_len, journal, journal_len, tag, items, items_len),
+                place, count);
+}
+
 static answer unsew(uint32_t n, uint32_t *table, size_t table_len,
                     uint32_t *journal, size_t journal_len, uint32_t tag, uint32_t i, uint32_t d)
 {
-    uint32_t no = gate(n, table_len);
-    if (no)
-        return refuse(no);
-    if (!journal_fits(journal, journal_len))
-        return refuse(4);
+    answer gated = map_gate(n, table, table_len, journal, journal_len);
+    if (gated.no)
+        return gated;
     uint32_t slots = (uint32_t)(table_len / 4);
-    if (!map_ok(n, table, slots))
-        return not_a_map(n, table, slots);
     if (i > n)
         return refuse(6);
     if (!live(table, slots, d))
@@ -1232,14 +1296,10 @@ INLINE int near_ok(int n, const uint32_t *table, uint32_t slots, const uint32_t 
 static answer replay(uint32_t n, uint32_t *table, size_t table_len,
                      uint32_t *journal, size_t journal_len, int back)
 {
-    uint32_t no = gate(n, table_len);
-    if (no)
-        return refuse(no);
-    if (!journal_fits(journal, journal_len))
-        return refuse(4);
+    answer gated = map_gate(n, table, table_len, journal, journal_len);
+    if (gated.no)
+        return gated;
     uint32_t slots = (uint32_t)(table_len / 4);
-    if (!map_ok(n, table, slots))
-        return not_a_map(n, table, slots);
 
     /* Where the record lies: its first count, its tag, its triples, its last count. */
     uint32_t cursor = journal[0], space = back ? cursor - 2 : journal[1] - cursor;

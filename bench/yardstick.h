@@ -25,6 +25,10 @@ uint32_t yard_sew(uint32_t n, uint32_t *table, size_t table_len,
                  uint32_t *journal, size_t journal_len, uint32_t tag,
                  uint32_t i, uint32_t d, uint32_t e, uint32_t *place, uint32_t *count);
 
+uint32_t yard_sew_list(uint32_t n, uint32_t *table, size_t table_len,
+                      uint32_t *journal, size_t journal_len, uint32_t tag,
+                      const uint32_t *list, size_t list_len, uint32_t *place, uint32_t *count);
+
 uint32_t yard_unsew(uint32_t n, uint32_t *table, size_t table_len,
                    uint32_t *journal, size_t journal_len, uint32_t tag,
                    uint32_t i, uint32_t d, uint32_t *place, uint32_t *count);
