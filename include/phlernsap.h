@@ -1,5 +1,5 @@
-/* phlernsap.h - a proved topology kernel for hexahedral blocking: eleven calls over lent buffers.
- * Version 1.1.
+/* phlernsap.h - a proved topology kernel for hexahedral blocking: twelve calls over lent buffers.
+ * Version 1.2.
  *
  * This file is the manual for programs in C and C++. docs/REFERENCE.md has the same with drawings,
  * examples/c has programs: three_quads.c; grid.c, which builds and cuts 2 x 2 x 2 hexahedra; and
@@ -17,6 +17,7 @@
  * A call takes at most 300,000 bytes of stack, insert at most 400,000, and each at most 16,384 on a
  * table of up to 2,048 slots (bench/README.md has the figures measured). Every call reads the whole
  * table, to see that it is a map: its time is linear in the length of the table, whatever it changes.
+ * phl_sew_list reads it once for its whole list; each item then takes what its two sides take.
  *
  *
  * 2. Words
@@ -81,6 +82,8 @@
  *            never writes them; for every other call what they hold does not matter.
  *   journal  journal_len words, 2 to PHL_MAX_JOURNAL. To begin: journal[0] = journal[1] = PHL_FRESH.
  *            Word 0 is the cursor, word 1 the end; from then on only the calls write it.
+ *   list     list_len words, three to an item: i, d and e, as phl_sew takes them. There may be any
+ *            number of them, also none. phl_sew_list reads them and never writes them.
  *   place, count   where the call stores place and count.
  *
  * What the caller owes: lengths are in elements, not in bytes, and are those of the buffers; each
@@ -97,6 +100,11 @@
  * 24, 25, 26 and 8, its count 0 but for 5, 24, 25 and 26. It leaves the marks too, but that
  * phl_remove and phl_split refused by 13, 14 or 15 leave the sheet's marks.
  *
+ * phl_sew_list makes the checks up to 38 once, before any item, and its refusals by them are as
+ * above. Then it checks each item in its turn, from 6 on. Where an item is refused, place says which,
+ * counted from 1. The items before it stand, and count is the entries that they changed; the item
+ * itself and those behind it change nothing.
+ *
  *
  * 6. Steps, undo and redo
  *
@@ -105,10 +113,13 @@
  * PHL_RECORD_WORDS(k) = 3k+3 words: k, the tag, k triples (entry, old value, new value) by rising
  * entry, k. Cursor and end go behind it, so what was undone before is gone. phl_undo and phl_redo put
  * values back and move the cursor. The tag is any number of the caller's, to name the step by: undo
- * and redo give it back as place. How many entries change:
+ * and redo give it back as place. Each item of phl_sew_list is an operation of its own, and a step if
+ * it is accepted, also where a later one is refused; all of them have the one tag. How many entries
+ * change:
  *
  *     phl_add      32 (n = 2), 192 (n = 3)
  *     phl_sew      2 for each dart of the side: for i = n 4 (n = 2), 16 (n = 3)
+ *     phl_sew_list the same for each item: for i = n a record of 15 words (n = 2), 51 (n = 3)
  *     phl_unsew    the same (for a side sewn onto itself, 1 for each)
  *     phl_remove   4 for each dart removed, the marks 1 and 2, and 1 for each mark 3
  *     phl_split    9 (n = 2) or 13 (n = 3) for each dart of the sheet
@@ -143,10 +154,10 @@ extern "C" {
 #endif
 
 /* The version: MAJOR changes where a program, a table or a journal of before may not fit any more,
- * MINOR where something is new. 1.1 has phl_insert and its numbers. */
+ * MINOR where something is new. 1.1 has phl_insert and its numbers, 1.2 phl_sew_list and 38. */
 #define PHL_VERSION_MAJOR 1
-#define PHL_VERSION_MINOR 1
-#define PHL_VERSION "1.1"
+#define PHL_VERSION_MINOR 2
+#define PHL_VERSION "1.2"
 
 /* Each entry of an unused slot. */
 #define PHL_UNUSED UINT32_C(4294967295)
@@ -181,6 +192,7 @@ enum phl_number {
     PHL_PAIR_NOT_RETURNING = 25, /* i, j, i, j with i + 2 <= j <= n leads elsewhere, or meets a slot
                                     that is not live; count: i */
     PHL_LINK_3_NOT_FREE = 26,    /* n is 2, and link 3 leaves its dart; count: 3 */
+    PHL_WRONG_LIST_LENGTH = 38,  /* list_len is no multiple of 3 */
     PHL_OUT_OF_RANGE = 6,        /* i above n, or mask above 2^(n+1) - 1 */
     PHL_NOT_LIVE = 7,            /* d or e is not a live slot */
     PHL_NO_BLOCK_MAP = 8,        /* not a block map; place: the least slot in a wrong cell */
@@ -236,6 +248,19 @@ uint32_t phl_add(uint32_t n, uint32_t *table, size_t table_len,
 uint32_t phl_sew(uint32_t n, uint32_t *table, size_t table_len,
                  uint32_t *journal, size_t journal_len, uint32_t tag,
                  uint32_t i, uint32_t d, uint32_t e, uint32_t *place, uint32_t *count);
+
+/* Sews a whole list: does what phl_sew would for its items (i, d, e), one after the other, each with
+ * this tag and a record of its own, and stops at the first that is refused. The number is that item's,
+ * or 0 if all are accepted, as those of an empty list are. Place: the item refused, counted from 1,
+ * else 0. Count: entries changed by the items that stand: all of them, or those before the refused.
+ *
+ * To go on at the refused item: with the words from list + 3 * (place - 1) on. To take a list back:
+ * phl_undo as many times as items stand, list_len / 3 or place - 1.
+ * Numbers: 1 2 4 5 24 25 26 38 6 7 9 10 12 15. */
+uint32_t phl_sew_list(uint32_t n, uint32_t *table, size_t table_len,
+                      uint32_t *journal, size_t journal_len, uint32_t tag,
+                      const uint32_t *list, size_t list_len,
+                      uint32_t *place, uint32_t *count);
 
 /* Makes each dart of d's side for link i, and the dart that its link i leads to, i-free. Count:
  * entries changed. Numbers: 1 2 4 5 24 25 26 6 7 11 15. */

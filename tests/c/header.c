@@ -11,6 +11,7 @@ uint32_t call_each(void)
     enum { SLOTS = 8, ENTRIES = 4 * SLOTS, WORDS = 2 + PHL_RECORD_WORDS(ENTRIES), TAG = 7 };
     static uint32_t table[ENTRIES], journal[WORDS];
     static uint8_t marks[SLOTS];
+    static const uint32_t list[3] = {2, 0, 4};
     uint32_t place, count, sum = 0;
     for (int k = 0; k < ENTRIES; k++)
         table[k] = PHL_UNUSED;
@@ -20,6 +21,7 @@ uint32_t call_each(void)
     sum += phl_orbit(2, table, ENTRIES, marks, SLOTS, 3, 0, &place, &count);
     sum += phl_sheet(2, table, ENTRIES, marks, SLOTS, 0, &place, &count);
     sum += phl_sew(2, table, ENTRIES, journal, WORDS, TAG, 2, 5, 2, &place, &count);
+    sum += phl_sew_list(2, table, ENTRIES, journal, WORDS, TAG, list, 3, &place, &count);
     sum += phl_unsew(2, table, ENTRIES, journal, WORDS, TAG, 2, 5, &place, &count);
     sum += phl_remove(2, table, ENTRIES, marks, SLOTS, journal, WORDS, TAG, 0, &place, &count);
     sum += phl_split(2, table, ENTRIES, marks, SLOTS, journal, WORDS, TAG, 0, &place, &count);
@@ -47,6 +49,7 @@ int kind_of(uint32_t x)
     case PHL_LINK_NOT_RETURNED:
     case PHL_PAIR_NOT_RETURNING:
     case PHL_LINK_3_NOT_FREE:
+    case PHL_WRONG_LIST_LENGTH:
     case PHL_OUT_OF_RANGE:
     case PHL_NOT_LIVE:
     case PHL_NO_BLOCK_MAP:
