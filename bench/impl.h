@@ -8,10 +8,13 @@
 #include "../include/phlernsap.h"
 #include "yardstick.h"
 
-enum call { CHECK, ORBIT, SHEET, ADD, SEW, UNSEW, REMOVE, SPLIT, INSERT, UNDO, REDO, CALLS };
+enum call {
+    CHECK, ORBIT, SHEET, ADD, SEW, SEW_LIST, UNSEW, REMOVE, SPLIT, INSERT, UNDO, REDO, CALLS
+};
 
 static const char *const call_name[CALLS] = {
-    "check", "orbit", "sheet", "add", "sew", "unsew", "remove", "split", "insert", "undo", "redo",
+    "check", "orbit", "sheet", "add", "sew", "sew_list", "unsew", "remove", "split", "insert",
+    "undo", "redo",
 };
 
 typedef struct { uint32_t no, place, count; } answer;
@@ -27,6 +30,8 @@ typedef struct {
     uint32_t *journal;
     size_t journal_len;
     uint32_t i, mask, d, e, tag;
+    const uint32_t *list;
+    size_t list_len;
 } request;
 
 /* Defines NAME, which runs a request on the implementation of that prefix. The place and the
@@ -49,6 +54,9 @@ typedef struct {
         case SEW:                                                                                 \
             return PREFIX##sew(q->n, q->table, q->table_len, q->journal, q->journal_len, q->tag,  \
                                q->i, q->d, q->e, place, count);                                   \
+        case SEW_LIST:                                                                            \
+            return PREFIX##sew_list(q->n, q->table, q->table_len, q->journal, q->journal_len,     \
+                                    q->tag, q->list, q->list_len, place, count);                  \
         case UNSEW:                                                                               \
             return PREFIX##unsew(q->n, q->table, q->table_len, q->journal, q->journal_len,        \
                                  q->tag, q->i, q->d, place, count);                               \

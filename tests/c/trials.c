@@ -9,13 +9,13 @@
 
 DEFINE_RUN(run_yard, yard_)
 
-enum { SLOTS = MAX_SLOTS + 1, WORDS = 443000, LINE = 1000, MOST_NUMBERS = 3 };
+enum { SLOTS = MAX_SLOTS + 1, WORDS = 443000, LIST = 96, LINE = 1000, MOST_NUMBERS = 3 };
 
-static uint32_t table[4 * SLOTS], journal[WORDS];
+static uint32_t table[4 * SLOTS], journal[WORDS], list[LIST];
 static uint8_t marks[SLOTS], drawn[SLOTS];
 
 /* What the calls are given from here on. */
-static request given = {CHECK, 0, table, 0, marks, 0, journal, 0, 0, 0, 0, 0, 0};
+static request given = {CHECK, 0, table, 0, marks, 0, journal, 0, 0, 0, 0, 0, 0, list, 0};
 
 /* The numbers of the line, and how many it has. */
 static uint32_t number[MOST_NUMBERS];
@@ -86,6 +86,7 @@ static void play_scene(void)
     given.table_len = 4 * given.marks_len;
     given.journal_len = number[2];
     given.tag = 0;
+    given.list_len = 0;
     map_clear(table, number[1]);
     memset(drawn, 0, sizeof drawn);
     for (uint32_t k = 0; k < number[2]; k++)
@@ -100,6 +101,23 @@ static void play_tile(uint32_t first, uint32_t width)
         drawn[d] = drawn[d - width];
 }
 
+/* A word behind the list, if there is room for it. */
+static void play_word(uint32_t word)
+{
+    if (given.list_len < LIST)
+        list[given.list_len++] = word;
+    else
+        printf(" ?");
+}
+
+/* Sew_list, after which the list is empty. */
+static void play_list(request q)
+{
+    q.call = SEW_LIST;
+    play_call(q);
+    given.list_len = 0;
+}
+
 /* Whether the line has this first word and so many numbers. */
 static int is(const char *line, const char *word, int count)
 {
@@ -108,12 +126,12 @@ static int is(const char *line, const char *word, int count)
         && (line[len] == 0 || line[len] == ' ');
 }
 
-/* Whether the line is a call; its arguments go to q. */
+/* Whether the line is a call, other than sew_list; its arguments go to q. */
 static int is_call(const char *line, request *q)
 {
-    static const int arguments[CALLS] = {0, 2, 1, 0, 3, 2, 1, 1, 0, 0, 0};
+    static const int arguments[CALLS] = {0, 2, 1, 0, 3, 0, 2, 1, 1, 0, 0, 0};
     for (int call = 0; call < CALLS; call++) {
-        if (!is(line, call_name[call], arguments[call]))
+        if (call == SEW_LIST || !is(line, call_name[call], arguments[call]))
             continue;
         q->call = (enum call)call;
         q->i = q->mask = number[0];
@@ -147,6 +165,14 @@ static void play(const char *line)
         play_with(UNDO, a, b);
     else if (is(line, "redo with", 2))
         play_with(REDO, a, b);
+    else if (is(line, "item", 3)) {
+        play_word(a);
+        play_word(b);
+        play_word(c);
+    } else if (is(line, "word", 1))
+        play_word(a);
+    else if (is(line, "sewlist", 0))
+        play_list(q);
     else if (is(line, "scene", 3))
         play_scene();
     else if (is(line, "dim", 1))
