@@ -31,6 +31,14 @@ void map_cells(uint32_t n, uint32_t cells, uint32_t *table, uint32_t slots);
 /* A grid of size[0] x size[1] x size[2] cells (size[2] is 1 for n = 2); the rest unused. */
 void map_grid(uint32_t n, const uint32_t size[3], uint32_t *table, uint32_t slots);
 
+/* To put a cell behind another one along an axis, the far dart of this one is sewn to the near dart
+ * of that one, each counted from the first slot of its cell. */
+uint32_t far_dart(uint32_t n, uint32_t axis);
+uint32_t near_dart(uint32_t n, uint32_t axis);
+
+/* The sews (i, d, e) that make a grid of its free cells, three words each; gives how many words. */
+size_t map_grid_sews(uint32_t n, const uint32_t size[3], uint32_t *list);
+
 /* Sews the side of d, in a block map, to that of e by link n. */
 void map_glue(uint32_t n, uint32_t *table, uint32_t d, uint32_t e);
 

@@ -1,9 +1,9 @@
 /* yardstick.c - the calls of 01 and the requests of 02 that have landed (docs/REFERENCE.md has
  * both), in C99, tuned: what a careful engineer gets without proofs.
  *
- * Every call, one with a list of sews too, validates its whole input in one pass over the table and
- * takes time linear in slots plus entries written. Nothing is kept between calls but the lent buffers;
- * the static scratch is written by a call before it is read (so: one call at a time).
+ * Every call, with a list of sews too, validates its whole input in one pass over the table and
+ * takes time linear in slots plus entries written. Nothing is kept between calls but the lent
+ * buffers; the static scratch is written by a call before it is read (so: one call at a time).
  *
  * Functions marked INLINE take the dimension (or mask, or axis order) as a constant and are
  * compiled once per value. With YARD_AS_PHL the calls are named phl_ instead of yard_.

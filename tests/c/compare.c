@@ -5,9 +5,11 @@
  * A round is a table, a journal and a run of calls on them; some calls are given something bad.
  * Both are lent the same buffers: number, place, count and all of table, marks and journal must
  * come out alike, and what stands before and behind each buffer must stay. What an insert changed
- * must come back, by remove and by undo. Each number that the header lists for a call must come up,
- * so that no part of the comparison is empty, and no other may. numbers.h, which the script `run`
- * makes, has the header's lines "Numbers:" as strings, with a blank before and behind each number. */
+ * must come back, by remove and by undo; what a list does must be what its sews do one by one. Each
+ * number that the header lists for a call must come up, those of an item at the first, at a middle
+ * and at the last item, so that no part of the comparison is empty, and no other may. numbers.h,
+ * which the script `run` makes, has the header's lines "Numbers:" as strings, with a blank before
+ * and behind each number. */
 #include <inttypes.h>
 #include <stdio.h>
 #include <stdlib.h>
@@ -29,7 +31,7 @@ static const char *const run_name[BOTH] = {"yardstick", "library"};
 
 /* ---------------------------------------------------------------- buffers */
 
-enum { TABLE, MARKS, JOURNAL, BUFFERS };
+enum { TABLE, MARKS, JOURNAL, LIST, BUFFERS };
 
 typedef struct {
     const char *name;
@@ -44,15 +46,18 @@ static buffer buffer_of(const request *q, int which)
         return (buffer){"table", q->table, 4 * q->table_len, 4};
     case MARKS:
         return (buffer){"marks", q->marks, q->marks_len, 1};
-    default:
+    case JOURNAL:
         return (buffer){"journal", q->journal, 4 * q->journal_len, 4};
+    default:
+        return (buffer){"list", (void *)q->list, 4 * q->list_len, 4};
     }
 }
 
-/* Of each buffer, a copy for each implementation, with guards before and behind it. */
-enum { GUARD = 32, GUARD_BYTE = 0xA5, MOST_SHIFT = 7 };
+/* Of each buffer, a copy for each implementation, with guards before and behind it; and one for the
+ * sews of a list one by one. */
+enum { GUARD = 32, GUARD_BYTE = 0xA5, MOST_SHIFT = 7, ONE_BY_ONE = BOTH, COPIES };
 
-static uint32_t room[BOTH][BUFFERS][JOURNAL_ROOM + (2 * GUARD + MOST_SHIFT) / 4 + 1];
+static uint32_t room[COPIES][BUFFERS][JOURNAL_ROOM + (2 * GUARD + MOST_SHIFT) / 4 + 1];
 
 /* A copy of b that begins `shift` elements further than the room's first guard ends. */
 static void *copied(uint32_t *to, buffer b, size_t shift)
@@ -70,6 +75,7 @@ static request lent(const request *q, int who, const size_t shift[BUFFERS])
     c.table = copied(room[who][TABLE], buffer_of(q, TABLE), shift[TABLE]);
     c.marks = copied(room[who][MARKS], buffer_of(q, MARKS), shift[MARKS]);
     c.journal = copied(room[who][JOURNAL], buffer_of(q, JOURNAL), shift[JOURNAL]);
+    c.list = copied(room[who][LIST], buffer_of(q, LIST), shift[LIST]);
     return c;
 }
 
@@ -96,6 +102,11 @@ static void tell_call(const request *q)
            q->marks_len, q->journal_len);
     if (q->journal_len >= 2)
         printf(", cursor %" PRIu32 ", end %" PRIu32, q->journal[0], q->journal[1]);
+    if (q->call == SEW_LIST) {
+        printf(", list");
+        for (size_t x = 0; x < q->list_len; x++)
+            printf("%s %" PRIu32, x > 0 && x % 3 == 0 ? "," : "", q->list[x]);
+    }
     printf("\n");
 }
 
@@ -131,9 +142,15 @@ static void must_be_same(const request *q, buffer yard, buffer library)
 
 /* ---------------------------------------------------------------- one call */
 
-enum { PAST_NUMBERS = 33 };
+enum { PAST_NUMBERS = 39 };
 
 static unsigned long came_up[CALLS][PAST_NUMBERS];
+
+/* Of lists of three items or more: at the first item, at one between, at the last. */
+enum { FIRST, MIDDLE, LAST, PLACES };
+
+static unsigned long came_up_at[PLACES][PAST_NUMBERS];
+static const char *const place_name[PLACES] = {" first", " middle", " last"};
 
 /* Whether the header lists the number for the call. */
 static int listed(enum call call, uint32_t number)
@@ -143,11 +160,29 @@ static int listed(enum call call, uint32_t number)
     return number == PHL_ACCEPTED || strstr(numbers[call], word) != NULL;
 }
 
-/* What the header says of every refusal; c has the buffers as they were left. */
+static int is_no_map(uint32_t number)
+{
+    return number == PHL_LINK_NOT_LIVE || number == PHL_LINK_NOT_RETURNED
+        || number == PHL_PAIR_NOT_RETURNING || number == PHL_LINK_3_NOT_FREE;
+}
+
+/* Whether a list may be refused at an item by this number. */
+static int is_of_an_item(uint32_t number)
+{
+    return number == PHL_OUT_OF_RANGE || number == PHL_NOT_LIVE || number == PHL_SAME_SIDE
+        || number == PHL_NOT_FREE || number == PHL_NO_PAIRING || number == PHL_NO_ROOM;
+}
+
+/* Whether a list was refused at an item: those before it stand. */
+static int is_at_an_item(const request *q, answer a)
+{
+    return q->call == SEW_LIST && is_of_an_item(a.no);
+}
+
+/* What the header says of a refusal, but of one at an item; c has the buffers as they were left. */
 static void must_be_a_refusal(const request *q, const request *c, answer a)
 {
-    int not_a_map = a.no == PHL_LINK_NOT_LIVE || a.no == PHL_LINK_NOT_RETURNED
-                 || a.no == PHL_PAIR_NOT_RETURNING || a.no == PHL_LINK_3_NOT_FREE;
+    int not_a_map = is_no_map(a.no);
     int leaves_marks = a.no == PHL_CROSSES_ITSELF || a.no == PHL_TOO_FEW_SLOTS
                     || a.no == PHL_NO_ROOM;
     if (a.place != 0 && !not_a_map && a.no != PHL_NO_BLOCK_MAP)
@@ -159,6 +194,50 @@ static void must_be_a_refusal(const request *q, const request *c, answer a)
         if (memcmp(was.at, is.at, was.bytes) != 0 && !(which == MARKS && leaves_marks))
             fail_text(q, "both", was.name, "is changed by a refusal");
     }
+}
+
+/* What the sews of a list give one by one, on the buffers of q, up to the first that is refused: as
+ * the list should answer. The checks before any item are those of a sew with i above n. */
+static answer one_by_one(const request *q)
+{
+    request sew = *q;
+    answer a = {0, 0, 0};
+    uint32_t changed = 0;
+    sew.call = SEW;
+    sew.i = NONE;
+    a.no = run_yard(&sew, &a.place, &a.count);
+    if (a.no != PHL_OUT_OF_RANGE)
+        return a;
+    if (q->list_len % 3 != 0)
+        return (answer){PHL_WRONG_LIST_LENGTH, 0, 0};
+    for (size_t x = 0; x < q->list_len; x += 3) {
+        sew.i = q->list[x];
+        sew.d = q->list[x + 1];
+        sew.e = q->list[x + 2];
+        a.no = run_yard(&sew, &a.place, &a.count);
+        if (a.no != PHL_ACCEPTED)
+            return (answer){a.no, (uint32_t)(x / 3) + 1, changed};
+        changed += a.count;
+    }
+    return (answer){PHL_ACCEPTED, 0, changed};
+}
+
+/* The list of q was answered by a and left the buffers of c. */
+static void must_be_as_one_by_one(const request *q, const size_t shift[BUFFERS], const request *c,
+                                  answer a)
+{
+    request sews = lent(q, ONE_BY_ONE, shift);
+    answer b = one_by_one(&sews);
+    size_t items = q->list_len / 3;
+    if (a.no != b.no || a.place != b.place || a.count != b.count)
+        fail_text(q, "both", "the list", "is not answered as its sews one by one");
+    for (int which = 0; which < BUFFERS; which++) {
+        buffer is = buffer_of(c, which), should = buffer_of(&sews, which);
+        if (memcmp(is.at, should.at, is.bytes) != 0)
+            fail_text(q, "both", is.name, "is not as the sews one by one leave it");
+    }
+    if (is_of_an_item(a.no) && items >= 3)
+        came_up_at[a.place == 1 ? FIRST : a.place == items ? LAST : MIDDLE][a.no]++;
 }
 
 /* Runs the call on both, and fails if they differ. *left is the yardstick's request, with the
@@ -178,6 +257,8 @@ static answer held(const request *q, const size_t shift[BUFFERS], request *left)
         for (int which = 0; which < BUFFERS; which++)
             if (!guards_stand(buffer_of(&c[who], which)))
                 fail_text(q, run_name[who], buffer_of(q, which).name, "is written past its ends");
+        if (memcmp(q->list, c[who].list, 4 * q->list_len) != 0)
+            fail_text(q, run_name[who], "list", "is written");
     }
     calls++;
     if (a[YARD].no != a[LIBRARY].no)
@@ -190,8 +271,10 @@ static answer held(const request *q, const size_t shift[BUFFERS], request *left)
         must_be_same(q, buffer_of(&c[YARD], which), buffer_of(&c[LIBRARY], which));
     if (!listed(q->call, a[YARD].no))
         fail_text(q, "both", "a number", "that the header does not list for this call");
-    if (a[YARD].no != PHL_ACCEPTED)
+    if (a[YARD].no != PHL_ACCEPTED && !is_at_an_item(q, a[YARD]))
         must_be_a_refusal(q, &c[YARD], a[YARD]);
+    if (q->call == SEW_LIST)
+        must_be_as_one_by_one(q, shift, &c[YARD], a[YARD]);
     if (q->call == INSERT && memcmp(q->marks, c[YARD].marks, q->marks_len) != 0)
         fail_text(q, "both", "marks", "are written by insert");
     came_up[q->call][a[YARD].no]++;
@@ -234,8 +317,17 @@ static void must_come_back(const request *q, const size_t shift[BUFFERS], answer
         fail_text(&back, "both", "remove", "does not take insert back");
 }
 
-/* One call, good or bad. An accepted operation is now and then held again, with a journal that has
- * just room for its record, or a word too few. */
+/* A length for a journal: just room for what an accepted operation wrote, or a word too few; for a
+ * list also anywhere in what it wrote. */
+static size_t tight_length(const request *q, const request *left, rng *r)
+{
+    uint32_t written = left->journal[1] - q->journal[0];
+    return left->journal[1]
+         - rng_below(r, q->call == SEW_LIST && one_in(r, 2) ? written + 1 : 2);
+}
+
+/* One call, good or bad. An accepted operation is now and then held again, with a journal that is
+ * tight. */
 static void turn(const request *scene, rng *r)
 {
     static uint32_t before[TABLE_ROOM];
@@ -251,25 +343,26 @@ static void turn(const request *scene, rng *r)
     }
     answer a = held(&q, shift, &left);
     if (a.no == PHL_ACCEPTED && is_operation(q.call) && one_in(r, 4)) {
-        size_t tight = left.journal[1] - rng_below(r, 2);
+        size_t tight = tight_length(&q, &left, r);
         if (tight >= q.journal[1]) {
             q.journal_len = tight;
             a = held(&q, shift, &left);
         }
     }
-    if (a.no == PHL_ACCEPTED) {
+    int stands = a.no == PHL_ACCEPTED || is_at_an_item(&q, a);
+    if (stands) {
         memcpy(before, q.table, 4 * q.table_len);
         keep(&q, &left);
         if (q.call == INSERT)
             must_come_back(&q, shift, a, before);
     }
-    scene_mend(a.no != PHL_ACCEPTED);
+    scene_mend(!stands);
 }
 
 /* Most tables are small. The library has buffers of its own of 2,048, 16,384 and 65,536 slots. */
 static uint32_t slots_of_round(uint64_t x)
 {
-    return x % 50 == 10 ? 2048 : x % 250 == 20 ? 16384 : x % 400 == 30 ? 65536 : 0;
+    return x % 50 == 10 ? 2048 : x % 100 == 20 ? 16384 : x % 400 == 30 ? 65536 : 0;
 }
 
 static void play(uint64_t round)
@@ -293,6 +386,7 @@ static void try_null(request q)
     plain.table = no_word;
     plain.marks = no_mark;
     plain.journal = q.journal != NULL ? q.journal : no_word;
+    plain.list = no_word;
     a.no = run_library(&q, &a.place, &a.count);
     b.no = run_yard(&plain, &b.place, &b.count);
     calls++;
@@ -304,13 +398,14 @@ static void try_null(request q)
         fail_text(&plain, "both", "a journal of no words", "is taken");
 }
 
-/* Null pointers for no slots and no marks, and for a journal of no words or not for a fresh one. */
+/* Null pointers for no slots, no marks and no list, and for a journal of no words or not for a fresh
+ * one. */
 static void try_null_pointers(void)
 {
     static uint32_t fresh[2] = {PHL_FRESH, PHL_FRESH};
     for (int call = 0; call < CALLS; call++) {
         for (uint32_t n = 0; n < 4; n++) {
-            request q = {(enum call)call, n, NULL, 0, NULL, 0, NULL, 0, 1, 1, 0, 0, 7};
+            request q = {(enum call)call, n, NULL, 0, NULL, 0, NULL, 0, 1, 1, 0, 0, 7, NULL, 0};
             try_null(q);
             q.journal = fresh;
             q.journal_len = 2;
@@ -321,28 +416,53 @@ static void try_null_pointers(void)
 
 /* ---------------------------------------------------------------- the report */
 
+static const uint32_t order[] = {0,  1,  2,  3,  4,  5,  24, 25, 26, 38, 6,  7,  8, 28,
+                                 29, 30, 31, 32, 9,  10, 11, 12, 13, 14, 15, 16, 17};
+enum { NUMBERS = sizeof order / sizeof *order };
+
+/* A number that should come up, and did so often: 0 if never. */
+static int tell_times(unsigned long times)
+{
+    printf("%6lu", times);
+    return times > 0;
+}
+
+/* How often lists were refused at an item by each number; 0 if one never came up somewhere. */
+static int tell_places(void)
+{
+    int complete = 1;
+    for (int place = 0; place < PLACES; place++) {
+        printf("%-8s", place_name[place]);
+        for (int x = 0; x < NUMBERS; x++) {
+            if (!is_of_an_item(order[x]))
+                printf("%6s", "-");
+            else
+                complete &= tell_times(came_up_at[place][order[x]]);
+        }
+        printf("\n");
+    }
+    return complete;
+}
+
 /* How often each call gave each number; 0 if some number never came up. */
 static int tell_numbers(void)
 {
-    static const uint32_t order[] = {0,  1,  2,  3,  4,  5,  24, 25, 26, 6,  7,  8,  28,
-                                     29, 30, 31, 32, 9,  10, 11, 12, 13, 14, 15, 16, 17};
-    const size_t len = sizeof order / sizeof *order;
     int complete = 1;
-    printf("%-6s", "");
-    for (size_t x = 0; x < len; x++)
+    printf("%-8s", "");
+    for (int x = 0; x < NUMBERS; x++)
         printf("%6" PRIu32, order[x]);
     printf("\n");
     for (int call = 0; call < CALLS; call++) {
-        printf("%-6s", call_name[call]);
-        for (size_t x = 0; x < len; x++) {
-            if (!listed((enum call)call, order[x])) {
+        printf("%-8s", call_name[call]);
+        for (int x = 0; x < NUMBERS; x++) {
+            if (!listed((enum call)call, order[x]))
                 printf("%6s", "-");
-                continue;
-            }
-            printf("%6lu", came_up[call][order[x]]);
-            complete = complete && came_up[call][order[x]] > 0;
+            else
+                complete &= tell_times(came_up[call][order[x]]);
         }
         printf("\n");
+        if (call == SEW_LIST)
+            complete &= tell_places();
     }
     return complete;
 }

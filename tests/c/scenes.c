@@ -3,7 +3,10 @@
 
 #include <string.h>
 
-static uint32_t table[TABLE_ROOM], journal[JOURNAL_ROOM];
+/* The longest list, and two words behind it that make it no list of items. */
+enum { MOST_ITEMS = 40, LIST_ROOM = 3 * MOST_ITEMS + 2 };
+
+static uint32_t table[TABLE_ROOM], journal[JOURNAL_ROOM], list[LIST_ROOM];
 static uint8_t marks[MARKS_ROOM];
 
 static uint32_t slots_of(const request *q) { return (uint32_t)(q->table_len / 4); }
@@ -29,19 +32,17 @@ static uint32_t one_of(rng *r, const uint32_t *values, size_t len)
  * a twisted band is made. */
 static void close_grid(uint32_t n, const uint32_t size[3], uint32_t axis, int turned, uint32_t *to)
 {
-    static const uint32_t far2[2] = {5, 2}, near2[2] = {4, 0};
-    static const uint32_t far3[3] = {25, 10, 4}, near3[3] = {24, 8, 0};
     const uint32_t step[3] = {1, size[0], size[0] * size[1]};
     for (uint32_t c = 0; c < size[0] * size[1] * size[2]; c++) {
         uint32_t at[3] = {c % size[0], c / step[1] % size[1], c / step[2]};
-        uint32_t d = cell_darts(n) * c + (n == 2 ? far2 : far3)[axis], first, e;
+        uint32_t d = cell_darts(n) * c + far_dart(n, axis), first, e;
         if (at[axis] + 1 != size[axis])
             continue;
         at[axis] = 0;
         if (turned)
             at[1 - axis] = size[1 - axis] - 1 - at[1 - axis];
         first = at[0] + step[1] * at[1] + step[2] * at[2];
-        e = cell_darts(n) * first + (n == 2 ? near2 : near3)[axis];
+        e = cell_darts(n) * first + near_dart(n, axis);
         map_glue(n, to, d, turned ? to[4 * e] : e);
     }
 }
@@ -57,12 +58,12 @@ static void make_grid(uint32_t n, uint32_t cells, uint32_t *to, uint32_t slots, 
             close_grid(n, size, axis, n == 2 && one_in(r, 2), to);
 }
 
-/* Two rings or more, which two links make. The first two may be sewn, if they are faces; else some
- * rings may be cut, and are paths then. */
+/* Two rings or more, long or short, which two links make. The first two may be sewn, if they are
+ * faces; else some rings may be cut, and are paths then. */
 static void make_rings(uint32_t n, uint32_t *to, uint32_t slots, rng *r)
 {
     uint32_t most = slots / 4, j = n == 3 ? ONE_OF(r, 0, 0, 0, 1, 2) : rng_below(r, 2);
-    uint32_t len = 2 * (one_in(r, 2) ? most : 1 + rng_below(r, most));
+    uint32_t len = 2 * (one_in(r, 4) ? most : 1 + rng_below(r, most >> rng_below(r, 8)));
     map_rings(slots / len, len, j, j + 1, to);
     if (n == 3 && j == 0 && one_in(r, 2)) {
         map_glue(3, to, 0, len);
@@ -102,26 +103,40 @@ static void make_matches(uint32_t n, uint32_t *to, uint32_t slots, rng *r)
     }
 }
 
+/* Darts that are free for every link, with unused slots between them. */
+static void make_loose(uint32_t *to, uint32_t slots, rng *r)
+{
+    uint32_t of = ONE_OF(r, 2, 8, 100);
+    for (uint32_t d = 0; d < slots; d++) {
+        if (one_in(r, of))
+            continue;
+        for (uint32_t i = 0; i < 4; i++)
+            to[4 * d + i] = d;
+    }
+}
+
 static void make_numbers(uint32_t *to, uint32_t slots, rng *r)
 {
     for (uint32_t x = 0; x < 4 * slots; x++)
         to[x] = one_in(r, 8) ? NONE : rng_below(r, slots + 1);
 }
 
-enum kind { EMPTY, RINGS, MATCHES, NUMBERS, GRID, RANDOM };
+enum kind { EMPTY, RINGS, MATCHES, LOOSE, NUMBERS, GRID, RANDOM };
 
 /* A table of one kind or another; mostly a map. */
 static void make_table(uint32_t n, uint32_t cells, uint32_t *to, uint32_t slots, rng *r)
 {
-    enum kind kind = cells == 0  ? ONE_OF(r, EMPTY, RINGS, MATCHES, NUMBERS)
-                   : slots < 500 ? ONE_OF(r, EMPTY, EMPTY, RINGS, MATCHES, NUMBERS, GRID, GRID,
-                                          GRID, RANDOM, RANDOM, RANDOM, RANDOM)
-                   : ONE_OF(r, EMPTY, RINGS, RINGS, RINGS, GRID, GRID, RANDOM, RANDOM);
+    enum kind kind = cells == 0  ? ONE_OF(r, EMPTY, RINGS, MATCHES, LOOSE, NUMBERS)
+                   : slots < 500 ? ONE_OF(r, EMPTY, EMPTY, RINGS, MATCHES, LOOSE, LOOSE, NUMBERS,
+                                          GRID, GRID, GRID, RANDOM, RANDOM, RANDOM, RANDOM)
+                   : ONE_OF(r, EMPTY, RINGS, RINGS, RINGS, LOOSE, GRID, GRID, RANDOM, RANDOM);
     map_clear(to, slots);
     if (kind == RINGS && slots >= 4)
         make_rings(n, to, slots, r);
     else if (kind == MATCHES)
         make_matches(n, to, rng_below(r, slots < 12 ? slots + 1 : 12), r);
+    else if (kind == LOOSE)
+        make_loose(to, slots, r);
     else if (kind == NUMBERS)
         make_numbers(to, slots, r);
     else if (kind == GRID)
@@ -211,7 +226,8 @@ request scene_new(rng *r, uint32_t about)
             slots = MAX_SLOTS;
         cells = slots / k / ONE_OF(r, 1, 2, 2);
     }
-    request q = {CHECK, n, table, 4 * (size_t)slots, marks, slots, journal, 0, 0, 0, 0, 0, 0};
+    request q = {CHECK, n, table, 4 * (size_t)slots, marks, slots, journal, 0, 0, 0, 0, 0, 0,
+                 list, 0};
     make_table(n, cells, table, slots, r);
     make_fresh_journal(&q, about, r);
     if (about <= 4096 && one_in(r, 8))
@@ -244,12 +260,15 @@ static uint32_t some_dart(const request *q, enum wish wish, rng *r)
     return d;
 }
 
-/* A dart of d's side. */
-static uint32_t dart_beside(const request *q, uint32_t d, rng *r)
+/* Whether link j is one of a side for link i. */
+static int is_side_link(uint32_t i, uint32_t j) { return j + 2 <= i || i + 2 <= j; }
+
+/* A dart of d's side for link i. */
+static uint32_t dart_beside(const request *q, uint32_t i, uint32_t d, rng *r)
 {
     for (uint32_t steps = rng_below(r, 8); steps > 0; steps--) {
-        uint32_t j = rng_below(r, q->n + 1);
-        if ((j + 2 <= q->i || q->i + 2 <= j) && d < slots_of(q) && map_live(q->table, d))
+        uint32_t j = rng_below(r, 4);
+        if (is_side_link(i, j) && d < slots_of(q) && map_live(q->table, d))
             d = q->table[4 * d + j];
     }
     return d;
@@ -372,6 +391,76 @@ static void draw(request *q, rng *r)
         draw_one(q, wall, some_dart(q, one_in(r, 16) ? EITHER : SEWN, r), r);
 }
 
+/* ---------------------------------------------------------------- lists */
+
+/* For each link, the darts of the sides that the items drawn so far sew. */
+static uint8_t taken[4][MARKS_ROOM];
+
+/* Takes a live dart that is free for link q->i and not taken yet, with its side; 0 if a few tries
+ * find none. */
+static int take(const request *q, uint32_t *d, rng *r)
+{
+    static uint32_t found[MAX_SLOTS];
+    uint32_t links = 0;
+    for (int tries = 0; tries < 8; tries++) {
+        *d = some_dart(q, FREE, r);
+        if (!taken[q->i][*d])
+            break;
+    }
+    for (uint32_t j = 0; j <= q->n; j++)
+        links |= (uint32_t)is_side_link(q->i, j) << j;
+    return mark_reached(q, *d, links, taken[q->i], found) > 0 && to(q, *d, q->i) == *d;
+}
+
+/* Makes an item of the list one that is refused, most often. */
+static void spoil_item(const request *q, uint32_t *item, rng *r)
+{
+    uint32_t word = 1 + rng_below(r, 2), other = 3 * rng_below(r, (uint32_t)q->list_len / 3);
+    switch (rng_below(r, 6)) {
+    case 0:
+        item[0] = ONE_OF(r, q->n + 1, 4, 255, 256, NONE, any(r));
+        break;
+    case 1:
+        item[word] = no_slot(q, r);
+        break;
+    case 2:
+        item[word] = rng_below(r, slots_of(q));
+        break;
+    case 3:
+        item[2] = dart_beside(q, item[0], item[1], r);
+        break;
+    case 4:
+        item[word] = list[other + word];
+        break;
+    default:
+        item[0] = rng_below(r, q->n + 1);
+        item[word] = list[other + word];
+    }
+}
+
+/* A list of sews, all by link q->i or by any links, as far as there are free sides; one item may be
+ * bad, often the first or the last. */
+static void draw_list(request *q, rng *r)
+{
+    uint32_t items = 0, most = one_in(r, 3) ? rng_below(r, 5) : rng_below(r, MOST_ITEMS + 1);
+    int mixed = one_in(r, 3);
+    for (uint32_t i = 0; i <= q->n; i++)
+        memset(taken[i], 0, slots_of(q) + 1);
+    for (; items < most; items++) {
+        uint32_t *item = list + 3 * items;
+        if (mixed)
+            q->i = rng_below(r, q->n + 1);
+        item[0] = q->i;
+        int good = take(q, &item[1], r);
+        good &= take(q, &item[2], r);
+        if (!good && items > 0 && !one_in(r, 8))
+            break;
+    }
+    q->list_len = 3 * (size_t)items;
+    if (items > 0 && one_in(r, 2))
+        spoil_item(q, list + 3 * ONE_OF(r, 0, items - 1, rng_below(r, items)), r);
+}
+
 /* ---------------------------------------------------------------- a call */
 
 void scene_ask(request *q, rng *r)
@@ -384,6 +473,8 @@ void scene_ask(request *q, rng *r)
         q->call = REDO;
     if (one_in(r, 8))
         q->call = INSERT;
+    if (one_in(r, slots_of(q) < 500 ? 32 : 4))
+        q->call = SEW_LIST;
     if (q->call == UNSEW && wish == FREE)
         wish = SEWN;
     q->tag = any(r);
@@ -391,9 +482,11 @@ void scene_ask(request *q, rng *r)
     q->i = one_in(r, 4) ? rng_below(r, q->n + 1) : q->n;
     q->mask = rng_below(r, UINT32_C(2) << q->n);
     q->d = some_dart(q, q->call == SEW || q->call == UNSEW ? wish : EITHER, r);
-    q->e = one_in(r, 8) ? dart_beside(q, q->d, r) : some_dart(q, wish, r);
+    q->e = one_in(r, 8) ? dart_beside(q, q->i, q->d, r) : some_dart(q, wish, r);
     if (q->call == INSERT)
         draw(q, r);
+    if (q->call == SEW_LIST)
+        draw_list(q, r);
 }
 
 /* ---------------------------------------------------------------- spoiling */
@@ -458,6 +551,15 @@ static void spoil_argument(request *q, rng *r)
     default:
         q->e = no_slot(q, r);
     }
+}
+
+/* The next call draws its list anew: it need not be put back. */
+static void spoil_list(request *q, rng *r)
+{
+    if (q->list_len % 3 == 0 && one_in(r, 2))
+        q->list_len += 1 + rng_below(r, 2);
+    if (q->list_len >= 3 && one_in(r, 2))
+        spoil_item(q, list + 3 * rng_below(r, (uint32_t)q->list_len / 3), r);
 }
 
 /* The next call draws its marks anew: they need not be put back. */
@@ -533,6 +635,8 @@ void scene_spoil(request *q, rng *r)
         spoil_length(q, r);
     else if (what == 2 && q->call == INSERT)
         spoil_mark(q, r);
+    else if (what == 2 && q->call == SEW_LIST)
+        spoil_list(q, r);
     else if (what == 2)
         spoil_argument(q, r);
     else if (what == 3)
