@@ -733,18 +733,14 @@ static int side_pairs(const uint32_t *table, const uint32_t *links, int links_le
     return 1;
 }
 
-/* Sorts a short list, rising (Shell's sort). */
-static void sort_short(uint32_t *a, uint32_t len)
+/* Sorts a few slots, rising. */
+static void sort_few(uint32_t *a, uint32_t len)
 {
-    static const uint32_t gaps[5] = {57, 23, 10, 4, 1};
-    for (int g = 0; g < 5; g++) {
-        uint32_t gap = gaps[g];
-        for (uint32_t x = gap; x < len; x++) {
-            uint32_t v = a[x], y = x;
-            for (; y >= gap && a[y - gap] > v; y -= gap)
-                a[y] = a[y - gap];
-            a[y] = v;
-        }
+    for (uint32_t x = 1; x < len; x++) {
+        uint32_t v = a[x], y = x;
+        for (; y > 0 && a[y - 1] > v; y--)
+            a[y] = a[y - 1];
+        a[y] = v;
     }
 }
 
@@ -766,24 +762,24 @@ static void sort_by_bytes(uint32_t *a, uint32_t len)
 }
 
 /* The slots of both columns of the pairs, rising and without repeats, into list; gives their
- * number. They are sorted, but where they are many beside all slots: then they are set in a byte
- * map and read back. */
+ * number. They are sorted; but where they are many beside all slots, they are set in a byte map and
+ * read back. */
 static uint32_t rising(uint32_t size, uint32_t slots)
 {
-    if (size > 64 && size > slots / 64) {
+    if (size > 8 && size > slots / 64) {
         memset(seen, 0, slots);
         for (uint32_t p = 0; p < size; p++)
             seen[pairs[p][0]] = seen[pairs[p][1]] = 1;
         return gather(seen, slots, list);
     }
     for (uint32_t p = 0; p < size; p++) {
-        list[2 * p] = pairs[p][0];
-        list[2 * p + 1] = pairs[p][1];
+        list[p] = pairs[p][0];
+        list[size + p] = pairs[p][1];
     }
-    if (size > 64)
+    if (size > 8)
         sort_by_bytes(list, 2 * size);
     else
-        sort_short(list, 2 * size);
+        sort_few(list, 2 * size);
     uint32_t len = 1;
     for (uint32_t x = 1; x < 2 * size; x++)
         if (list[x] != list[len - 1])
