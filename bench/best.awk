@@ -30,6 +30,11 @@ END {
         key = line[x]
         if (sub(/-just-room /, " ", key)) printf "room %s %.2f\n", key, test[line[x]] / test[key]
     }
+    print "# list dim slots: the kernel's time for a list of sews over its time for them as single calls; at most 0.02"
+    for (x = 1; x <= lines; x++) {
+        key = line[x]
+        if (sub(/^sew-list /, "sew-singles ", key) && key in test) printf "list %s %.4f\n", substr(key, 13), test[line[x]] / test[key]
+    }
     print "# refusal call yardstick_ns kernel_ns: n = 9"
     for (x = 1; x <= refusals; x++) printf "refusal %s %.1f %.1f\n", refusal[x], refused[refusal[x]], refused_test[refusal[x]]
     print "# growth call dim yardstick kernel live: time at 65k over time at 8k, over live darts; 1 is linear"

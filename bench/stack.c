@@ -48,8 +48,9 @@ static size_t taken(void *(*run)(void *), request *q)
 
 static void measure(enum call call, uint32_t n, uint32_t slots, uint32_t i, uint32_t d, uint32_t e)
 {
+    const uint32_t item[3] = {i, d, e};
     request q = {call, n, table, 4 * (size_t)slots, marks, slots, journal, MAX_JOURNAL,
-                 i, 2, d, e, 0};
+                 i, 2, d, e, 0, item, 3};
     request none = q;
     size_t base = taken(nothing, &none);
     size_t whole = taken(one_call, &q);
@@ -80,7 +81,7 @@ static void measure_all(uint32_t n, const uint32_t grid[3], uint32_t slots)
     draw_cut(n, first, slots);
     measure(INSERT, n, slots, 0, 0, 0);
     request q = {UNDO, n, table, 4 * (size_t)slots, marks, slots, journal, MAX_JOURNAL,
-                 0, 0, 0, 0, 0};
+                 0, 0, 0, 0, 0, NULL, 0};
     run_test(&q, &place, &count);
     measure(REMOVE, n, slots, 0, 0, 0);
     measure(ADD, n, slots, 0, 0, 0);
@@ -91,6 +92,7 @@ static void measure_all(uint32_t n, const uint32_t grid[3], uint32_t slots)
     e = place;
     measure(SEW, n, slots, n, d, e);
     measure(UNSEW, n, slots, n, d, 0);
+    measure(SEW_LIST, n, slots, n, d, e);
 }
 
 int main(void)
