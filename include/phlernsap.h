@@ -82,8 +82,8 @@
  *            never writes them; for every other call what they hold does not matter.
  *   journal  journal_len words, 2 to PHL_MAX_JOURNAL. To begin: journal[0] = journal[1] = PHL_FRESH.
  *            Word 0 is the cursor, word 1 the end; from then on only the calls write it.
- *   list     list_len words, three to an item: i, d and e, as phl_sew takes them. There may be any
- *            number of them, also none. phl_sew_list reads them and never writes them.
+ *   list     list_len words, of any number, three to an item: i, d and e, as phl_sew takes them.
+ *            phl_sew_list reads them and never writes them.
  *   place, count   where the call stores place and count.
  *
  * What the caller owes: lengths are in elements, not in bytes, and are those of the buffers; each
@@ -119,8 +119,8 @@
  *
  *     phl_add      32 (n = 2), 192 (n = 3)
  *     phl_sew      2 for each dart of the side: for i = n 4 (n = 2), 16 (n = 3)
- *     phl_sew_list the same for each item: for i = n a record of 15 words (n = 2), 51 (n = 3)
  *     phl_unsew    the same (for a side sewn onto itself, 1 for each)
+ *     phl_sew_list phl_sew's for each item: for i = n records of 15 words (n = 2), 51 (n = 3)
  *     phl_remove   4 for each dart removed, the marks 1 and 2, and 1 for each mark 3
  *     phl_split    9 (n = 2) or 13 (n = 3) for each dart of the sheet
  *     phl_insert   9 (n = 2) or 13 (n = 3) for each dart of the wall
