@@ -115,9 +115,16 @@ fn kind(x: u8, name: u64, count: u8) -> u32 {
     }
 }
 
-// A name as a number: its last eight bytes. The names have fewer.
+// A word of more than eight bytes: the names have no more.
+const TOO_LONG: u64 = 18446744073709551615;
+
+// A word as a number: its bytes, if there are at most eight.
 fn spelled(name: u64, x: u8) -> u64 {
-    (name % 72057594037927936) * 256 + x as u64
+    if name < 72057594037927936 {
+        name * 256 + x as u64
+    } else {
+        TOO_LONG
+    }
 }
 
 // A word as far as it is read, and whether it goes on.
