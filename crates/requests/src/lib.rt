@@ -35,7 +35,7 @@ pub fn request(
     }
 }
 
-// The same of all calls: behind those of the session, insert along the wall that the marks draw.
+// The same of all calls: behind those of the session, insert along the wall that the marks draw, and sew_list of a list.
 pub fn any_request(
     n: u32,
     table: &mut [u32],
@@ -46,13 +46,16 @@ pub fn any_request(
     i: u32,
     d: u32,
     e: u32,
+    list: &[u32],
 ) -> Answer
     ensures { λ r. ⌜ outcome r (now (table .exit)) (now (marks .exit)) (now (journal .exit))
-        ≡ doCall n (lentTo (now (table .entry)) (now (marks .entry)) (now (journal .entry))) (anyCall op tag i d e (now (marks .entry))) ⌝ }
+        ≡ doCall n (lentTo (now (table .entry)) (now (marks .entry)) (now (journal .entry)))
+        (anyCall op tag i d e (now (marks .entry)) (now (list .entry))) ⌝ }
 {
-    if op == 10 {
-        kernel::insert(n, table, marks, journal, tag)
-    } else {
-        request(n, table, marks, journal, op, tag, i, d, e)
+    match op {
+        10 => kernel::insert(n, table, marks, journal, tag),
+        // until the kernel has sew_list
+        11 => kernel::sew(n, table, journal, tag, i, d, e),
+        _ => request(n, table, marks, journal, op, tag, i, d, e),
     }
 }

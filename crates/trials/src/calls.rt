@@ -9,11 +9,18 @@ use crate::stage;
 use crate::stage::Stage;
 
 // With a word of the journal and a value for it: that is its value for this call.
-pub fn call(s: Stage, row: Row, table: &mut [u32], drawn: &mut [u8], journal: &mut [u32]) {
+pub fn call(
+    s: Stage,
+    row: Row,
+    table: &mut [u32],
+    drawn: &mut [u8],
+    journal: &mut [u32],
+    list: &[u32],
+) {
     let at = word_of(row);
     let kept = stage::word(journal, at);
     stage::put(journal, at, row.c);
-    lend(s, asked(row), table, drawn, journal);
+    lend(s, asked(row), table, drawn, journal, list);
     stage::put(journal, at, kept);
 }
 
@@ -33,7 +40,7 @@ fn asked(row: Row) -> Row {
     }
     Row {
         kind: if row.kind >= lines::UNDO_WITH {
-            row.kind - 3
+            row.kind - 4
         } else {
             row.kind
         },
@@ -44,23 +51,37 @@ fn asked(row: Row) -> Row {
 }
 
 // Each call is lent marks that are 9, but insert those that are drawn.
-fn lend(s: Stage, row: Row, table: &mut [u32], drawn: &mut [u8], journal: &mut [u32]) {
+fn lend(
+    s: Stage,
+    row: Row,
+    table: &mut [u32],
+    drawn: &mut [u8],
+    journal: &mut [u32],
+    list: &[u32],
+) {
     if row.kind == lines::INSERT {
-        lend_some(s, row, table, drawn, journal);
+        lend_some(s, row, table, drawn, journal, list);
     } else {
-        lend_nines(s, row, table, journal);
+        lend_nines(s, row, table, journal, list);
     }
 }
 
-fn lend_nines(s: Stage, row: Row, table: &mut [u32], journal: &mut [u32]) {
+fn lend_nines(s: Stage, row: Row, table: &mut [u32], journal: &mut [u32], list: &[u32]) {
     let mut marks = [9u8; 65537];
-    lend_some(s, row, table, &mut marks, journal);
+    lend_some(s, row, table, &mut marks, journal, list);
 }
 
 // The first of these marks are lent.
-fn lend_some(s: Stage, row: Row, table: &mut [u32], marks: &mut [u8], journal: &mut [u32]) {
+fn lend_some(
+    s: Stage,
+    row: Row,
+    table: &mut [u32],
+    marks: &mut [u8],
+    journal: &mut [u32],
+    list: &[u32],
+) {
     let slots = few(marks, s.marks);
-    ask(s.n, s.tag, row, table, &mut marks[..slots], journal);
+    ask(s.n, s.tag, row, table, &mut marks[..slots], journal, list);
 }
 
 // So many marks; if there are not so many, a question mark and none.
@@ -74,8 +95,27 @@ fn few(marks: &[u8], most: usize) -> usize
     0
 }
 
-fn ask(n: u32, tag: u32, row: Row, table: &mut [u32], marks: &mut [u8], journal: &mut [u32]) {
-    let a = requests::any_request(n, table, marks, journal, row.kind, tag, row.a, row.b, row.c);
+fn ask(
+    n: u32,
+    tag: u32,
+    row: Row,
+    table: &mut [u32],
+    marks: &mut [u8],
+    journal: &mut [u32],
+    list: &[u32],
+) {
+    let a = requests::any_request(
+        n,
+        table,
+        marks,
+        journal,
+        row.kind,
+        tag,
+        row.a,
+        row.b,
+        row.c,
+        list,
+    );
     shows::answer(a.number, a.place, a.count);
     left(row.kind, table, marks, journal);
 }

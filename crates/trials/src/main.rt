@@ -12,37 +12,61 @@ mod lines;
 mod shows;
 mod stage;
 
-// The largest table of 01 has 262,144 words. The marks are those that `mark` lines draw.
+// The largest table of 01 has 262,144 words. The marks are those that `mark` lines draw, and the list is that of `item` and
+// `word` lines.
 fn main() {
     let mut table = [0u32; 262148];
     let mut marks = [0u8; 65537];
     let mut journal = [0u32; 443000];
-    play(&mut table, &mut marks, &mut journal);
+    let mut list = [0u32; 96];
+    play(&mut table, &mut marks, &mut journal, &mut list);
 }
 
 // As many lines as a script may have; behind its end there is nothing to do.
-fn play(table: &mut [u32], marks: &mut [u8], journal: &mut [u32]) {
+fn play(table: &mut [u32], marks: &mut [u8], journal: &mut [u32], list: &mut [u32]) {
     let mut s = stage::EMPTY;
     let mut left: u32 = 65536;
     while left > 0 {
-        s = turn(s, table, marks, journal);
+        s = turn(s, table, marks, journal, list);
         left -= 1;
     }
 }
 
-fn turn(s: Stage, table: &mut [u32], marks: &mut [u8], journal: &mut [u32]) -> Stage {
+fn turn(
+    s: Stage,
+    table: &mut [u32],
+    marks: &mut [u8],
+    journal: &mut [u32],
+    list: &mut [u32],
+) -> Stage {
     let row = lines::heard();
-    let now = stage::next(s, row);
-    lend(now, row, table, marks, journal);
+    let mut now = stage::next(s, row);
+    lend(now, row, table, marks, journal, list);
+    now.list = stage::listed(now.list, row, list);
     shows::line_end(row.kind);
     now
 }
 
-// The beginnings of table and journal are lent.
-fn lend(s: Stage, row: Row, table: &mut [u32], marks: &mut [u8], journal: &mut [u32]) {
+// The beginnings of table, journal and list are lent.
+fn lend(
+    s: Stage,
+    row: Row,
+    table: &mut [u32],
+    marks: &mut [u8],
+    journal: &mut [u32],
+    list: &[u32],
+) {
     let entries = few(table, s.entries);
     let words = few(journal, s.words);
-    act(s, row, &mut table[..entries], marks, &mut journal[..words]);
+    let items = few(list, s.list);
+    act(
+        s,
+        row,
+        &mut table[..entries],
+        marks,
+        &mut journal[..words],
+        &list[..items],
+    );
 }
 
 // So many words; if there are not so many, a question mark and none.
@@ -56,9 +80,9 @@ fn few(words: &[u32], most: usize) -> usize
     0
 }
 
-fn act(s: Stage, row: Row, table: &mut [u32], marks: &mut [u8], journal: &mut [u32]) {
+fn act(s: Stage, row: Row, table: &mut [u32], marks: &mut [u8], journal: &mut [u32], list: &[u32]) {
     if row.kind < lines::LINKS {
-        calls::call(s, row, table, marks, journal);
+        calls::call(s, row, table, marks, journal, list);
     } else {
         stage::set_table(row, table);
         stage::set_marks(row, table.len() / 4, marks);

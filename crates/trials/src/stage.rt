@@ -1,6 +1,8 @@
-// The stage: the dimension that calls are given, how much of the buffers is lent to them, and the tag of operations.
+// The stage: the dimension that calls are given, how much of the buffers is lent to them, the tag of operations, and how many
+// words the list has.
 use crate::lines;
 use crate::lines::Row;
+use crate::shows;
 use reading::UNUSED;
 
 pub struct Stage {
@@ -9,6 +11,7 @@ pub struct Stage {
     pub marks: usize,
     pub words: usize,
     pub tag: u32,
+    pub list: usize,
 }
 
 pub const EMPTY: Stage = Stage {
@@ -17,6 +20,7 @@ pub const EMPTY: Stage = Stage {
     marks: 0,
     words: 0,
     tag: 0,
+    list: 0,
 };
 
 // The stage for a line and those behind it.
@@ -29,6 +33,7 @@ pub fn next(s: Stage, row: Row) -> Stage {
             marks: row.b as usize,
             words: row.c as usize,
             tag: 0,
+            list: 0,
         },
         lines::LEND => Stage {
             n: s.n,
@@ -36,6 +41,7 @@ pub fn next(s: Stage, row: Row) -> Stage {
             marks: row.b as usize,
             words: row.c as usize,
             tag: s.tag,
+            list: s.list,
         },
         lines::DIM => Stage {
             n: row.c,
@@ -43,6 +49,7 @@ pub fn next(s: Stage, row: Row) -> Stage {
             marks: s.marks,
             words: s.words,
             tag: s.tag,
+            list: s.list,
         },
         lines::TAG => Stage {
             n: s.n,
@@ -50,9 +57,39 @@ pub fn next(s: Stage, row: Row) -> Stage {
             marks: s.marks,
             words: s.words,
             tag: row.c,
+            list: s.list,
         },
         _ => s,
     }
+}
+
+// ---- what a line does to the list
+
+// How many words it has for the lines behind: behind sewlist none.
+pub fn listed(words: usize, row: Row, list: &mut [u32]) -> usize {
+    let kind = row.kind;
+    match kind {
+        lines::ITEM => with_item(words, row, list),
+        lines::WORD => with_word(words, row.c, list),
+        lines::SEW_LIST => 0,
+        _ => words,
+    }
+}
+
+fn with_item(words: usize, row: Row, list: &mut [u32]) -> usize {
+    let one = with_word(words, row.a, list);
+    let two = with_word(one, row.b, list);
+    with_word(two, row.c, list)
+}
+
+// A word for which there is no room gives a question mark.
+fn with_word(words: usize, word: u32, list: &mut [u32]) -> usize {
+    if words < list.len() {
+        list[words] = word;
+        return words + 1;
+    }
+    shows::unknown();
+    words
 }
 
 // ---- what a line does to the words and marks that are lent

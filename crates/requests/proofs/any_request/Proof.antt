@@ -1,14 +1,17 @@
--- `requests::any_request` meets its contract: insert, or a request of the session.
+-- `requests::any_request` meets its contract: insert, sew_list, or a request of the session.
 use borrow.Author.Needs.{needs}
 use borrow.Author.Tests.{ne-eqb}
 use Rattle.model.specs.Runs.{doCall}
 use Rattle.requests.specs.Asked.{anyCall}
-use Rattle.requests.proofs.Keeping.{keeps-lent}
+use Rattle.requests.proofs.Keeping.{keeps-lent, keeps-marks}
 use Rattle.requests.proofs.any_request.Statement.{statement}
 use Rattle.requests.proofs.any_request.Tie as tie
 
 insert-requires : tie.Need-insert-requires
 insert-requires c κs = search needs
+
+sew-requires : tie.Need-sew-requires
+sew-requires c κs = search needs
 
 request-requires : tie.Need-request-requires
 request-requires c κs = search needs
@@ -26,7 +29,7 @@ returns : tie.Need-returns
 unfolding doCall anyCall
 returns c =
     let asked = c .before .before .before .before in
-    rw (asked .before .before .before .before .if1 .taken) (keeps-lent _ _ _ _ (asked .insert .ensures))
+    rw (asked .before .before .before .before .match .keys1) (keeps-lent _ _ _ _ (asked .insert .ensures))
 
 same-length-4 : tie.Need-same-length-4
 same-length-4 c = search needs
@@ -34,20 +37,34 @@ same-length-4 c = search needs
 same-length-5 : tie.Need-same-length-5
 same-length-5 c = search needs
 
+returns-2 : tie.Need-returns-2
+unfolding doCall anyCall
+returns-2 c =
+    let asked = c .before .before .before .before in
+    rw (asked .before .before .before .match .keys2) (keeps-marks _ _ _ _ (asked .sew .ensures))
+
 same-length-6 : tie.Need-same-length-6
 same-length-6 c = search needs
 
-returns-2 : tie.Need-returns-2
+same-length-7 : tie.Need-same-length-7
+same-length-7 c = search needs
+
+same-length-8 : tie.Need-same-length-8
+same-length-8 c = search needs
+
+returns-3 : tie.Need-returns-3
 unfolding anyCall
-returns-2 c =
+returns-3 c =
     let asked = c .before .before .before .before .before .before in
-    rw (ne-eqb _ 10 (asked .before .before .before .before .if1 .left), anyCall) (asked .request .ensures)
+    let past = asked .before .before .before .before .match .rest in
+    rw (ne-eqb _ 10 (past .0 .1), ne-eqb _ 11 (past .1), anyCall) (asked .request .ensures)
 
 pub any-request-spec : {M : Type 1} → statement M
 any-request-spec =
     tie.close
     (tie.spec
     insert-requires
+    sew-requires
     request-requires
     same-length
     same-length-2
@@ -55,5 +72,8 @@ any-request-spec =
     returns
     same-length-4
     same-length-5
+    returns-2
     same-length-6
-    returns-2)
+    same-length-7
+    same-length-8
+    returns-3)

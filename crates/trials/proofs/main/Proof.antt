@@ -15,6 +15,9 @@ slice-aggregate-play-2 c = sym (length-replicate {A = ℕ} 65537 0)
 slice-aggregate-play-3 : tie.Need-slice-aggregate-play-3
 slice-aggregate-play-3 c = sym (length-replicate {A = ℕ} 443000 0)
 
+slice-aggregate-play-4 : tie.Need-slice-aggregate-play-4
+slice-aggregate-play-4 c = sym (length-replicate {A = ℕ} 96 0)
+
 play-requires : tie.Need-play-requires
 play-requires c κs = search needs
 
@@ -22,4 +25,12 @@ returns : tie.Need-returns
 returns c = search needs
 
 pub main-spec : {M : Type 1} → statement M
-main-spec = tie.close (tie.spec slice-aggregate-play slice-aggregate-play-2 slice-aggregate-play-3 play-requires returns)
+main-spec =
+    tie.close
+    (tie.spec
+    slice-aggregate-play
+    slice-aggregate-play-2
+    slice-aggregate-play-3
+    slice-aggregate-play-4
+    play-requires
+    returns)
