@@ -5,6 +5,7 @@ pub use call_insert::insert;
 pub use call_orbit::orbit;
 pub use call_remove::remove;
 pub use call_sew::sew;
+pub use call_sew::sew_list;
 pub use call_sheet::sheet;
 pub use call_split::split;
 pub use call_undo_redo::redo;

@@ -4,7 +4,7 @@ use answers::Answer;
 ghost use mathlib.Core.Path.{_≡_};
 ghost use mathlib.Core.List.{[]};
 ghost use Rattle.model.specs.Calls.{checkCall, orbitCall, sheetCall, addCall, sewCall, unsewCall, removeCall, splitCall};
-ghost use Rattle.model.specs.Calls.{insertCall, undoCall, redoCall};
+ghost use Rattle.model.specs.Calls.{sewListCall, insertCall, undoCall, redoCall};
 ghost use Rattle.phlernsap.specs.Given.{given};
 
 // Stores place and count, and returns the number.
@@ -86,6 +86,26 @@ pub extern "C" fn phl_sew(
         ≡ sewCall n (now (table .entry)) (now (journal .entry)) tag i d e ⌝ }
 {
     give(kernel::sew(n, table, journal, tag, i, d, e), place, count)
+}
+
+#[no_mangle]
+pub extern "C" fn phl_sew_list(
+    n: u32,
+    table: &mut [u32],
+    journal: &mut [u32],
+    tag: u32,
+    list: &[u32],
+    place: &mut u32,
+    count: &mut u32,
+) -> u32
+    ensures { λ r. ⌜ given r (now (place .exit)) (now (count .exit)) (now (table .exit)) [] (now (journal .exit))
+        ≡ sewListCall n (now (table .entry)) (now (journal .entry)) tag (now (list .entry)) ⌝ }
+{
+    give(
+        kernel::sew_list(n, table, journal, tag, list),
+        place,
+        count,
+    )
 }
 
 #[no_mangle]

@@ -1,21 +1,24 @@
--- What a request finds, and which call it is.
+-- What a request finds, and what it leaves.
 use Prim.Native.Nat.{ℕ}
 use mathlib.Core.Bool.{true, false}
 use mathlib.Core.List.{List}
 use lib.Dec.{eqb}
-use Rattle.model.specs.Calls.{Outcome}
-use Rattle.model.specs.Runs.{Op, Call}
+use Rattle.model.specs.Calls.{Outcome, sewListCall}
+use Rattle.model.specs.Runs.{Op, Call, doCall, keeping}
 use Rattle.model.specs.Session.{callOf}
 
 -- the table, marks and journal, with no answer yet
 abbrev pub lentTo : List ℕ → List ℕ → List ℕ → Outcome
 lentTo t m j = record { number = 0; place = 0; count = 0; table = t; marks = m; journal = j }
 
--- among all calls: the session's by the places of their names, and behind them insert, along the wall whose marks are m, and
--- sew_list, of the list l: sew until the model has it
-unfoldable pub anyCall : ℕ → ℕ → ℕ → ℕ → ℕ → List ℕ → List ℕ → Call
-anyCall p tag i d e m l =
+-- what any call leaves of o: the session's by the places of their names, and behind them insert, along the wall that the marks draw, and
+-- sew_list, of the list l
+unfoldable pub anyOutcome : ℕ → Outcome → ℕ → ℕ → ℕ → ℕ → ℕ → List ℕ → Outcome
+anyOutcome n o p tag i d e l =
     elim (eqb p 10) [
-      | true ↦ Call.op tag (Op.insert m)
-      | false ↦ (elim (eqb p 11) [ true ↦ Call.op tag (Op.sew i d e) | false ↦ callOf p tag i d e ])
+      | true ↦ doCall n o (Call.op tag (Op.insert (o .marks)))
+      | false ↦ (elim (eqb p 11) [
+        | true ↦ (let r = sewListCall n (o .table) (o .journal) tag l in keeping r (o .marks) (r .journal))
+        | false ↦ doCall n o (callOf p tag i d e)
+      ])
     ]

@@ -3,7 +3,7 @@ ghost use mathlib.Core.Path.{_≡_};
 ghost use Rattle.model.specs.Runs.{doCall};
 ghost use Rattle.model.specs.Session.{callOf};
 ghost use Rattle.answers.specs.Answers.{outcome};
-ghost use Rattle.requests.specs.Asked.{lentTo, anyCall};
+ghost use Rattle.requests.specs.Asked.{lentTo, anyOutcome};
 use answers::Answer;
 
 // The call of the session whose op has this place among the names: "i holds the index or mask". An operation's record has the tag.
@@ -49,13 +49,11 @@ pub fn any_request(
     list: &[u32],
 ) -> Answer
     ensures { λ r. ⌜ outcome r (now (table .exit)) (now (marks .exit)) (now (journal .exit))
-        ≡ doCall n (lentTo (now (table .entry)) (now (marks .entry)) (now (journal .entry)))
-        (anyCall op tag i d e (now (marks .entry)) (now (list .entry))) ⌝ }
+        ≡ anyOutcome n (lentTo (now (table .entry)) (now (marks .entry)) (now (journal .entry))) op tag i d e (now (list .entry)) ⌝ }
 {
     match op {
         10 => kernel::insert(n, table, marks, journal, tag),
-        // until the kernel has sew_list
-        11 => kernel::sew(n, table, journal, tag, i, d, e),
+        11 => kernel::sew_list(n, table, journal, tag, list),
         _ => request(n, table, marks, journal, op, tag, i, d, e),
     }
 }
