@@ -304,12 +304,19 @@ module _ {m₀ gs₀ xs ys : List ℕ} {size : ℕ} (U : Unmarking m₀ gs₀ xs
             only = rw (first .0, first .1) (wiped _ first-slot (rw (last .0, last .1) (wiped _ last-slot all)));
           }
 
--- ---- buffers of g groups that are 0
+-- ---- marks and groups that are 0: those that were cleared, and new ones, of g groups
 
 zeros : (k x : ℕ) → getD {A = ℕ} (replicate k 0) x 0 ≡ 0
 zeros zero x = refl
 zeros (suc k) zero = refl
 zeros (suc k) (suc x) = zeros k x
+
+pub cleared : (m gs : List ℕ) {m′ gs′ : List ℕ} → length m ≡ 256 * length gs → m′ ≡ replicate (length m) 0 → gs′ ≡ replicate (length gs) 0
+    → Blank m′ gs′
+cleared m gs long marks groups =
+    let few = length-replicate {A = ℕ} (length m) 0 in
+    let fewer = length-replicate {A = ℕ} (length gs) 0 in
+    rw (marks, groups) (record { long = omega arith; marks = zeros (length m); groups = zeros (length gs) })
 
 pub lent-new : (t : List ℕ) (g : ℕ) → slots t ≤ 256 * g
     → Lent t (replicate (256 * g) 0) (replicate g 0) (replicate (128 * g) 0) (replicate (128 * g) 0)

@@ -62,11 +62,16 @@ fn wipe(marks: &mut [u8], groups: &mut [u8], x: u16)
     groups[x as usize / GROUP] = 0;
 }
 
-// The darts listed, which alone have marks, lose them, the last pair first.
+// The darts listed, which alone have marks, lose them, the last pair first. For long sides all marks are cleared, which is faster.
 fn unmark(marks: &mut [u8], groups: &mut [u8], xs: &[u16], ys: &[u16], size: u32)
     requires { ⌜ Unmarking (now marks) (now groups) (now xs) (now ys) size ⌝ }
     ensures { λ _. ⌜ Blank (now (marks .exit)) (now (groups .exit)) ⌝ }
 {
+    if size as usize > marks.len() / 64 {
+        scans::clear(marks);
+        scans::clear(groups);
+        return;
+    }
     let mut k = size;
     while k > 0 {
         k -= 1;

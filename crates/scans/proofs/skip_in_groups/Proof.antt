@@ -1,6 +1,5 @@
 -- `scans::skip_in_groups` meets its contract. The loop's invariant: the marks passed are 0.
-use Prim.Native.Nat.{_-_}
-use mathlib.Core.Logic.{⊎-elim}
+use Prim.Native.Nat.{_+_, _-_}
 use native.Mathlib.Omega.{arith}
 use borrow.Author.Needs.{needs}
 use borrow.Author.Tests.{not-false}
@@ -16,60 +15,63 @@ Inv-loop marks groups x y₀ y = Skips marks x y
 abbrev μ-loop : tie.MeasureT-loop
 μ-loop marks groups x y₀ y = length marks - y
 
--- from the loop's head to where the groups are passed, and from the entry
-over : (c : tie.Joined1 Inv-loop μ-loop) → Skips (c .before .before .before .before .args .marks .now) (c .before .loop .y) (c .if1 .y)
+-- past a block that is clear
+over : (c : tie.Else1 Inv-loop μ-loop) →
+    let l = c .before .before .before in
+    let s = l .before .before .before .args in
+    Skips (s .marks .now) (s .x) (l .loop .y + 32)
 over c =
-    let l = c .before in
-    ⊎-elim (λ w. rw (w .2) (skips-groups (l .before .before .before .pre .0) (w .0 .taken) (w .1 .ensures)))
-    (λ w. rw (w .1) (skips-none _ _ (l .loop .inv .within))) (c .if1 .came)
-
-passed : (c : tie.Joined1 Inv-loop μ-loop) →
-    let s = c .before .before .before .before .args in
-    Skips (s .marks .now) (s .x) (c .if1 .y)
-passed c = skips-on (c .before .loop .inv) (over c)
+    let l = c .before .before .before in
+    let inv = l .loop .inv in
+    let low = inv .within in
+    skips-on inv (skips-block _ _ 32 (omega arith) (c .before .block-clear .ensures (not-false _ (c .if1 .left))))
 
 loop-holds : tie.Need-loop-holds Inv-loop μ-loop
 loop-holds c = skips-none _ _ (c .before .before .pre .1)
 
+sub-loop : tie.Need-sub-loop Inv-loop μ-loop
+sub-loop c = let i = c .loop .inv .within in omega arith
+
+block-clear-requires : tie.Need-block-clear-requires Inv-loop μ-loop
+block-clear-requires c κs = let i = c .before .loop .inv .within in omega arith
+
+returns : tie.Need-returns Inv-loop μ-loop
+returns c = c .before .before .before .loop .inv
+
+add-y : tie.Need-add-y Inv-loop μ-loop
+add-y c = let low = over c .within in omega arith
+
 skip-groups-requires : tie.Need-skip-groups-requires Inv-loop μ-loop
 skip-groups-requires c κs =
-    let l = c .before in
-    let long = l .before .before .before .pre .0 .long in
-    let low = l .loop .inv .within in
+    let low = over (c .before) .within in
+    let long = c .before .before .before .before .before .before .before .pre .0 .long in
     omega arith
 
 mul-y : tie.Need-mul-y Inv-loop μ-loop
 mul-y c =
-    let s = c .before .before .before .before .before in
-    let long = s .pre .0 .long in
     let low = c .skip-groups .ensures .within in
+    let long = c .before .before .before .before .before .before .before .before .pre .0 .long in
     omega arith
-
-sub-if2 : tie.Need-sub-if2 Inv-loop μ-loop
-sub-if2 c = let low = passed (c .before) .within in omega arith
-
-returns : tie.Need-returns Inv-loop μ-loop
-returns c = passed (c .before .before)
-
-block-clear-requires : tie.Need-block-clear-requires Inv-loop μ-loop
-block-clear-requires c κs = let low = passed (c .before .before) .within in omega arith
-
-returns-2 : tie.Need-returns-2 Inv-loop μ-loop
-returns-2 c = passed (c .before .before .before .before)
-
-add-y : tie.Need-add-y Inv-loop μ-loop
-add-y c = search needs
 
 loop-less : tie.Need-loop-less Inv-loop μ-loop
 loop-less c =
-    let on = over (c .before .before .before .before) .onward in
-    let few = c .before .before .if2 .left in
+    let on = c .skip-groups .ensures .onward in
+    let low = over (c .before .before) .within in
     omega arith
 
 loop-again : tie.Need-loop-again Inv-loop μ-loop
 loop-again c =
-    let j = c .before .before .before .before in
-    skips-on (passed j) (skips-block _ _ 32 (omega arith) (c .before .block-clear .ensures (not-false _ (c .if3 .left))))
+    let t = c .before in
+    skips-on (over (t .before)) (skips-groups (c .before .before .before .before .before .before .before .before .pre .0) (t .if2 .taken) (c .skip-groups .ensures))
+
+loop-less-2 : tie.Need-loop-less-2 Inv-loop μ-loop
+loop-less-2 c = let low = over (c .before) .within in omega arith
+
+loop-again-2 : tie.Need-loop-again-2 Inv-loop μ-loop
+loop-again-2 c = over (c .before)
+
+returns-2 : tie.Need-returns-2 Inv-loop μ-loop
+returns-2 c = c .before .loop .inv
 
 pub skip-in-groups-spec : {M : Type 1} → statement M
 skip-in-groups-spec =
@@ -78,12 +80,14 @@ skip-in-groups-spec =
     Inv-loop
     μ-loop
     loop-holds
+    sub-loop
+    block-clear-requires
+    returns
+    add-y
     skip-groups-requires
     mul-y
-    sub-if2
-    returns
-    block-clear-requires
-    returns-2
-    add-y
     loop-less
-    loop-again)
+    loop-again
+    loop-less-2
+    loop-again-2
+    returns-2)

@@ -1,9 +1,9 @@
--- `call_sew::item::unmark` meets its contract. The loop's invariant: only the first k pairs have marks.
+-- `call_sew::item::unmark` meets its contract: all marks are cleared, or taken back. The loop's invariant: only the first k pairs have marks.
 use Prim.Native.Nat.{_≤_}
 use mathlib.Core.Path.{_≡_}
 use native.Mathlib.Omega.{arith}
 use borrow.Author.Needs.{needs}
-use Rattle.call_sew.proofs.Parts.{Left, left-all, left-none, left-less, last-slot, first-slot}
+use Rattle.call_sew.proofs.Parts.{Left, left-all, left-none, left-less, last-slot, first-slot, cleared}
 use Rattle.call_sew.proofs.item.unmark.Statement.{statement}
 use Rattle.call_sew.proofs.item.unmark.Tie as tie
 
@@ -15,10 +15,29 @@ abbrev μ-loop : tie.MeasureT-loop
 
 -- the function's entry, from where the loop stands
 abbrev start : tie.At-loop Inv-loop μ-loop → tie.Start Inv-loop μ-loop
-start l = l .before .before .before .before .before
+start l = l .before .before .before .before .before .before
+
+clear-requires : tie.Need-clear-requires Inv-loop μ-loop
+clear-requires c κs = search needs
+
+clear-requires-2 : tie.Need-clear-requires-2 Inv-loop μ-loop
+clear-requires-2 c κs = search needs
+
+same-length : tie.Need-same-length Inv-loop μ-loop
+same-length c = search needs
+
+same-length-2 : tie.Need-same-length-2 Inv-loop μ-loop
+same-length-2 c = search needs
+
+returns : tie.Need-returns Inv-loop μ-loop
+returns c =
+    let second = c .before .before in
+    let first = second .before .before .before .before in
+    let s = first .before .before .before .before .before .before .before in
+    cleared (s .args .marks .now) (s .args .groups .now) (s .pre .long) (first .clear .ensures) (second .clear2 .ensures)
 
 loop-holds : tie.Need-loop-holds Inv-loop μ-loop
-loop-holds c = (omega arith, left-all (c .before .before .before .before .pre))
+loop-holds c = (omega arith, left-all (c .before .before .before .before .before .pre))
 
 sub-k : tie.Need-sub-k Inv-loop μ-loop
 sub-k c = search needs
@@ -80,14 +99,14 @@ loop-again c =
       left-less (start l .pre) (i .loop-test .taken) low (l .loop .inv .1) (w .wipe .ensures) (v .wipe2 .ensures),
     )
 
-same-length : tie.Need-same-length Inv-loop μ-loop
-same-length c = c .before .loop .inv .1 .wide
+same-length-3 : tie.Need-same-length-3 Inv-loop μ-loop
+same-length-3 c = c .before .loop .inv .1 .wide
 
-same-length-2 : tie.Need-same-length-2 Inv-loop μ-loop
-same-length-2 c = c .before .loop .inv .1 .many
+same-length-4 : tie.Need-same-length-4 Inv-loop μ-loop
+same-length-4 c = c .before .loop .inv .1 .many
 
-returns : tie.Need-returns Inv-loop μ-loop
-returns c =
+returns-2 : tie.Need-returns-2 Inv-loop μ-loop
+returns-2 c =
     let l = c .before in
     let none : l .loop .k ≡ 0 = let left = c .loop-test .left in omega arith in
     left-none (start l .pre) (rw none at (l .loop .inv .1))
@@ -98,6 +117,11 @@ unmark-spec =
     (tie.spec
     Inv-loop
     μ-loop
+    clear-requires
+    clear-requires-2
+    same-length
+    same-length-2
+    returns
     loop-holds
     sub-k
     cast-wipe
@@ -110,6 +134,6 @@ unmark-spec =
     wipe-requires-2
     loop-less
     loop-again
-    same-length
-    same-length-2
-    returns)
+    same-length-3
+    same-length-4
+    returns-2)
