@@ -54,3 +54,11 @@ pub record ToMarked (sews : Bool) (t m : List ℕ) (i x at : ℕ) (w : List ℕ)
   pub j : List ℕ
   pub met : MarkedPass sews t v m i j x at w
   pub inside : x < slots t
+
+-- .. and goes on to before y
+pub record ToSome (sews : Bool) (t m : List ℕ) (i x y at : ℕ) (w : List ℕ) : Type 0 where
+  pub v : List ℕ
+  pub j : List ℕ
+  pub met : MarkedPass sews t v m i j x at w
+  pub onward : x ≤ y
+  pub inside : y ≤ slots t

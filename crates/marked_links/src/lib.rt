@@ -2,11 +2,11 @@
 ghost use mathlib.Core.Path.{_≡_};
 ghost use mathlib.Core.Bool.{true, false};
 ghost use mathlib.Core.List.{List};
-ghost use Prim.Native.Nat.{ℕ, _+_};
+ghost use Prim.Native.Nat.{ℕ, _+_, _≤_, _<_};
 ghost use Rattle.model.specs.Journal.{changesFrom};
 ghost use Rattle.scans.specs.Clear.{Grouped};
 ghost use Rattle.drafts.specs.Drafts.{drafted};
-ghost use Rattle.marked_links.specs.Marked.{before, after, MarkedRecord, SomeMarkedRecord, MarkedPass, ToMarked};
+ghost use Rattle.marked_links.specs.Marked.{before, after, MarkedRecord, SomeMarkedRecord, MarkedPass, ToMarked, ToSome};
 
 // x where it holds, else y.
 fn pick(holds: bool, x: u32, y: u32) -> u32
@@ -38,6 +38,36 @@ fn write_one(
     w + 3
 }
 
+// The slots from x to before y, one after the other.
+fn write_some(
+    table: &[u32],
+    journal: &mut [u32],
+    marks: &[u8],
+    i: u32,
+    sews: bool,
+    w: usize,
+    x: u32,
+    y: u32,
+) -> usize
+    requires { ⌜ ToSome sews (now table) (now marks) i x y w (now journal) ⌝ }
+    ensures { λ r. ⌜ ((v j : List ℕ) → MarkedPass sews (now (table .entry)) v (now (marks .entry)) i j x w (now (journal .entry))
+        → MarkedPass sews (now (table .entry)) v (now (marks .entry)) i j y r (now (journal .exit))) ⌝ }
+{
+    let mut at = w;
+    for z in x..y {
+        at = write_one(table, journal, marks, i, sews, at, z);
+    }
+    at
+}
+
+// The end of a block of 32 slots that begins at x, or of all.
+fn block_end(x: usize, end: usize) -> usize
+    requires { ⌜ x < end ⌝ }
+    ensures { λ r. ⌜ (x < r) × (r ≤ end) ⌝ }
+{
+    if end - x < 32 { end } else { x + 32 }
+}
+
 // Drafts the record of the change between the table and the one in which the darts marked with 1 are i-free: where it sews, to the
 // table, else from it. It costs what the groups with a mark cost.
 pub fn write_marked(
@@ -58,7 +88,8 @@ pub fn write_marked(
     let mut w = journal[0] as usize + 2;
     let mut x = scans::skip_grouped(marks, groups, 0);
     while x < end {
-        w = write_one(table, journal, marks, i, sews, w, x as u32);
-        x = scans::skip_grouped(marks, groups, x + 1);
+        let y = block_end(x, end);
+        w = write_some(table, journal, marks, i, sews, w, x as u32, y as u32);
+        x = scans::skip_grouped(marks, groups, y);
     }
 }

@@ -101,11 +101,7 @@ pub extern "C" fn phl_sew_list(
     ensures { λ r. ⌜ given r (now (place .exit)) (now (count .exit)) (now (table .exit)) [] (now (journal .exit))
         ≡ sewListCall n (now (table .entry)) (now (journal .entry)) tag (now (list .entry)) ⌝ }
 {
-    give(
-        kernel::sew_list(n, table, journal, tag, list),
-        place,
-        count,
-    )
+    give(kernel::sew_list(n, table, journal, tag, list), place, count)
 }
 
 #[no_mangle]

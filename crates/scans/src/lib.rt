@@ -81,34 +81,23 @@ fn skip_groups(groups: &[u8], g: usize) -> usize
     h
 }
 
-// Past the blocks of 32 marks from x on that are 0 and, where a group begins behind one, past the groups whose mark is 0.
-fn skip_in_groups(marks: &[u8], groups: &[u8], x: usize) -> usize
-    requires { ⌜ (Grouped (now marks) (now groups)) × (x ≤ length (now marks)) ⌝ }
-    ensures { λ r. ⌜ Skips (now (marks .entry)) x r ⌝ }
-{
-    let mut y = x;
-    while 32 <= marks.len() - y {
-        if !block_clear(marks, y) {
-            return y;
-        }
-        y += 32;
-        if y % GROUP == 0 {
-            y = GROUP * skip_groups(groups, y / GROUP);
-        }
-    }
-    y
-}
-
-// The same where a block of 32 begins at x, else x. A pass over marks with groups begins and goes on with it: it costs what the
-// groups with a mark cost.
+// Past the groups and the blocks of 32 marks from x on that are 0. A pass over marks with groups costs what the groups with a mark cost.
 pub fn skip_grouped(marks: &[u8], groups: &[u8], x: usize) -> usize
     requires { ⌜ (Grouped (now marks) (now groups)) × (x ≤ length (now marks)) ⌝ }
     ensures { λ r. ⌜ Skips (now (marks .entry)) x r ⌝ }
 {
-    if x % 32 == 0 {
-        skip_in_groups(marks, groups, x)
-    } else {
-        x
+    let mut y = x;
+    loop {
+        if y % GROUP == 0 {
+            y = GROUP * skip_groups(groups, y / GROUP);
+        }
+        if marks.len() - y < 32 {
+            return y;
+        }
+        if !block_clear(marks, y) {
+            return y;
+        }
+        y += 32;
     }
 }
 

@@ -1,8 +1,9 @@
 -- `marked_links::write_marked` meets its contract. The loop's invariant: the slots below x are met, or skipped.
-use Prim.Native.Nat.{ℕ, _+_, _-_}
+use Prim.Native.Nat.{ℕ, _-_, _≤_}
 use mathlib.Core.Path.{_≡_}
 use mathlib.Core.List.{List}
 use native.Mathlib.Omega.{arith}
+use borrow.Author.Needs.{needs}
 use Rattle.model.specs.Table.{slots}
 use Rattle.model.specs.Journal.{cursor}
 use Rattle.marked_links.specs.Marked.{MarkedRecord}
@@ -44,58 +45,73 @@ unfolding cursor
 loop-holds c =
     (c .before .before .slots .ensures, λ v T. record { y = 0; inside = omega arith; skips = c .skip-grouped .ensures; met = marked-start T })
 
-cast-write-one : tie.Need-cast-write-one Inv-loop μ-loop
-cast-write-one c =
-    let l = c .before .before in
-    let few = start l .pre .0 .is .freed .few in
-    let same = l .loop .inv .0 in
-    let low = c .before .loop-test .taken in
+-- the end of the block lies in the table
+within : (c : tie.After-block-end Inv-loop μ-loop) → c .block-end .result ≤ slots (start (c .before .before) .args .table .now)
+within c =
+    let same = c .before .before .loop .inv .0 in
+    let high = c .block-end .ensures .1 in
     omega arith
 
-write-one-requires : tie.Need-write-one-requires Inv-loop μ-loop
-write-one-requires c κs =
-    let l = c .before .before in
-    let same = l .loop .inv .0 in
-    let low = c .before .loop-test .taken in
-    record { v = _; j = _; met = skipped-here (l .loop .inv .1 _ (start l .pre .0 .is)) (omega arith); inside = omega arith }
+few : (l : tie.At-loop Inv-loop μ-loop) → slots (start l .args .table .now) ≤ 65536
+few l = start l .pre .0 .is .freed .few
 
-add-skip-grouped : tie.Need-add-skip-grouped Inv-loop μ-loop
-add-skip-grouped c =
-    let i = c .before .before .before .before in
-    let few = start (i .before) .pre .0 .is .freed .few in
-    let same = i .before .loop .inv .0 in
-    let low = i .loop-test .taken in
+block-end-requires : tie.Need-block-end-requires Inv-loop μ-loop
+block-end-requires c κs = search needs
+
+cast-write-some : tie.Need-cast-write-some Inv-loop μ-loop
+cast-write-some c =
+    let e = c .before in
+    let top = few (e .before .before) in
+    let high = within e in
+    let low = e .block-end .ensures .0 in
     omega arith
+
+cast-write-some-2 : tie.Need-cast-write-some-2 Inv-loop μ-loop
+cast-write-some-2 c = let e = c .before in let top = few (e .before .before) in let high = within e in omega arith
+
+write-some-requires : tie.Need-write-some-requires Inv-loop μ-loop
+write-some-requires c κs =
+    let e = c .before in
+    let l = e .before .before in
+    let high = within e in
+    let low = e .block-end .ensures .0 in
+    record {
+      v = _;
+      j = _;
+      met = skipped-here (l .loop .inv .1 _ (start l .pre .0 .is)) (omega arith);
+      onward = omega arith;
+      inside = high;
+    }
 
 skip-grouped-requires-2 : tie.Need-skip-grouped-requires-2 Inv-loop μ-loop
 skip-grouped-requires-2 c κs =
-    let i = c .before .before .before .before in
-    let pre = start (i .before) .pre in
+    let e = c .before .before .before .before in
+    let pre = start (e .before .before) .pre in
     let wide = pre .0 .is .freed .wide in
-    let same = i .before .loop .inv .0 in
-    let low = i .loop-test .taken in
+    let high = within e in
     (pre .1, omega arith)
 
 loop-less : tie.Need-loop-less Inv-loop μ-loop
 loop-less c =
-    let i = c .before .before .before .before .before in
+    let e = c .before .before .before .before .before in
     let on = c .skip-grouped2 .ensures .onward in
-    let low = i .loop-test .taken in
+    let low = e .block-end .ensures .0 in
+    let past = e .before .loop-test .taken in
     omega arith
 
 loop-again : tie.Need-loop-again Inv-loop μ-loop
 loop-again c =
     let w = c .before .before .before in
-    let i = w .before .before in
-    let l = i .before in
-    let same = l .loop .inv .0 in
-    let low = i .loop-test .taken in (
-      same,
+    let e = w .before .before in
+    let l = e .before .before in
+    let high = within e in
+    let low = e .block-end .ensures .0 in (
+      l .loop .inv .0,
       λ v T. record {
-        y = l .loop .x + 1;
-        inside = omega arith;
+        y = e .block-end .result;
+        inside = high;
         skips = c .skip-grouped2 .ensures;
-        met = w .write-one .ensures _ _ (skipped-here (l .loop .inv .1 v T) (omega arith));
+        met = w .write-some .ensures _ _ (skipped-here (l .loop .inv .1 v T) (omega arith));
       },
     )
 
@@ -126,9 +142,10 @@ write-marked-spec =
     add-w
     skip-grouped-requires
     loop-holds
-    cast-write-one
-    write-one-requires
-    add-skip-grouped
+    block-end-requires
+    cast-write-some
+    cast-write-some-2
+    write-some-requires
     skip-grouped-requires-2
     loop-less
     loop-again
