@@ -3,8 +3,9 @@ ghost use mathlib.Core.Path.{_≡_};
 ghost use mathlib.Core.Bool.{true, false};
 ghost use mathlib.Core.List.{List};
 ghost use Prim.Native.Nat.{ℕ, _+_, _≤_, _<_};
+ghost use lib.ListN.{length};
 ghost use Rattle.model.specs.Journal.{changesFrom};
-ghost use Rattle.scans.specs.Clear.{Grouped};
+ghost use Rattle.scans.specs.Clear.{Grouped, Skips};
 ghost use Rattle.drafts.specs.Drafts.{drafted};
 ghost use Rattle.marked_links.specs.Marked.{before, after, MarkedRecord, SomeMarkedRecord, MarkedPass, ToMarked, ToSome};
 
@@ -68,6 +69,18 @@ fn block_end(x: usize, end: usize) -> usize
     if end - x < 32 { end } else { x + 32 }
 }
 
+// From y on past marks that are 0, but not where y is the end of all slots.
+fn skip_to(marks: &[u8], groups: &[u8], y: usize, end: usize) -> usize
+    requires { ⌜ (Grouped (now marks) (now groups)) × (y ≤ length (now marks)) ⌝ }
+    ensures { λ r. ⌜ Skips (now (marks .entry)) y r ⌝ }
+{
+    if y < end {
+        scans::skip_grouped(marks, groups, y)
+    } else {
+        y
+    }
+}
+
 // Drafts the record of the change between the table and the one in which the darts marked with 1 are i-free: where it sews, to the
 // table, else from it. It costs what the groups with a mark cost.
 pub fn write_marked(
@@ -90,6 +103,6 @@ pub fn write_marked(
     while x < end {
         let y = block_end(x, end);
         w = write_some(table, journal, marks, i, sews, w, x as u32, y as u32);
-        x = scans::skip_grouped(marks, groups, y);
+        x = skip_to(marks, groups, y, end);
     }
 }

@@ -83,8 +83,8 @@ write-some-requires c κs =
       inside = high;
     }
 
-skip-grouped-requires-2 : tie.Need-skip-grouped-requires-2 Inv-loop μ-loop
-skip-grouped-requires-2 c κs =
+skip-to-requires : tie.Need-skip-to-requires Inv-loop μ-loop
+skip-to-requires c κs =
     let e = c .before .before .before .before in
     let pre = start (e .before .before) .pre in
     let wide = pre .0 .is .freed .wide in
@@ -94,7 +94,7 @@ skip-grouped-requires-2 c κs =
 loop-less : tie.Need-loop-less Inv-loop μ-loop
 loop-less c =
     let e = c .before .before .before .before .before in
-    let on = c .skip-grouped2 .ensures .onward in
+    let on = c .skip-to .ensures .onward in
     let low = e .block-end .ensures .0 in
     let past = e .before .loop-test .taken in
     omega arith
@@ -110,7 +110,7 @@ loop-again c =
       λ v T. record {
         y = e .block-end .result;
         inside = high;
-        skips = c .skip-grouped2 .ensures;
+        skips = c .skip-to .ensures;
         met = w .write-some .ensures _ _ (skipped-here (l .loop .inv .1 v T) (omega arith));
       },
     )
@@ -146,7 +146,7 @@ write-marked-spec =
     cast-write-some
     cast-write-some-2
     write-some-requires
-    skip-grouped-requires-2
+    skip-to-requires
     loop-less
     loop-again
     same-length
