@@ -34,7 +34,7 @@ fn sew_items(
         ≡ sewListCall n (now (table .entry)) (now (journal .entry)) tag (now (list .entry)) ⌝ }
 {
     let mut w: usize = 0;
-    let mut item: u32 = 0;
+    let mut items: u32 = 0;
     let mut count: u32 = 0;
     while w < list.len() {
         let answer = sew_item(
@@ -50,14 +50,15 @@ fn sew_items(
             xs,
             ys,
         );
-        item += 1;
+        let place = items + 1;
         if answer.number != 0 {
             return Answer {
                 number: answer.number,
-                place: item,
+                place: place,
                 count: count,
             };
         }
+        items = place;
         count += answer.count;
         w += 3;
     }

@@ -9,11 +9,11 @@ use Rattle.call_sew.proofs.sew_items.Statement.{statement}
 use Rattle.call_sew.proofs.sew_items.Tie as tie
 
 abbrev Inv-loop : tie.InvT-loop
-Inv-loop n table₀ journal₀ tag list marks₀ groups₀ xs₀ ys₀ w₀ item₀ count₀ table journal marks groups xs ys w item count =
-    Going n tag table₀ journal₀ list marks₀ groups₀ xs₀ ys₀ w item count table journal marks groups xs ys
+Inv-loop n table₀ journal₀ tag list marks₀ groups₀ xs₀ ys₀ w₀ items₀ count₀ table journal marks groups xs ys w items count =
+    Going n tag table₀ journal₀ list marks₀ groups₀ xs₀ ys₀ w items count table journal marks groups xs ys
 
 abbrev μ-loop : tie.MeasureT-loop
-μ-loop n table₀ journal₀ tag list marks₀ groups₀ xs₀ ys₀ w₀ item₀ count₀ table journal marks groups xs ys w item count =
+μ-loop n table₀ journal₀ tag list marks₀ groups₀ xs₀ ys₀ w₀ items₀ count₀ table journal marks groups xs ys w items count =
     length list - w
 
 -- the function's entry, from where the loop stands
@@ -68,8 +68,8 @@ sew-item-requires c κs =
     let G = l .loop .inv in
     (G .ready, going-lent (start l .pre .1) G)
 
-add-item : tie.Need-add-item Inv-loop μ-loop
-add-item c =
+add-place : tie.Need-add-place Inv-loop μ-loop
+add-place c =
     let l = c .before .before .before .before .before .before .before .before .before .before .before .before .before .before .before .before .before .before .before .before .before .before .before in
     let few = going-few (start l .pre .1) (l .loop .inv) in
     omega arith
@@ -105,7 +105,7 @@ on : (c : tie.Else1 Inv-loop μ-loop) →
     let l = turn s .before in
     let a = start l .args in
     Going (a .n) (a .tag) (a .table .now) (a .journal .now) (a .list .now) (a .marks .now) (a .groups .now) (a .xs .now) (a .ys .now)
-    (l .loop .w + 3) (l .loop .item + 1) (l .loop .count + s .sew-item .result .count) (s .sew-item .last .1 .0)
+    (l .loop .w + 3) (l .loop .items + 1) (l .loop .count + s .sew-item .result .count) (s .sew-item .last .1 .0)
     (s .sew-item .last .1 .1 .0) (s .sew-item .last .1 .1 .1 .1 .1 .1 .1 .0) (s .sew-item .last .1 .1 .1 .1 .1 .1 .1 .1 .0)
     (s .sew-item .last .1 .1 .1 .1 .1 .1 .1 .1 .1 .0) (s .sew-item .last .1 .1 .1 .1 .1 .1 .1 .1 .1 .1 .0)
 on c =
@@ -172,7 +172,7 @@ sew-items-spec =
     mul-sew-item-3
     shared-slice-read-sew-item-3
     sew-item-requires
-    add-item
+    add-place
     same-length
     same-length-2
     same-length-3
