@@ -1,5 +1,5 @@
 -- What an opening's answer says of the first checks of a call, as the model lists them: `opened-table` for check,
--- `opened-marks` for orbit, `opened-journal` for add, undo and redo, `opened-side` for sew and unsew, `opened-sheet` for sheet,
+-- `opened-marks` for orbit, `opened-journal` for add, sew, sew_list, undo and redo, `opened-side` for unsew, `opened-sheet` for sheet,
 -- `opened-layer` for remove and split, `opened-wall` for insert.
 use Prim.Native.Nat.{ℕ}
 use mathlib.Core.Path.{_≡_, subst}

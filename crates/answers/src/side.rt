@@ -1,4 +1,4 @@
-// The checks that sew and unsew begin with.
+// The checks that unsew begins with.
 ghost use Rattle.model.specs.Checks.{inOrder};
 ghost use Rattle.answers.specs.Openings.{sideChecks, Settles};
 use crate::Answer;
