@@ -60,7 +60,7 @@ module _ (n : ℕ) (t j : List ℕ) (tag i d e : ℕ) where
 
 -- those of the table and the journal pass
 module _ {n : ℕ} {t j : List ℕ} (ready : Ready n t j) where
-  pub ready-passes : inOrder (dimOk n ∷ tableOk t ∷ journalOk j ∷ mapChecks n t) ≡ pass
+  ready-passes : inOrder (dimOk n ∷ tableOk t ∷ journalOk j ∷ mapChecks n t) ≡ pass
   unfolding inOrder andThen mapChecks
   ready-passes =
       let keeps = map-keeps n t (ready .map) in

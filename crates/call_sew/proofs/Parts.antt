@@ -55,7 +55,7 @@ module _ {t u m gs : List ℕ} {i : ℕ} {P : ℕ → Type 0} {t′ m′ gs′ :
     group-kept g h = if-eq g (x / 256) (λ e. rw e (getD-set-same gs′ (x / 256) 1 0 (F .slot .group)))
         (λ e. getD-set-other gs′ (x / 256) g 1 0 e ∙ h)
 
-    pub part-more : Part t u m gs i (With P x) (set t′ (4 * x + i) y) (set m′ x 1) (set gs′ (x / 256) 1)
+    part-more : Part t u m gs i (With P x) (set t′ (4 * x + i) y) (set m′ x 1) (set gs′ (x / 256) 1)
     part-more = record {
       long = length-set t′ (4 * x + i) y ∙ A .long;
       wide = length-set m′ x 1 ∙ A .wide;
@@ -77,7 +77,7 @@ module _ {t u m gs : List ℕ} {i : ℕ} {P : ℕ → Type 0} {t′ m′ gs′ :
           getD-set-other gs′ (x / 256) g 1 0 (λ e. out x (inr refl) (sym e)) ∙ A .groups g (λ z p. out z (inl p));
     }
 
-pub part-as : {t u m gs : List ℕ} {i : ℕ} {P Q : ℕ → Type 0} {t′ m′ gs′ : List ℕ} → ((x : ℕ) → P x → Q x) → ((x : ℕ) → Q x → P x)
+part-as : {t u m gs : List ℕ} {i : ℕ} {P Q : ℕ → Type 0} {t′ m′ gs′ : List ℕ} → ((x : ℕ) → P x → Q x) → ((x : ℕ) → Q x → P x)
     → Part t u m gs i P t′ m′ gs′ → Part t u m gs i Q t′ m′ gs′
 part-as to from A = record {
   long = A .long;
@@ -91,12 +91,12 @@ part-as to from A = record {
 
 -- ---- the first k pairs
 
-pub among-more : (xs ys : List ℕ) (k x : ℕ) → With (With (Among xs ys k) (getD xs k 0)) (getD ys k 0) x → Among xs ys (k + 1) x
+among-more : (xs ys : List ℕ) (k x : ℕ) → With (With (Among xs ys k) (getD xs k 0)) (getD ys k 0) x → Among xs ys (k + 1) x
 among-more xs ys k x p = ⊎-elim
     (⊎-elim (λ (l, low, is). (l, omega arith, is)) (λ e. (k, omega arith, inl e)))
     (λ e. (k, omega arith, inr e)) p
 
-pub among-less : (xs ys : List ℕ) (k x : ℕ) → Among xs ys (k + 1) x → With (With (Among xs ys k) (getD xs k 0)) (getD ys k 0) x
+among-less : (xs ys : List ℕ) (k x : ℕ) → Among xs ys (k + 1) x → With (With (Among xs ys k) (getD xs k 0)) (getD ys k 0) x
 among-less xs ys k x (l, low, is) = if-eq l k
     (λ e. ⊎-elim (λ q. inl (inr (q ∙ ap (λ (a : ℕ). getD xs a 0) e))) (λ q. inr (q ∙ ap (λ (a : ℕ). getD ys a 0) e)) is)
     (λ e. inl (inl (l, omega arith, is)))
@@ -118,10 +118,10 @@ module _ {n : ℕ} {t m gs : List ℕ} {i d e : ℕ} {xs ys : List ℕ} {size : 
     y-in : Marked (side n t i e) (getD ys k 0)
     y-in = subst (Marked (side n t i e)) partner (f .into (getD xs k 0) x-in)
 
-    pub x-new : getD ys k 0 ≡ link (sewTable n t i d e) i (getD xs k 0)
+    x-new : getD ys k 0 ≡ link (sewTable n t i d e) i (getD xs k 0)
     x-new = sym partner ∙ sym (sew-there (J .able) f (getD xs k 0) x-in)
 
-    pub y-new : getD xs k 0 ≡ link (sewTable n t i d e) i (getD ys k 0)
+    y-new : getD xs k 0 ≡ link (sewTable n t i d e) i (getD ys k 0)
     y-new = sym (ap (link (sewTable n t i d e) i) (sym partner) ∙ sew-back (J .able) f (getD xs k 0) x-in)
 
     pub x-below : getD xs k 0 < slots t

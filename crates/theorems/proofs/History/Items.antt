@@ -1,24 +1,23 @@
 -- An item of a list of sews (02, R-9). `sew-ready`: after an accepted sew the checks of the table and the journal pass again, so that
 -- one test of the table is enough for a list. `list-ends`: how a list ends that passes its checks, by the single calls of its items.
 -- `list-map`: what it makes of a map is a map, also where an item is refused.
-use Prim.Native.Nat.{ℕ, zero, suc, _+_, _*_, _≤_, _<_}
+use Prim.Native.Nat.{ℕ, zero, suc, _+_, _<_}
 use mathlib.Core.Path.{_≡_, refl, sym, ap, _∙_}
 use mathlib.Core.Logic.{_⊎_, inl, inr, ⊎-elim, _≢_}
 use mathlib.Core.Bool.{true}
-use mathlib.Core.List.{List, [], _∷_, _++_}
+use mathlib.Core.List.{List, [], _∷_}
 use native.Mathlib.Omega.{arith}
 use lib.ListN.{length}
 use Rattle.model.specs.Lists.{indexOf}
 use Rattle.model.specs.Map.{isMap}
-use Rattle.model.specs.Journal.{cursor, end, changesFrom, recordOf, recordLength}
+use Rattle.model.specs.Journal.{cursor, changesFrom, recordOf, recordLength}
 use Rattle.model.specs.Checks.{Check, pass, refuse, inOrder, tableOk, sewChecks, listChecks}
 use Rattle.model.specs.Calls.{Outcome, refused, sewCall, Item, items, sewItems, sewListCall}
-use Rattle.model.specs.Runs.{Op, Call, doCall, keeping, Step, State, answer, stepped, run, itemStep}
+use Rattle.model.specs.Runs.{Op, Call, doCall, keeping, State, answer, stepped, run, itemStep}
 use Rattle.model.specs.Meaning.Lists.{member}
 use Rattle.model.specs.Meaning.Maps.{NoRule}
 use Rattle.model.specs.Meaning.Ends.{lent, numbers, doneOf}
-use Rattle.model.specs.Meaning.Numbers.{JournalRule}
-use Rattle.model.specs.Meaning.SewLists.{Ready, sewsOf, AllAccepted, countOf, Standing, AllSewn, Stopped}
+use Rattle.model.specs.Meaning.SewLists.{Ready, Standing, AllSewn, Stopped}
 use Rattle.theorems.proofs.Lists.Scan.{if-eq, clash}
 use Rattle.theorems.proofs.Lists.Ones.{in-member}
 use Rattle.theorems.proofs.Calls.Pass.{journal-pass}
@@ -147,7 +146,7 @@ module _ (n tag k q : ℕ) (t j : List ℕ) (x : Item) (xs : List Item) where
       go (suc z) e = rw (e, sewItems) (rw e)
 
   -- it changes nothing then
-  pub item-untouched : one .number ≢ 0 → (one .table ≡ t) × (one .journal ≡ j)
+  item-untouched : one .number ≢ 0 → (one .table ≡ t) × (one .journal ≡ j)
   unfolding doCall keeping
   item-untouched h = let same = call-untouched n (lent t [] j) (Call.op tag (Op.sew (x .i) (x .d) (x .e))) h in (same .table, same .journal)
 
@@ -193,7 +192,7 @@ module _ (n tag : ℕ) where
     count = let all = S .count in omega arith;
   })
 
-  pub items-end : (k q : ℕ) (s : State) (xs : List Item) → EndsFrom k q s xs
+  items-end : (k q : ℕ) (s : State) (xs : List Item) → EndsFrom k q s xs
   unfolding run
   items-end k q s [] = inl (unfold sewItems in record {
     number = refl;

@@ -8,7 +8,7 @@ use mathlib.Core.List.{List, [], _∷_, _++_}
 use native.Mathlib.Omega.{arith}
 use Rattle.model.specs.Checks.{Check, pass, refuse, inOrder, ruleNumber, listChecks}
 use Rattle.model.specs.Calls.{Outcome, refused, Item, items, sewItems, sewListCall}
-use Rattle.model.specs.Runs.{Op, Call, doCall, keeping, Step, State, History, answered, answer, stepped, run, start}
+use Rattle.model.specs.Runs.{Op, Call, doCall, keeping, Step, State, answer, stepped, run, start}
 use Rattle.model.specs.Runs.{itemStep, itemSteps, listSteps, Turn, single, listed, turned, runTurns, turnSteps, singleSteps}
 use Rattle.model.specs.Meaning.Ends.{lent}
 use Rattle.model.specs.Meaning.Maps.{NoRule}
