@@ -140,7 +140,7 @@ fn sew_opened(n: u32, table: &mut [u32], journal: &mut [u32], tag: u32, list: &[
     sew_large(n, table, journal, tag, list)
 }
 
-// "Count: entries changed." It is a list of one item, whose place is told for no refusal.
+// "Count: entries changed." It is a list of one item, but that its place is not told.
 pub fn sew(
     n: u32,
     table: &mut [u32],
