@@ -1,7 +1,7 @@
 -- How sew ends: refused by a check (`sew-refused`; by 12, `sew-unpaired`), else by what is left of it, `commit` (`sew-goes`); and what
--- it knows on the way: by which tests 9 and 10 go, what the walk of both sides asks (`sides-apart`), how many entries change
--- (`changes-number`), what the sides are joined by (`joining`), and what the record is drafted from (`sewn-record`) and is
--- (`sewn-drafted`).
+-- it knows on the way: that the checks of the table and the journal pass (`Ready`, from those of a list by `list-ready`), by which tests 9
+-- and 10 go, what the walk of both sides asks (`sides-apart`), how many entries change (`changes-number`), what the sides are joined by
+-- (`joining`), and what the record is drafted from (`sewn-record`) and is (`sewn-drafted`).
 use Prim.Native.Nat.{ℕ, _+_, _*_, _%_, _≤_, _<_}
 use mathlib.Core.Path.{_≡_, sym, ap, _∙_}
 use mathlib.Core.Logic.{_≢_, ⊎-elim}
@@ -117,10 +117,6 @@ free-test t i d e one other = rw (one, other)
 -- ---- the checks before 12 have passed
 
 module _ (n : ℕ) (t j : List ℕ) (i d e : ℕ) (h : inOrder (sidesChecks n t j i d e) ≡ pass) where
-  pub table-rule : tableOk t ≡ pass
-  unfolding sidesChecks
-  table-rule = passed-at (sidesChecks n t j i d e) h 1
-
   pub journal-rule : JournalRule j
   unfolding sidesChecks
   journal-rule = journal-pass j (passed-at (sidesChecks n t j i d e) h 2)

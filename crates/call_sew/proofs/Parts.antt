@@ -1,5 +1,6 @@
 -- Two sides joined pair by pair: the darts that are linked so far (`Part`), one more (`part-more`), from none (`part-none`) to all
--- (`part-all`); and their marks taken back, the last pair first (`Left`, `left-less`), until none is left (`left-none`).
+-- (`part-all`); and their marks taken back, the last pair first (`Left`, `left-less`), until none is left (`left-none`), or all cleared
+-- (`cleared`). `lent-new`: new buffers.
 use Prim.Native.Nat.{ℕ, zero, suc, _+_, _*_, _-_, _/_, _≤_, _<_}
 use mathlib.Core.Path.{_≡_, refl, sym, ap, _∙_, subst}
 use mathlib.Core.Logic.{_⊎_, inl, inr, _≢_, ⊎-elim}

@@ -1,7 +1,7 @@
 -- An item of a list of sews (02, R-9). `sew-ready`: after an accepted sew the checks of the table and the journal pass again, so that
 -- one test of the table is enough for a list. `list-ends`: how a list ends that passes its checks, by the single calls of its items.
 -- `list-map`: what it makes of a map is a map, also where an item is refused.
-use Prim.Native.Nat.{ℕ, zero, suc, _+_, _<_}
+use Prim.Native.Nat.{ℕ, zero, suc, _+_}
 use mathlib.Core.Path.{_≡_, refl, sym, ap, _∙_}
 use mathlib.Core.Logic.{_⊎_, inl, inr, ⊎-elim, _≢_}
 use mathlib.Core.Bool.{true}
@@ -37,7 +37,6 @@ pub record ReadyAgain (n : ℕ) (t j : List ℕ) (r : Outcome) : Type 0 where
   pub long : length (r .table) ≡ length t
   pub words : length (r .journal) ≡ length j
   pub at-cursor : cursor (r .journal) ≡ cursor j + recordLength (r .count)
-  pub some : 0 < r .count
 
 pub sew-ready : (n : ℕ) (t j : List ℕ) (tag i d e : ℕ) → Ready n t j → sewCall n t j tag i d e .number ≡ 0
     → ReadyAgain n t j (sewCall n t j tag i d e)
@@ -47,14 +46,13 @@ sew-ready n t j tag i d e ready h =
     let p = Op.sew i d e in
     let done = op-accepted n o tag p h in
     let written = op-recorded n o tag p h in
-    let counts = sew-count n o tag i d e h in
     let rule = journal-pass j (ready .journal) in
     let long = ap length (done .table) ∙ effect-length n t p in
     let size = length-record tag (changesFrom 0 t (sewCall n t j tag i d e .table)) in
     let at = written .at-cursor in
     let ends = written .at-end in
     let words = written .long in
-    let number = counts .size in
+    let number = sew-count n o tag i d e h .size in
     let low = rule .low in
     let two = rule .long in
     let few = rule .few in
@@ -73,7 +71,6 @@ sew-ready n t j tag i d e ready h =
       long = long;
       words = words;
       at-cursor = omega arith;
-      some = counts .some;
     }
 
 -- ---- the answer of one
