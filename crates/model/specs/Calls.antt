@@ -19,7 +19,7 @@ use Rattle.model.specs.Insert.{insertTable}
 use Rattle.model.specs.Journal.{Change, cursor, changesFrom, recordOf, recordLength, written, changesAt, tagAt, put}
 use Rattle.model.specs.Journal.{unbroken}
 use Rattle.model.specs.Checks.{pass, refuse, inOrder, checkChecks, orbitChecks, sheetChecks, addChecks, sewChecks, unsewChecks}
-use Rattle.model.specs.Checks.{listChecks, layerChecks, splitChecks, insertChecks, stepChecks, undoOk, redoOk}
+use Rattle.model.specs.Checks.{pickChecks, listChecks, layerChecks, splitChecks, insertChecks, stepChecks, undoOk, redoOk}
 
 pub record Outcome : Type 0 where
   pub number : ℕ
@@ -71,15 +71,30 @@ orbitCall n t m mask d =
       | refuse k p q ↦ refused k p q t m []
     ]
 
--- "Count: size of S."
+-- "Count: size of S.", and the marks
+abbrev pub sheetOutcome : ℕ → List ℕ → ℕ → Outcome
+sheetOutcome n t d =
+    let s = sheet n t d in
+    record { number = 0; place = 0; count = count 1 s; table = t; marks = sheetMarks n t s; journal = [] }
+
 unfoldable pub sheetCall : ℕ → List ℕ → List ℕ → ℕ → Outcome
 sheetCall n t m d =
     elim (inOrder (sheetChecks n t m d)) [
-      | pass ↦ (
-          let s = sheet n t d in
-          record { number = 0; place = 0; count = count 1 s; table = t; marks = sheetMarks n t s; journal = [] })
+      | pass ↦ sheetOutcome n t d
       | refuse k p q ↦ refused k p q t m []
     ]
+
+-- 02, R-13: pick d over the queue w: "its marks and answers equal the first engine's"
+unfoldable pub pickCall : ℕ → List ℕ → List ℕ → List ℕ → ℕ → Outcome
+pickCall n t m w d =
+    elim (inOrder (pickChecks n t m w d)) [
+      | pass ↦ sheetOutcome n t d
+      | refuse k p q ↦ refused k p q t m []
+    ]
+
+-- "how many it took off, which equals the sheet's size"; of a refusal 0
+unfoldable pub pickTaken : ℕ → List ℕ → List ℕ → List ℕ → ℕ → ℕ
+pickTaken n t m w d = elim (inOrder (pickChecks n t m w d)) [ pass ↦ count 1 (sheet n t d) | refuse k p q ↦ 0 ]
 
 -- ---- the operations, each with the tag of its record
 

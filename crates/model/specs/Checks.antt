@@ -1,5 +1,5 @@
 -- Numbers a call gives back: for each number the check that refuses by it, and for each call its checks, which "run in the
--- order of the numbers", 24 to 26 in 5's place, 38 behind them and 28 to 32 behind 8. 15 and 17 ask what a call would write or put
+-- order of the numbers", 37 behind 3, 24 to 26 in 5's place, 38 behind them and 28 to 32 behind 8. 15 and 17 ask what a call would write or put
 -- back: they stand with the calls.
 use Prim.Native.Nat.{ℕ, _+_, _*_, _%_, _^_}
 use mathlib.Core.Bool.{Bool, true, false, not, _&&_, _||_}
@@ -54,6 +54,10 @@ tableOk t = must (eqb (length t % 4) 0 && leb (length t) 262144) 2
 -- 3: "marks length differs from slots"
 unfoldable pub marksOk : List ℕ → List ℕ → Check
 marksOk t m = must (eqb (length m) (slots t)) 3
+
+-- 37: "queue length differs from slots"
+unfoldable pub queueOk : List ℕ → List ℕ → Check
+queueOk t w = must (eqb (length w) (slots t)) 37
 
 -- 4: "journal length or its two words out of rule"
 unfoldable pub journalOk : List ℕ → Check
@@ -162,6 +166,10 @@ orbitChecks n t m mask d = dimOk n ∷ tableOk t ∷ marksOk t m ∷ (mapChecks 
 
 unfoldable pub sheetChecks : ℕ → List ℕ → List ℕ → ℕ → List Check
 sheetChecks n t m d = dimOk n ∷ tableOk t ∷ marksOk t m ∷ (mapChecks n t ++ (dartOk t d ∷ blockOk n t ∷ []))
+
+unfoldable pub pickChecks : ℕ → List ℕ → List ℕ → List ℕ → ℕ → List Check
+pickChecks n t m w d =
+    dimOk n ∷ tableOk t ∷ marksOk t m ∷ queueOk t w ∷ (mapChecks n t ++ (dartOk t d ∷ blockOk n t ∷ []))
 
 unfoldable pub addChecks : ℕ → List ℕ → List ℕ → List Check
 addChecks n t j = dimOk n ∷ tableOk t ∷ journalOk j ∷ (mapChecks n t ++ (addRoomOk n t ∷ []))

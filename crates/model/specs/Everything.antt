@@ -22,10 +22,12 @@ use Rattle.model.specs.Insert.{layerLink, laidLink, laid, insertTable}
 use Rattle.model.specs.Checks.{must, mustAt, andThen, inOrder, dimOk, tableOk, marksOk, journalOk, ruleNumber, ruleOk, mapChecks}
 use Rattle.model.specs.Checks.{indexOk, maskOk, dartOk, blockOk, apartOk, freeOk, sewnOk, pairingOk, crossingOk, addRoomOk}
 use Rattle.model.specs.Checks.{newRoomOk, undoOk, redoOk, checkChecks, orbitChecks, sheetChecks, addChecks}
-use Rattle.model.specs.Checks.{listOk, sidesChecks, sewChecks, listChecks, unsewChecks, layerChecks, splitChecks, stepChecks}
+use Rattle.model.specs.Checks.{queueOk, pickChecks, listOk, sidesChecks, sewChecks, listChecks, unsewChecks, layerChecks}
+use Rattle.model.specs.Checks.{splitChecks, stepChecks}
 use Rattle.model.specs.Checks.{drawnOk, enclosedOk, sewnWallOk, turnsOk, connectedOk, wallChecks, insertChecks}
 use Rattle.model.specs.Calls.{refused, commit, checkCall, orbitCall, sheetCall, addCall, sewCall, unsewCall}
-use Rattle.model.specs.Calls.{removeCall, splitCall, insertCall, items, sewItems, sewListCall, stepOutcome, undoCall, redoCall}
+use Rattle.model.specs.Calls.{pickCall, pickTaken, removeCall, splitCall, insertCall, items, sewItems, sewListCall}
+use Rattle.model.specs.Calls.{stepOutcome, undoCall, redoCall}
 
 unfoldable pub openLists : Unit {0}
 unfolding tabulateFrom tabulate count onesFrom indexOf leastFrom least allFrom allBelow allOf
@@ -96,7 +98,7 @@ unfolding sewnOk pairingOk crossingOk addRoomOk newRoomOk undoOk redoOk checkChe
 openChecksMore = tt
 
 unfoldable pub openChecksMost : Unit {0}
-unfolding listOk sidesChecks sewChecks listChecks unsewChecks layerChecks splitChecks stepChecks
+unfolding queueOk pickChecks listOk sidesChecks sewChecks listChecks unsewChecks layerChecks splitChecks stepChecks
 openChecksMost = tt
 
 unfoldable pub openWallChecks : Unit {0}
@@ -108,7 +110,7 @@ unfolding refused commit checkCall orbitCall sheetCall addCall sewCall unsewCall
 openCalls = tt
 
 unfoldable pub openCallsMore : Unit {0}
-unfolding insertCall items sewItems sewListCall redoCall
+unfolding pickCall pickTaken insertCall items sewItems sewListCall redoCall
 openCallsMore = tt
 
 unfoldable pub openMaps : Unit {0}

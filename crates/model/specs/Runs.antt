@@ -12,7 +12,7 @@ use Rattle.model.specs.Split.{splitTable}
 use Rattle.model.specs.Insert.{insertTable}
 use Rattle.model.specs.Checks.{pass, refuse, inOrder, listChecks}
 use Rattle.model.specs.Calls.{Outcome, checkCall, orbitCall, sheetCall, addCall, sewCall, unsewCall, removeCall, splitCall}
-use Rattle.model.specs.Calls.{insertCall, Item, items, sewListCall, undoCall, redoCall}
+use Rattle.model.specs.Calls.{pickCall, insertCall, Item, items, sewListCall, undoCall, redoCall}
 
 -- ---- calls as data
 
@@ -24,11 +24,12 @@ pub data Op : Type 0 where
   remove split : ℕ → Op
   insert : List ℕ → Op
 
--- orbit (mask, d); an operation with its tag
+-- orbit (mask, d); pick (the queue, d); an operation with its tag
 pub data Call : Type 0 where
   check undo redo : Call
   orbit : ℕ → ℕ → Call
   sheet : ℕ → Call
+  pick : List ℕ → ℕ → Call
   op : ℕ → Op → Call
 
 -- a table with no live slot, marks that are 0, and a fresh journal of so many words, for a first call
@@ -54,6 +55,7 @@ doCall n o Call.undo = let r = undoCall n (o .table) (o .journal) in keeping r (
 doCall n o Call.redo = let r = redoCall n (o .table) (o .journal) in keeping r (o .marks) (r .journal)
 doCall n o (Call.orbit mask d) = let r = orbitCall n (o .table) (o .marks) mask d in keeping r (r .marks) (o .journal)
 doCall n o (Call.sheet d) = let r = sheetCall n (o .table) (o .marks) d in keeping r (r .marks) (o .journal)
+doCall n o (Call.pick w d) = let r = pickCall n (o .table) (o .marks) w d in keeping r (r .marks) (o .journal)
 doCall n o (Call.op tag Op.add) = let r = addCall n (o .table) (o .journal) tag in keeping r (o .marks) (r .journal)
 doCall n o (Call.op tag (Op.sew i d e)) =
     let r = sewCall n (o .table) (o .journal) tag i d e in
@@ -114,6 +116,7 @@ accepted Call.undo h = afterUndo (h .standing) (h .undone)
 accepted Call.redo h = afterRedo (h .standing) (h .undone)
 accepted (Call.orbit mask d) h = h
 accepted (Call.sheet d) h = h
+accepted (Call.pick w d) h = h
 accepted (Call.op tag p) h = afterOp (record { tag = tag; op = p }) h
 
 -- after a call that gave this number

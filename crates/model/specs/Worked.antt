@@ -21,7 +21,7 @@ use Rattle.model.specs.Meaning.Ends.{lent}
 use Rattle.model.specs.Meaning.Lists.{member}
 use Rattle.model.specs.Meaning.Worked.{Case, Seen, gives, goes, marksAre, markedAre, cursorIs, endIs, wordsAre, frees}
 use Rattle.model.specs.Meaning.Worked.{changes, liveAre, restores, asCalls, beginOn, doAll, sees, seesAll, holdsFrom, holds}
-use Rattle.model.specs.Meaning.Worked.{failing, ListCase, holdsList, failingLists}
+use Rattle.model.specs.Meaning.Worked.{failing, ListCase, holdsList, failingLists, PickCase, holdsPick, failingPicks}
 
 -- operations that all have one tag
 tagged : ℕ → List Op → List Call
@@ -358,6 +358,52 @@ listCases =
 pub lists-hold : failingLists listCases ≡ []
 unfolding everything listCases listRow parts unlinkedParts tagged madeOf made effect quad unlinked quadTable damaged failingLists holdsList seesAll sees begin beginOn doAll doCall keeping equal
 lists-hold = refl
+
+-- ---- R-13: pick, with marks of 9 and a queue of junk
+
+-- label, dimension, table, words of the queue, dart, what is seen: number, place, count and taken, the marks
+pickRow : ℕ → ℕ → List ℕ → ℕ → ℕ → List ℕ → List ℕ → PickCase
+pickRow l n t w d a ms = record {
+  label = l;
+  dim = n;
+  table = t;
+  marks = replicate (slots t) 9;
+  queue = replicate w unused;
+  dart = d;
+  answer = a;
+  leaves = ms;
+}
+
+-- T's middle layer; a sheet that is everything; one that touches itself; a hexahedron's. A queue that is shorter, longer, none; 37 before a rule
+-- of a map, and 3 before 37; then no map, no live dart, no block map
+pub pickCases : List PickCase
+pickCases =
+    pickRow 11301 2 (made 2 24 three) 24 8 (0 ∷ 0 ∷ 4 ∷ 4 ∷ []) middle
+    ∷ pickRow 11302 2 (made 2 8 bent) 8 0 (0 ∷ 0 ∷ 8 ∷ 8 ∷ []) (replicate 8 1)
+    ∷ pickRow 11303 2 (made 2 8 ring) 8 0 (0 ∷ 0 ∷ 4 ∷ 4 ∷ []) (replicate 4 1 ++ replicate 4 2)
+    ∷ pickRow 11304 3 hexahedronTable 48 0 (0 ∷ 0 ∷ 16 ∷ 16 ∷ []) (replicate 16 1 ++ replicate 32 2)
+    ∷ pickRow 11305 2 quadTable 7 0 (37 ∷ 0 ∷ 0 ∷ 0 ∷ []) (replicate 8 9)
+    ∷ pickRow 11306 2 quadTable 9 0 (37 ∷ 0 ∷ 0 ∷ 0 ∷ []) (replicate 8 9)
+    ∷ pickRow 11307 2 quadTable 0 0 (37 ∷ 0 ∷ 0 ∷ 0 ∷ []) (replicate 8 9)
+    ∷ pickRow 11308 2 (damaged 7 3 8 quadTable) 7 0 (37 ∷ 0 ∷ 0 ∷ 0 ∷ []) (replicate 8 9)
+    ∷ record {
+      label = 11309;
+      dim = 2;
+      table = quadTable;
+      marks = replicate 7 9;
+      queue = [];
+      dart = 0;
+      answer = 3 ∷ 0 ∷ 0 ∷ 0 ∷ [];
+      leaves = replicate 7 9;
+    }
+    ∷ pickRow 11310 2 (damaged 7 3 8 quadTable) 8 0 (5 ∷ 7 ∷ 3 ∷ 0 ∷ []) (replicate 8 9)
+    ∷ pickRow 11311 2 quadTable 8 8 (7 ∷ 0 ∷ 0 ∷ 0 ∷ []) (replicate 8 9)
+    ∷ pickRow 11312 2 (made 2 8 unlinked) 8 5 (8 ∷ 0 ∷ 0 ∷ 0 ∷ []) (replicate 8 9)
+    ∷ []
+
+pub picks-hold : failingPicks pickCases ≡ []
+unfolding everything pickCases pickRow tagged madeOf made effect quad three bent unlinked ring quadTable hexahedronTable damaged middle failingPicks holdsPick equal
+picks-hold = refl
 
 -- 14: "262,144 entries pass check 2, 262,148 don't"
 pub longest-passes : (t : List ℕ) → length t ≡ 262144 → tableOk t ≡ pass

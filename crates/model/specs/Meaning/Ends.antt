@@ -20,8 +20,8 @@ use Rattle.model.specs.Split.{splitTable}
 use Rattle.model.specs.Insert.{insertTable}
 use Rattle.model.specs.Journal.{cursor, end, changesFrom, recordOf, recordLength, written, changesAt, tagAt, put, unbroken}
 use Rattle.model.specs.Checks.{Check, pass, refuse, must, inOrder, ruleNumber}
-use Rattle.model.specs.Checks.{dimOk, tableOk, marksOk, journalOk, pairingOk, undoOk, redoOk}
-use Rattle.model.specs.Checks.{checkChecks, orbitChecks, sheetChecks}
+use Rattle.model.specs.Checks.{dimOk, tableOk, marksOk, queueOk, journalOk, pairingOk, undoOk, redoOk}
+use Rattle.model.specs.Checks.{checkChecks, orbitChecks, sheetChecks, pickChecks}
 use Rattle.model.specs.Checks.{addChecks, sidesChecks, sewChecks, unsewChecks, layerChecks, splitChecks, insertChecks, stepChecks}
 use Rattle.model.specs.Calls.{Outcome, refused}
 use Rattle.model.specs.Runs.{Op, Call, doCall, effect}
@@ -58,6 +58,7 @@ unfoldable pub checksOf : ℕ → List ℕ → List ℕ → List ℕ → Call �
 checksOf n t m j Call.check = checkChecks n t
 checksOf n t m j (Call.orbit mask d) = orbitChecks n t m mask d
 checksOf n t m j (Call.sheet d) = sheetChecks n t m d
+checksOf n t m j (Call.pick w d) = pickChecks n t m w d
 checksOf n t m j (Call.op tag Op.add) = addChecks n t j ++ (recordOk tag t (addTable n t) j ∷ [])
 checksOf n t m j (Call.op tag (Op.sew i d e)) =
     sidesChecks n t j i d e ++ (pairingOk n t i d e ∷ recordOk tag t (sewTable n t i d e) j ∷ [])
@@ -78,6 +79,8 @@ abbrev pub firstChecks : ℕ → Outcome → Call → List Check
 firstChecks n o Call.check = dimOk n ∷ tableOk (o .table) ∷ []
 firstChecks n o (Call.orbit mask d) = dimOk n ∷ tableOk (o .table) ∷ marksOk (o .table) (o .marks) ∷ []
 firstChecks n o (Call.sheet d) = dimOk n ∷ tableOk (o .table) ∷ marksOk (o .table) (o .marks) ∷ []
+firstChecks n o (Call.pick w d) =
+    dimOk n ∷ tableOk (o .table) ∷ marksOk (o .table) (o .marks) ∷ queueOk (o .table) w ∷ []
 firstChecks n o (Call.op tag Op.add) = dimOk n ∷ tableOk (o .table) ∷ journalOk (o .journal) ∷ []
 firstChecks n o (Call.op tag (Op.sew i d e)) = dimOk n ∷ tableOk (o .table) ∷ journalOk (o .journal) ∷ []
 firstChecks n o (Call.op tag (Op.unsew i d)) = dimOk n ∷ tableOk (o .table) ∷ journalOk (o .journal) ∷ []
@@ -90,7 +93,7 @@ firstChecks n o (Call.op tag (Op.insert w)) =
 firstChecks n o Call.undo = dimOk n ∷ tableOk (o .table) ∷ journalOk (o .journal) ∷ []
 firstChecks n o Call.redo = dimOk n ∷ tableOk (o .table) ∷ journalOk (o .journal) ∷ []
 
--- the numbers of a call's checks: the column "Calls" of 01's table, and 02's R-3 and R-5. sew has 7 twice, for d and for e
+-- the numbers of a call's checks: the column "Calls" of 01's table, and 02's R-3, R-5 and R-13. sew has 7 twice, for d and for e
 abbrev pub opNumbers : Op → List ℕ
 opNumbers Op.add = 1 ∷ 2 ∷ 4 ∷ 5 ∷ 24 ∷ 25 ∷ 26 ∷ 14 ∷ 15 ∷ []
 opNumbers (Op.sew i d e) = 1 ∷ 2 ∷ 4 ∷ 5 ∷ 24 ∷ 25 ∷ 26 ∷ 6 ∷ 7 ∷ 7 ∷ 9 ∷ 10 ∷ 12 ∷ 15 ∷ []
@@ -103,6 +106,7 @@ abbrev pub numbers : Call → List ℕ
 numbers Call.check = 1 ∷ 2 ∷ 5 ∷ 24 ∷ 25 ∷ 26 ∷ []
 numbers (Call.orbit mask d) = 1 ∷ 2 ∷ 3 ∷ 5 ∷ 24 ∷ 25 ∷ 26 ∷ 6 ∷ 7 ∷ []
 numbers (Call.sheet d) = 1 ∷ 2 ∷ 3 ∷ 5 ∷ 24 ∷ 25 ∷ 26 ∷ 7 ∷ 8 ∷ []
+numbers (Call.pick w d) = 1 ∷ 2 ∷ 3 ∷ 37 ∷ 5 ∷ 24 ∷ 25 ∷ 26 ∷ 7 ∷ 8 ∷ []
 numbers (Call.op tag p) = opNumbers p
 numbers Call.undo = 1 ∷ 2 ∷ 4 ∷ 5 ∷ 24 ∷ 25 ∷ 26 ∷ 16 ∷ 17 ∷ []
 numbers Call.redo = 1 ∷ 2 ∷ 4 ∷ 5 ∷ 24 ∷ 25 ∷ 26 ∷ 16 ∷ 17 ∷ []
@@ -148,6 +152,7 @@ unfoldable pub refusalMarks : ℕ → Outcome → Call → ℕ → List ℕ
 refusalMarks n o Call.check k = o .marks
 refusalMarks n o (Call.orbit mask d) k = o .marks
 refusalMarks n o (Call.sheet d) k = o .marks
+refusalMarks n o (Call.pick w d) k = o .marks
 refusalMarks n o (Call.op tag Op.add) k = o .marks
 refusalMarks n o (Call.op tag (Op.sew i d e)) k = o .marks
 refusalMarks n o (Call.op tag (Op.unsew i d)) k = o .marks
@@ -176,6 +181,7 @@ pub data Reading : Call → Type 0 where
   reads-check : Reading Call.check
   reads-orbit : {mask d : ℕ} → Reading (Call.orbit mask d)
   reads-sheet : {d : ℕ} → Reading (Call.sheet d)
+  reads-pick : {w : List ℕ} {d : ℕ} → Reading (Call.pick w d)
 
 -- one of these: the table and the journal stay; the place, the count and the marks
 abbrev pub marking : List ℕ → List ℕ → ℕ → ℕ → List ℕ → Outcome
@@ -207,6 +213,7 @@ unfoldable pub doneOf : ℕ → List ℕ → List ℕ → List ℕ → Call → 
 doneOf n t m j Call.check = marking t j 0 (elim (isBlock n t) [ true ↦ 2 | false ↦ 1 ]) m
 doneOf n t m j (Call.orbit mask d) = let s = orbit n t mask d in marking t j (orbitPlace n mask) (count 1 s) s
 doneOf n t m j (Call.sheet d) = let s = sheet n t d in marking t j 0 (count 1 s) (sheetMarks n t s)
+doneOf n t m j (Call.pick w d) = let s = sheet n t d in marking t j 0 (count 1 s) (sheetMarks n t s)
 doneOf n t m j (Call.op tag Op.add) = changing t j tag (addTable n t) (getD (addSlots n t) 0 0) (cellSize n) m
 doneOf n t m j (Call.op tag (Op.sew i d e)) = let u = sewTable n t i d e in changing t j tag u 0 (length (changesFrom 0 t u)) m
 doneOf n t m j (Call.op tag (Op.unsew i d)) = let u = unsewTable n t i d in changing t j tag u 0 (length (changesFrom 0 t u)) m

@@ -50,6 +50,10 @@ tableRow t = record { number = 2; given = (length t % 4 ≢ 0) ⊎ (262144 < len
 abbrev pub marksRow : List ℕ → List ℕ → NumberRow
 marksRow t m = record { number = 3; given = length m ≢ slots t }
 
+-- "queue length differs from slots"
+abbrev pub queueRow : List ℕ → List ℕ → NumberRow
+queueRow t w = record { number = 37; given = length w ≢ slots t }
+
 -- "lent u32 words, 2 to 1,048,576. Word 0 is the cursor, word 1 the end; 2 <= cursor <= end <= length."
 pub record JournalRule (j : List ℕ) : Type 0 where
   pub long : 2 ≤ length j
@@ -153,6 +157,8 @@ numberRows n t m j Call.check = dimRow n ∷ tableRow t ∷ mapRows n t
 numberRows n t m j (Call.orbit mask d) =
     dimRow n ∷ tableRow t ∷ marksRow t m ∷ (mapRows n t ++ (maskRow n mask ∷ dartRow t d ∷ []))
 numberRows n t m j (Call.sheet d) = dimRow n ∷ tableRow t ∷ marksRow t m ∷ (mapRows n t ++ (dartRow t d ∷ blockRow n t ∷ []))
+numberRows n t m j (Call.pick w d) =
+    dimRow n ∷ tableRow t ∷ marksRow t m ∷ queueRow t w ∷ (mapRows n t ++ (dartRow t d ∷ blockRow n t ∷ []))
 numberRows n t m j (Call.op tag Op.add) =
     dimRow n ∷ tableRow t ∷ journalRow j ∷ (mapRows n t ++ (roomRow t (cellSize n) ∷ recordRow tag t (addTable n t) j ∷ []))
 numberRows n t m j (Call.op tag (Op.sew i d e)) =

@@ -7,7 +7,7 @@ use lib.Dec.{eqb}
 use Rattle.model.specs.Lists.{count, equal}
 use Rattle.model.specs.Table.{slots, link, live, liveCount}
 use Rattle.model.specs.Journal.{cursor, end, changesFrom}
-use Rattle.model.specs.Calls.{Outcome, sewListCall}
+use Rattle.model.specs.Calls.{Outcome, sewListCall, pickCall, pickTaken}
 use Rattle.model.specs.Runs.{Op, Call, begin, doCall}
 use Rattle.model.specs.Meaning.Ends.{lent}
 
@@ -96,3 +96,26 @@ holdsList c =
 unfoldable pub failingLists : List ListCase → List ℕ
 failingLists [] = []
 failingLists (c ∷ cs) = elim (holdsList c) [ true ↦ failingLists cs | false ↦ c .label ∷ failingLists cs ]
+
+-- ---- pick over a queue (02, R-13)
+
+-- what is lent, the dart, and what is seen: number, place, count, taken, and the marks that are left
+pub record PickCase : Type 0 where
+  pub label : ℕ
+  pub dim : ℕ
+  pub table : List ℕ
+  pub marks : List ℕ
+  pub queue : List ℕ
+  pub dart : ℕ
+  pub answer : List ℕ
+  pub leaves : List ℕ
+
+unfoldable pub holdsPick : PickCase → Bool
+holdsPick c =
+    let r = pickCall (c .dim) (c .table) (c .marks) (c .queue) (c .dart) in
+    let taken = pickTaken (c .dim) (c .table) (c .marks) (c .queue) (c .dart) in
+    equal (r .number ∷ r .place ∷ r .count ∷ taken ∷ []) (c .answer) && equal (r .marks) (c .leaves)
+
+unfoldable pub failingPicks : List PickCase → List ℕ
+failingPicks [] = []
+failingPicks (c ∷ cs) = elim (holdsPick c) [ true ↦ failingPicks cs | false ↦ c .label ∷ failingPicks cs ]
