@@ -1,6 +1,7 @@
 pub mod Tests
 pub mod Checks
 pub mod Pass
+pub mod Picks
 pub mod Fails
 pub mod Ends
 pub mod Table

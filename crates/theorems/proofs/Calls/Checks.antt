@@ -12,11 +12,11 @@ use borrow.Author.Tests.{ne-eqb, not-true}
 use Rattle.model.specs.Lists.{indexOf}
 use Rattle.model.specs.Map.{MapRule, links-live, links-return, pairs-commute, stays-flat, breakingLink, leastBreaking, isMap}
 use Rattle.model.specs.Checks.{Check, pass, refuse, andThen, must, mustAt, inOrder}
-use Rattle.model.specs.Checks.{dimOk, tableOk, marksOk, journalOk, ruleNumber, ruleOk, mapChecks, indexOk, maskOk, dartOk}
+use Rattle.model.specs.Checks.{dimOk, tableOk, marksOk, queueOk, journalOk, ruleNumber, ruleOk, mapChecks, indexOk, maskOk, dartOk}
 use Rattle.model.specs.Checks.{blockOk, apartOk, freeOk, listOk, listChecks}
 use Rattle.model.specs.Checks.{drawnOk, enclosedOk, sewnWallOk, turnsOk, connectedOk}
 use Rattle.model.specs.Checks.{sewnOk, pairingOk, crossingOk, addRoomOk, newRoomOk, undoOk, redoOk}
-use Rattle.model.specs.Checks.{checkChecks, orbitChecks, sheetChecks, addChecks, sidesChecks, unsewChecks}
+use Rattle.model.specs.Checks.{checkChecks, orbitChecks, sheetChecks, pickChecks, addChecks, sidesChecks, unsewChecks}
 use Rattle.model.specs.Checks.{layerChecks, splitChecks, wallChecks, insertChecks, stepChecks}
 use Rattle.model.specs.Calls.{Outcome}
 use Rattle.model.specs.Runs.{Op, Call}
@@ -258,12 +258,14 @@ module _ (n : ℕ) (o : Outcome) where
   list-numbers l = plain _ 1 refl then plain _ 2 refl then journal-4 then map-then (plain _ 38 refl then last)
 
   pub call-numbers : (c : Call) → Has (numbers c) (checks n o c)
-  unfolding checksOf mapChecks checkChecks orbitChecks sheetChecks addChecks sidesChecks unsewChecks layerChecks splitChecks wallChecks insertChecks stepChecks dimOk tableOk marksOk indexOk maskOk dartOk drawnOk enclosedOk sewnWallOk turnsOk connectedOk apartOk freeOk sewnOk pairingOk crossingOk addRoomOk newRoomOk undoOk redoOk recordOk stepOk member indexOf
+  unfolding checksOf mapChecks checkChecks orbitChecks sheetChecks pickChecks addChecks sidesChecks unsewChecks layerChecks splitChecks wallChecks insertChecks stepChecks dimOk tableOk marksOk queueOk indexOk maskOk dartOk drawnOk enclosedOk sewnWallOk turnsOk connectedOk apartOk freeOk sewnOk pairingOk crossingOk addRoomOk newRoomOk undoOk redoOk recordOk stepOk member indexOf
   call-numbers Call.check = plain _ 1 refl then plain _ 2 refl then map-then last
   call-numbers (Call.orbit mask d) =
       plain _ 1 refl then plain _ 2 refl then plain _ 3 refl then map-then (plain _ 6 refl then plain _ 7 refl then last)
   call-numbers (Call.sheet d) =
       plain _ 1 refl then plain _ 2 refl then plain _ 3 refl then map-then (plain _ 7 refl then block-8 then last)
+  call-numbers (Call.pick w d) =
+      plain _ 1 refl then plain _ 2 refl then plain _ 3 refl then plain _ 37 refl then map-then (plain _ 7 refl then block-8 then last)
   call-numbers (Call.op tag Op.add) =
       plain _ 1 refl then plain _ 2 refl then journal-4 then map-then (plain _ 14 refl then plain _ 15 refl then last)
   call-numbers (Call.op tag (Op.sew i d e)) =

@@ -13,7 +13,7 @@ use Rattle.model.specs.Checks.{Check, pass, refuse, must, andThen, inOrder, pai
 use Rattle.model.specs.Checks.{mapChecks, addChecks, sidesChecks, sewChecks, unsewChecks, layerChecks, splitChecks}
 use Rattle.model.specs.Checks.{insertChecks}
 use Rattle.model.specs.Calls.{Outcome, refused, commit, checkCall, orbitCall, sheetCall, addCall, sewCall, unsewCall}
-use Rattle.model.specs.Calls.{removeCall, splitCall, insertCall, stepOutcome, undoCall, redoCall}
+use Rattle.model.specs.Calls.{pickCall, removeCall, splitCall, insertCall, stepOutcome, undoCall, redoCall}
 use Rattle.model.specs.Runs.{Op, Call, doCall, keeping, effect}
 use Rattle.model.specs.Meaning.Lists.{member}
 use Rattle.model.specs.Meaning.Ends.{recordOk, stepOk, checksOf, checks, numbers, lateNumbers, layerMarks, refusalMarks, refusedBy}
@@ -108,6 +108,10 @@ module _ (n : ℕ) (o : Outcome) where
   unfolding doCall sheetCall checksOf doneOf refusalMarks keeping refused
   sheet-ends d = behind-map (λ r. keeping r (r .marks) j) (behind-checks _ _ _)
 
+  pick-ends : (w : List ℕ) (d : ℕ) → Ends n o (Call.pick w d)
+  unfolding doCall pickCall checksOf doneOf refusalMarks keeping refused
+  pick-ends w d = behind-map (λ r. keeping r (r .marks) j) (behind-checks _ _ _)
+
   add-ends : (tag : ℕ) → Ends n o (Call.op tag Op.add)
   unfolding doCall addCall commit checksOf recordOk doneOf refusalMarks keeping
   add-ends tag = behind-unmarked _ _ 15 _ _ _ _ _
@@ -173,6 +177,7 @@ module _ (n : ℕ) (o : Outcome) where
   call-ends Call.check = check-ends
   call-ends (Call.orbit mask d) = orbit-ends mask d
   call-ends (Call.sheet d) = sheet-ends d
+  call-ends (Call.pick w d) = pick-ends w d
   call-ends (Call.op tag Op.add) = add-ends tag
   call-ends (Call.op tag (Op.sew i d e)) = sew-ends tag i d e
   call-ends (Call.op tag (Op.unsew i d)) = unsew-ends tag i d
@@ -204,6 +209,7 @@ module _ (n : ℕ) (o : Outcome) where
   done-number Call.check = refl
   done-number (Call.orbit mask d) = refl
   done-number (Call.sheet d) = refl
+  done-number (Call.pick w d) = refl
   done-number (Call.op tag Op.add) = refl
   done-number (Call.op tag (Op.sew i d e)) = refl
   done-number (Call.op tag (Op.unsew i d)) = refl

@@ -1,5 +1,5 @@
 -- When each check fails, in the words of 01's table and of 02: `dim-fails` (1) to `step-fails` (17), `drawn-fails` (28) to
--- `connected-fails` (32), `list-fails` (38).
+-- `connected-fails` (32), `queue-fails` (37), `list-fails` (38).
 use Prim.Native.Nat.{ℕ, _+_, _*_, _-_, _%_, _^_, _≤_, _<_}
 use mathlib.Core.Path.{_≡_, refl}
 use mathlib.Core.Logic.{_⊎_, _≢_, _↔_, Iff·rfl, Iff·trans, Iff·and}
@@ -21,7 +21,7 @@ use Rattle.model.specs.NewDarts.{slotsFor}
 use Rattle.model.specs.Journal.{cursor, end, changesFrom, recordOf, changesAt, put, unbroken}
 use Rattle.model.specs.Checks.{pass, must, mustAt, dimOk, tableOk, marksOk, journalOk, ruleNumber, ruleOk, indexOk, maskOk}
 use Rattle.model.specs.Checks.{dartOk, blockOk, apartOk, freeOk, sewnOk, pairingOk, crossingOk, addRoomOk, newRoomOk}
-use Rattle.model.specs.Checks.{listOk, undoOk, redoOk, drawnOk, enclosedOk, sewnWallOk, turnsOk, connectedOk}
+use Rattle.model.specs.Checks.{queueOk, listOk, undoOk, redoOk, drawnOk, enclosedOk, sewnWallOk, turnsOk, connectedOk}
 use Rattle.model.specs.Meaning.Ends.{recordOk, stepOk}
 use Rattle.model.specs.Meaning.Maps.{Dim, BreaksFirst, MapTable, Block}
 use Rattle.model.specs.Meaning.Numbers.{JournalRule, StepFails}
@@ -68,6 +68,10 @@ table-fails t =
 pub marks-fails : (t m : List ℕ) → (marksOk t m ≢ pass) ↔ (length m ≢ slots t)
 unfolding marksOk
 marks-fails t m = must-fails _ 3 (eqb-fails (length m) (slots t))
+
+pub queue-fails : (t w : List ℕ) → (queueOk t w ≢ pass) ↔ (length w ≢ slots t)
+unfolding queueOk
+queue-fails t w = must-fails _ 37 (eqb-fails (length w) (slots t))
 
 pub list-fails : (l : List ℕ) → (listOk l ≢ pass) ↔ (length l % 3 ≢ 0)
 unfolding listOk

@@ -12,7 +12,7 @@ use Rattle.model.specs.Lists.{indexOf}
 use Rattle.model.specs.Map.{MapRule, links-live, links-return, pairs-commute, stays-flat, keepsRule}
 use Rattle.model.specs.Map.{leastBreaking, isMap}
 use Rattle.model.specs.Checks.{Check, pass, refuse, mustAt, andThen, inOrder, dimOk, ruleNumber, ruleOk, mapChecks}
-use Rattle.model.specs.Checks.{checkChecks, orbitChecks, sheetChecks, addChecks, sidesChecks, unsewChecks}
+use Rattle.model.specs.Checks.{checkChecks, orbitChecks, sheetChecks, pickChecks, addChecks, sidesChecks, unsewChecks}
 use Rattle.model.specs.Checks.{layerChecks, insertChecks, stepChecks}
 use Rattle.model.specs.Calls.{Outcome, refused}
 use Rattle.model.specs.Runs.{Op, Call, doCall}
@@ -92,10 +92,11 @@ module _ (n : ℕ) (o : Outcome) where
     clear : noRules (take (length (firstChecks n o c)) (numbers c)) ≡ true
 
   begins : (c : Call) → Begins c
-  unfolding checksOf mapChecks checkChecks orbitChecks sheetChecks addChecks sidesChecks unsewChecks layerChecks insertChecks stepChecks member indexOf
+  unfolding checksOf mapChecks checkChecks orbitChecks sheetChecks pickChecks addChecks sidesChecks unsewChecks layerChecks insertChecks stepChecks member indexOf
   begins Call.check = record { behind = _; is = refl; dim = refl; clear = refl }
   begins (Call.orbit mask d) = record { behind = _; is = refl; dim = refl; clear = refl }
   begins (Call.sheet d) = record { behind = _; is = refl; dim = refl; clear = refl }
+  begins (Call.pick w d) = record { behind = _; is = refl; dim = refl; clear = refl }
   begins (Call.op tag Op.add) = record { behind = _; is = refl; dim = refl; clear = refl }
   begins (Call.op tag (Op.sew i d e)) = record { behind = _; is = refl; dim = refl; clear = refl }
   begins (Call.op tag (Op.unsew i d)) = record { behind = _; is = refl; dim = refl; clear = refl }

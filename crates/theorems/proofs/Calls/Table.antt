@@ -10,7 +10,7 @@ use Rattle.model.specs.Lists.{ones, indexOf}
 use Rattle.model.specs.Map.{MapRule, links-live, links-return, pairs-commute, stays-flat}
 use Rattle.model.specs.Sheet.{sheet}
 use Rattle.model.specs.Checks.{Check, pass, refuse, andThen, inOrder, dimOk, tableOk, marksOk, journalOk, ruleNumber, ruleOk}
-use Rattle.model.specs.Checks.{mapChecks, checkChecks, orbitChecks, sheetChecks, addChecks, sidesChecks, unsewChecks}
+use Rattle.model.specs.Checks.{mapChecks, checkChecks, orbitChecks, sheetChecks, pickChecks, addChecks, sidesChecks, unsewChecks}
 use Rattle.model.specs.Checks.{listChecks, layerChecks, splitChecks, wallChecks, insertChecks, stepChecks}
 use Rattle.model.specs.Calls.{Outcome, refused, sewListCall}
 use Rattle.model.specs.Runs.{Op, Call, doCall}
@@ -26,7 +26,7 @@ use Rattle.theorems.proofs.Calls.Pass.{dim-pass, rules-pass, table-of, 
 use Rattle.theorems.proofs.Calls.Fails.{dim-fails, table-fails, marks-fails, journal-fails, rule-fails, index-fails, mask-fails}
 use Rattle.theorems.proofs.Calls.Fails.{dart-fails, block-fails, apart-fails, free-fails, sewn-fails, pairing-fails}
 use Rattle.theorems.proofs.Calls.Fails.{crossing-fails, add-room-fails, new-room-fails, record-fails, undo-fails, redo-fails}
-use Rattle.theorems.proofs.Calls.Fails.{list-fails, step-fails, drawn-fails, enclosed-fails, sewn-wall-fails, turns-fails, connected-fails}
+use Rattle.theorems.proofs.Calls.Fails.{queue-fails, list-fails, step-fails, drawn-fails, enclosed-fails, sewn-wall-fails, turns-fails, connected-fails}
 use Rattle.theorems.proofs.Calls.Ends.{call-ends, done-number}
 
 -- two numbers of the first row that is given are one
@@ -172,11 +172,16 @@ module _ (n : ℕ) (o : Outcome) where
       next-passed w)
 
   meets : (c : Call) → MeetsRows c
-  unfolding checksOf mapChecks checkChecks orbitChecks sheetChecks addChecks sidesChecks unsewChecks splitChecks wallChecks insertChecks stepChecks indexOf
+  unfolding checksOf mapChecks checkChecks orbitChecks sheetChecks pickChecks addChecks sidesChecks unsewChecks splitChecks wallChecks insertChecks stepChecks indexOf
   meets Call.check = dim-fails n next table-fails t next then-map _ no-more
   meets (Call.orbit mask d) = with-marks (mask-fails n mask next dart-fails t d next no-more)
   meets (Call.sheet d) = with-marks (dart-fails t d
       next (λ h. let q = passed-number (numbers (Call.sheet d)) _ h in
+      block-fails n t (table-of n t (q 1) (q 2) (rules-pass n t (q 5) (q 24) (q 25) (q 26))))
+      next-passed no-more)
+  meets (Call.pick w d) =
+      dim-fails n next table-fails t next marks-fails t m next queue-fails t w next then-map _ (dart-fails t d
+      next (λ h. let q = passed-number (numbers (Call.pick w d)) _ h in
       block-fails n t (table-of n t (q 1) (q 2) (rules-pass n t (q 5) (q 24) (q 25) (q 26))))
       next-passed no-more)
   meets (Call.op tag Op.add) = with-journal (add-room-fails n t next record-fails tag t _ j next no-more)
@@ -203,6 +208,7 @@ module _ (n : ℕ) (o : Outcome) where
   rows-numbers Call.check = refl
   rows-numbers (Call.orbit mask d) = refl
   rows-numbers (Call.sheet d) = refl
+  rows-numbers (Call.pick w d) = refl
   rows-numbers (Call.op tag Op.add) = refl
   rows-numbers (Call.op tag (Op.sew i d e)) = refl
   rows-numbers (Call.op tag (Op.unsew i d)) = refl

@@ -17,7 +17,7 @@ use Rattle.model.specs.Checks.{Check, pass, refuse, inOrder, insertChecks}
 use Rattle.model.specs.Calls.{Outcome, refused, commit, insertCall}
 use Rattle.model.specs.Runs.{Op, Call, doCall}
 use Rattle.model.specs.Meaning.Ends.{Untouched, done, refusalPlace, Sheeted, layerMarks, refusalMarks, doneOf}
-use Rattle.model.specs.Meaning.Ends.{Reading, reads-check, reads-orbit, reads-sheet}
+use Rattle.model.specs.Meaning.Ends.{Reading, reads-check, reads-orbit, reads-sheet, reads-pick}
 use Rattle.model.specs.Meaning.Maps.{byRule, NoRule}
 use Rattle.model.specs.Meaning.Sheets.{marksOf}
 use Rattle.theorems.proofs.Lists.Scan.{test, if-eq}
@@ -64,6 +64,7 @@ unfolding doneOf
 reading-untouched n o reads-check = untouched-always n o _ refl refl
 reading-untouched n o reads-orbit = untouched-always n o _ refl refl
 reading-untouched n o reads-sheet = untouched-always n o _ refl refl
+reading-untouched n o reads-pick = untouched-always n o _ refl refl
 
 -- ---- the marks of a sheet
 

@@ -210,6 +210,7 @@ history-grows (suc k) c h = omega arith
 history-grows zero Call.check h = omega arith
 history-grows zero (Call.orbit mask d) h = omega arith
 history-grows zero (Call.sheet d) h = omega arith
+history-grows zero (Call.pick w d) h = omega arith
 history-grows zero (Call.op tag p) h = omega arith
 history-grows zero Call.undo h = go (h .standing) (h .undone)
   where
@@ -257,6 +258,7 @@ history-from (suc k) c h p r = inr r
 history-from zero Call.check h p r = inr r
 history-from zero (Call.orbit mask d) h p r = inr r
 history-from zero (Call.sheet d) h p r = inr r
+history-from zero (Call.pick w d) h p r = inr r
 history-from zero (Call.op tag q) h p (inl (here e)) = inl (rw e, refl)
 history-from zero (Call.op tag q) h p (inl (there i)) = inr (inl i)
 history-from zero (Call.op tag q) h p (inr i) = absurd (not-nil i)

@@ -12,7 +12,7 @@ use Rattle.model.specs.Checks.{pass, tableOk, journalOk}
 use Rattle.model.specs.Calls.{Outcome, undoCall, redoCall, refused}
 use Rattle.model.specs.Runs.{Op, Call, doCall, keeping, effect, Tagged, replay, History, afterUndo, afterRedo, afterOp}
 use Rattle.model.specs.Runs.{accepted, answered}
-use Rattle.model.specs.Meaning.Ends.{Reading, reads-check, reads-orbit, reads-sheet}
+use Rattle.model.specs.Meaning.Ends.{Reading, reads-check, reads-orbit, reads-sheet, reads-pick}
 use Rattle.theorems.proofs.Lists.Scan.{if-eq}
 use Rattle.theorems.proofs.Calls.Ends.{op-accepted}
 use Rattle.theorems.proofs.Calls.Untouched.{call-untouched, reading-untouched}
@@ -265,6 +265,7 @@ reading-history (suc k) h reads = refl
 reading-history zero h reads-check = refl
 reading-history zero h reads-orbit = refl
 reading-history zero h reads-sheet = refl
+reading-history zero h reads-pick = refl
 
 module _ {n : ℕ} {first : List ℕ} {h : History} (o : Outcome) (inv : Invariant n first h (o .table) (o .journal)) where
   pub rule-now : InRule n (o .table)
@@ -305,6 +306,7 @@ module _ {n : ℕ} {first : List ℕ} {h : History} (o : Outcome) (inv : Invaria
   call-keeps Call.check = reading-keeps reads-check
   call-keeps (Call.orbit mask d) = reading-keeps reads-orbit
   call-keeps (Call.sheet d) = reading-keeps reads-sheet
+  call-keeps (Call.pick w d) = reading-keeps reads-pick
   call-keeps (Call.op tag p) = op-keeps tag p
   call-keeps Call.undo = undo-keeps n first (h .standing) (h .undone) inv
   call-keeps Call.redo = redo-keeps n first (h .standing) (h .undone) inv
