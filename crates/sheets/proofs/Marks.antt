@@ -122,6 +122,9 @@ module _ (r : List ℕ) (x y : ℕ) (inside : x < length r) (below : y < length 
   pub marked-on : (q : List ℕ) → Touched (set r x 2) y q → Marked-on r x y q
   marked-on q h = ⊎-elim (λ (none, e). rw e (touch-new none)) (λ (some, e). rw e (touch-old some)) h
 
+pub touched-long : (m : List ℕ) (y : ℕ) (r : List ℕ) → Touched m y r → length r ≡ length m
+touched-long m y r h = ⊎-elim (λ (_, e). ap length e ∙ length-set m y 3) (λ (_, e). ap length e) h
+
 pub rest-none : (n : ℕ) (t m cell : List ℕ) (a : ℕ) → Rest n t m cell a a m
 rest-none n t m cell a = record {
   long = refl;

@@ -1,5 +1,5 @@
 -- Spreading a sheet over one cell, listed from a dart of the sheet: which darts get a mark, which wait to be spread.
--- Main definitions: `sides` and `sideStart` (the sides that the sheet crosses), `Fresh`, `Firsts`, `Touched`, `Rest`, `Put`, `Waiting`, `Spread`.
+-- Main definitions: `sides` and `sideStart` (the sides that the sheet crosses), `Fresh`, `Firsts`, `Touched`, `Other`, `Rest`, `Put`, `Waiting`, `Spread`.
 use Prim.Native.Nat.{ℕ, _+_, _*_, _-_, _/_, _%_, _^_, _≤_, _<_}
 use mathlib.Core.Path.{_≡_}
 use mathlib.Core.Logic.{_⊎_, _≢_}
@@ -48,6 +48,10 @@ Inner m x = (getD m x 0 ≡ 1) ⊎ (getD m x 0 ≡ 2)
 -- r are the marks m, with 3 at y if it has the mark 0
 abbrev pub Touched : List ℕ → ℕ → List ℕ → Type 0
 Touched m y r = ((getD m y 0 ≡ 0) × (r ≡ set m y 3)) ⊎ ((getD m y 0 ≢ 0) × (r ≡ m))
+
+-- r are the marks m, with 2 at x if it has no 1, and then 3 at the dart that link n leads to from x, if that has the mark 0
+abbrev pub Other : ℕ → List ℕ → List ℕ → ℕ → List ℕ → Type 0
+Other n t m x r = ((getD m x 0 ≡ 1) × (r ≡ m)) ⊎ ((getD m x 0 ≢ 1) × Touched (set m x 2) (link t n x) r)
 
 -- r are the marks m, with 2 at the darts listed from the place a on, before b, that have no 1, and 3 at the darts with the mark 0 that
 -- link n leads to from these

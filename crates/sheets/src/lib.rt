@@ -9,7 +9,7 @@ ghost use Rattle.model.specs.Sheet.{sheet, sheetMarks};
 ghost use Rattle.model.specs.Meaning.Maps.{Dim};
 ghost use Rattle.model.specs.Meaning.Sheets.{BlockDart, half};
 ghost use Rattle.cells.specs.Listing.{Listing, places};
-ghost use Rattle.sheets.specs.Spread.{sides, sideStart, Fresh, Firsts, Touched, Rest, Put, Waiting, Ready, Spread, Begins};
+ghost use Rattle.sheets.specs.Spread.{sides, sideStart, Fresh, Firsts, Touched, Other, Rest, Put, Waiting, Ready, Spread, Begins};
 use cells::cell_2d;
 use cells::cell_3d;
 use numbering::place;
@@ -53,6 +53,17 @@ fn touch(n: u32, table: &[u32], marks: &mut [u8], x: u32)
     }
 }
 
+// The mark 2 on x, if it has no 1, and then 3 on what link n leads to from it, if that has the mark 0.
+pub fn mark_other(n: u32, table: &[u32], marks: &mut [u8], x: u32)
+    requires { ⌜ (4 * x + n < length (now table)) × (x < length (now marks)) × (link (now table) n x < length (now marks)) ⌝ }
+    ensures { λ _. ⌜ Other n (now (table .entry)) (now (marks .entry)) x (now (marks .exit)) ⌝ }
+{
+    if marks[x as usize] != 1 {
+        marks[x as usize] = 2;
+        touch(n, table, marks, x);
+    }
+}
+
 // The mark 2 at the darts listed from the place `from` on that have no 1, and 3 on what link n leads to from these, if it has the mark 0.
 // A 3 does not stay if its cell is met.
 fn mark_rest(n: u32, table: &[u32], marks: &mut [u8], cell: &[u32], from: usize)
@@ -61,11 +72,7 @@ fn mark_rest(n: u32, table: &[u32], marks: &mut [u8], cell: &[u32], from: usize)
         (now (marks .exit)) ⌝ }
 {
     for k in from..cell.len() {
-        let x = cell[k];
-        if marks[x as usize] != 1 {
-            marks[x as usize] = 2;
-            touch(n, table, marks, x);
-        }
+        mark_other(n, table, marks, cell[k]);
     }
 }
 

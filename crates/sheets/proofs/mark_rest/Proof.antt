@@ -58,39 +58,17 @@ led-inside c =
     let all = all-marks c in
     omega arith
 
-mul-x : tie.Need-mul-x Inv-loop μ-loop
-mul-x c = search needs
+mul-mark-other : tie.Need-mul-mark-other Inv-loop μ-loop
+mul-mark-other c = search needs
 
-shared-slice-read-x : tie.Need-shared-slice-read-x Inv-loop μ-loop
-shared-slice-read-x c = search needs
+shared-slice-read-mark-other : tie.Need-shared-slice-read-mark-other Inv-loop μ-loop
+shared-slice-read-mark-other c = search needs
 
-cast-if1 : tie.Need-cast-if1 Inv-loop μ-loop
-cast-if1 c =
-    let low = inside (c .before) in
-    let all = all-marks (c .before) in
-    let few = start (c .before .before) .pre .0 .table .few in
-    omega arith
-
-slice-read-if1 : tie.Need-slice-read-if1 Inv-loop μ-loop
-slice-read-if1 c = inside (c .before .before)
-
-cast-marks : tie.Need-cast-marks Inv-loop μ-loop
-cast-marks c =
-    let i = c .before .before .before in
-    let low = inside i in
-    let all = all-marks i in
-    let few = start (i .before) .pre .0 .table .few in
-    omega arith
-
-slice-write-marks : tie.Need-slice-write-marks Inv-loop μ-loop
-slice-write-marks c = inside (c .before .before .before)
-
-touch-requires : tie.Need-touch-requires Inv-loop μ-loop
-touch-requires c κs =
-    let i = c .before .before .before .before in
+mark-other-requires : tie.Need-mark-other-requires Inv-loop μ-loop
+mark-other-requires c κs =
+    let i = c .before .before in
     let s = start (i .before) in
-    let low = led-inside i in
-    (link-there (s .pre .0) (s .args .n) _ (omega arith) (place-low i), rw length-set low)
+    (link-there (s .pre .0) (s .args .n) _ (omega arith) (place-low i), inside i, led-inside i)
 
 add-k : tie.Need-add-k Inv-loop μ-loop
 add-k c = search needs
@@ -100,14 +78,15 @@ loop-less c = search needs
 
 loop-again : tie.Need-loop-again Inv-loop μ-loop
 loop-again c =
-    let i = c .before .before .before in
+    let f = c .before .before in
+    let i = f .before .before .before in
     let l = i .before in
     let R = l .loop .inv .2 in (
       omega arith,
       l .loop .inv .1,
-      ⊎-elim (λ (new, _, to, _, _, e).
-          rw e (rest-new R (new .taken) (marked-on (l .loop .marks) (dart i) _ (inside i) (led-inside i) (new .taken) _ (to .ensures))))
-          (λ (one, e). rw e (rest-old R (one .left))) (c .if1 .came),
+      ⊎-elim (λ (one, e). rw e (rest-old R one))
+          (λ (new, to). rest-new R new (marked-on (l .loop .marks) (dart i) _ (inside i) (led-inside i) new _ to))
+          (f .mark-other .ensures),
     )
 
 same-length : tie.Need-same-length Inv-loop μ-loop
@@ -126,13 +105,9 @@ mark-rest-spec =
     Inv-loop
     μ-loop
     loop-holds
-    mul-x
-    shared-slice-read-x
-    cast-if1
-    slice-read-if1
-    cast-marks
-    slice-write-marks
-    touch-requires
+    mul-mark-other
+    shared-slice-read-mark-other
+    mark-other-requires
     add-k
     loop-less
     loop-again
