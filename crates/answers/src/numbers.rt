@@ -42,6 +42,13 @@ pub const WRONG_MARKS_LENGTH: Answer = Answer {
     count: 0,
 };
 
+// 37: "queue length differs from slots"
+pub const WRONG_QUEUE_LENGTH: Answer = Answer {
+    number: 37,
+    place: 0,
+    count: 0,
+};
+
 // 4: "journal length or its two words out of rule"
 pub const WRONG_JOURNAL: Answer = Answer {
     number: 4,

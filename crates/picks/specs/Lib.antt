@@ -1,0 +1,3 @@
+pub mod Enter
+pub mod Queued
+pub mod Beside
