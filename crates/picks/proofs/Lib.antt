@@ -1,0 +1,2 @@
+pub mod Darts
+pub mod Entering

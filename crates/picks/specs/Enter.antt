@@ -1,13 +1,11 @@
 -- Darts that enter the queue: they get the mark 1 and become its next words.
--- Main definitions: `Entered`; `sideOf`, `besideOf` and `firsts` (the darts that enter together), `Enters`.
+-- Main definitions: `Entered`; `sideAt` and `besideAt` (darts that enter together), `Enters`.
 use Prim.Native.Nat.{ℕ, _+_, _≤_, _<_}
 use mathlib.Core.Path.{_≡_}
 use mathlib.Core.Logic.{_⊎_}
 use mathlib.Core.List.{List, [], _∷_}
 use lib.ListN.{length, getD}
-use Rattle.model.specs.Lists.{tabulate}
 use Rattle.model.specs.Table.{slots, link, walk}
-use Rattle.model.specs.Meaning.Places.{place}
 use Rattle.model.specs.Meaning.Sheets.{half, BlockDart}
 use Rattle.cells.specs.Listing.{MapDart}
 
@@ -15,14 +13,14 @@ use Rattle.cells.specs.Listing.{MapDart}
 abbrev pub Dart : List ℕ → ℕ → Type 0
 Dart t x = (n : ℕ) × MapDart n t x
 
--- from the marks m and the queue w the darts xs have entered at the word a: the marks m′ and the queue v
-pub record Entered (m w : List ℕ) (a : ℕ) (xs m′ v : List ℕ) : Type 0 where
+-- from the marks m and the queue w the darts f 0, .., f (k - 1) have entered at the word a: the marks m′ and the queue v
+pub record Entered (m w : List ℕ) (a k : ℕ) (f : ℕ → ℕ) (m′ v : List ℕ) : Type 0 where
   pub long : length m′ ≡ length m
   pub words : length v ≡ length w
   pub kept : (i : ℕ) → i < a → getD v i 0 ≡ getD w i 0
-  pub listed : (j : ℕ) → j < length xs → getD v (a + j) 0 ≡ getD xs j 0
-  pub done : (j : ℕ) → j < length xs → getD m′ (getD xs j 0) 0 ≡ 1
-  pub only : (x : ℕ) → (getD m′ x 0 ≡ getD m x 0) ⊎ ((getD m′ x 0 ≡ 1) × ((j : ℕ) × (j < length xs) × (x ≡ getD xs j 0)))
+  pub listed : (j : ℕ) → j < k → getD v (a + j) 0 ≡ f j
+  pub done : (j : ℕ) → j < k → getD m′ (f j) 0 ≡ 1
+  pub only : (x : ℕ) → (getD m′ x 0 ≡ getD m x 0) ⊎ ((getD m′ x 0 ≡ 1) × ((j : ℕ) × (j < k) × (x ≡ f j)))
 
 -- ---- the darts that enter together
 
@@ -31,18 +29,14 @@ abbrev pub across : List ℕ → ℕ → ℕ
 across t x = walk t (1 ∷ 0 ∷ 1 ∷ []) x
 
 -- the edge of x and the opposite one
-abbrev pub sideOf : List ℕ → ℕ → List ℕ
-sideOf t x = x ∷ link t 0 x ∷ across t x ∷ link t 0 (across t x) ∷ []
+abbrev pub sideAt : List ℕ → ℕ → ℕ → ℕ
+sideAt t x j = getD (x ∷ link t 0 x ∷ across t x ∷ link t 0 (across t x) ∷ []) j 0
 
--- what link 2 leads to from the k words of the queue at a
-abbrev pub besideOf : List ℕ → List ℕ → ℕ → ℕ → List ℕ
-besideOf t w a k = tabulate k (λ j. link t 2 (getD w (a + j) 0))
+-- what link 2 leads to from the words of the queue at a
+abbrev pub besideAt : List ℕ → List ℕ → ℕ → ℕ → ℕ
+besideAt t w a j = link t 2 (getD w (a + j) 0)
 
--- the first places of the cell of g
-abbrev pub firsts : ℕ → List ℕ → ℕ → List ℕ
-firsts n t g = tabulate (half n) (place n t g)
-
--- a dart g of a block map, and room for its first places at the word a
+-- a dart g of a block map, and room for the first places of its cell at the word a
 pub record Enters (n : ℕ) (t m w : List ℕ) (a g : ℕ) : Type 0 where
   pub dart : BlockDart n t g
   pub long : length m ≡ slots t

@@ -1,15 +1,15 @@
 // The sheet of a dart of a block map, over a queue that the caller lends. A dart that is met enters with the first places of its cell; each
 // dart is taken off in turn, and its link n is met. Then the queue lists the sheet, and the other darts of its cells are marked along it.
 ghost use mathlib.Core.Path.{_≡_};
-ghost use mathlib.Core.List.{[], _∷_};
 ghost use Prim.Native.Nat.{ℕ, _+_, _<_, _≤_};
 ghost use lib.ListN.{length, getD, replicate};
 ghost use Rattle.model.specs.Lists.{count};
 ghost use Rattle.model.specs.Table.{slots, link};
 ghost use Rattle.model.specs.Sheet.{sheet, sheetMarks};
 ghost use Rattle.model.specs.Meaning.Maps.{Dim};
+ghost use Rattle.model.specs.Meaning.Places.{place};
 ghost use Rattle.model.specs.Meaning.Sheets.{BlockDart, half};
-ghost use Rattle.picks.specs.Enter.{Dart, across, sideOf, besideOf, firsts, Entered, Enters};
+ghost use Rattle.picks.specs.Enter.{Dart, across, sideAt, besideAt, Entered, Enters};
 ghost use Rattle.picks.specs.Queued.{group, Queued, Listed};
 ghost use Rattle.picks.specs.Beside.{Beside, Group, GroupBeside};
 use reading::link_in;
@@ -36,7 +36,7 @@ fn across(table: &[u32], x: u32) -> u32
 // x gets the mark 1 and is the queue's word at.
 fn enter(marks: &mut [u8], queue: &mut [u32], at: usize, x: u32)
     requires { ⌜ (x < length (now marks)) × (at < length (now queue)) ⌝ }
-    ensures { λ _. ⌜ Entered (now (marks .entry)) (now (queue .entry)) at (x ∷ []) (now (marks .exit)) (now (queue .exit)) ⌝ }
+    ensures { λ _. ⌜ Entered (now (marks .entry)) (now (queue .entry)) at 1 (λ _. x) (now (marks .exit)) (now (queue .exit)) ⌝ }
 {
     marks[x as usize] = 1;
     queue[at] = x;
@@ -45,7 +45,7 @@ fn enter(marks: &mut [u8], queue: &mut [u32], at: usize, x: u32)
 // The edge of x and the opposite one enter.
 fn enter_side(table: &[u32], marks: &mut [u8], queue: &mut [u32], at: usize, x: u32)
     requires { ⌜ (Dart (now table) x) × (length (now marks) ≡ slots (now table)) × (at + 4 ≤ length (now queue)) ⌝ }
-    ensures { λ _. ⌜ Entered (now (marks .entry)) (now (queue .entry)) at (sideOf (now (table .entry)) x) (now (marks .exit))
+    ensures { λ _. ⌜ Entered (now (marks .entry)) (now (queue .entry)) at 4 (sideAt (now (table .entry)) x) (now (marks .exit))
         (now (queue .exit)) ⌝ }
 {
     let y = link_in(table, 0, x);
@@ -61,8 +61,8 @@ fn enter_side(table: &[u32], marks: &mut [u8], queue: &mut [u32], at: usize, x: 
 fn enter_beside(table: &[u32], marks: &mut [u8], queue: &mut [u32], at: usize)
     requires { ⌜ ((j : ℕ) → j < 8 → Dart (now table) (getD (now queue) (at + j) 0)) ⌝ }
     requires { ⌜ (length (now marks) ≡ slots (now table)) × (at + 16 ≤ length (now queue)) ⌝ }
-    ensures { λ _. ⌜ Entered (now (marks .entry)) (now (queue .entry)) (at + 8) (besideOf (now (table .entry)) (now (queue .entry)) at 8)
-        (now (marks .exit)) (now (queue .exit)) ⌝ }
+    ensures { λ _. ⌜ Entered (now (marks .entry)) (now (queue .entry)) (at + 8) 8
+        (besideAt (now (table .entry)) (now (queue .entry)) at) (now (marks .exit)) (now (queue .exit)) ⌝ }
 {
     for k in 0..8 {
         let x = link_in(table, 2, queue[at + k]);
@@ -81,8 +81,8 @@ fn enter_cell(
     g: u32,
 ) -> usize
     requires { ⌜ Enters n (now table) (now marks) (now queue) at g ⌝ }
-    ensures { λ r. ⌜ (r ≡ at + half n) × (Entered (now (marks .entry)) (now (queue .entry)) at (firsts n (now (table .entry)) g)
-        (now (marks .exit)) (now (queue .exit))) ⌝ }
+    ensures { λ r. ⌜ (r ≡ at + half n) × (Entered (now (marks .entry)) (now (queue .entry)) at (half n)
+        (place n (now (table .entry)) g) (now (marks .exit)) (now (queue .exit))) ⌝ }
 {
     enter_side(table, marks, queue, at, g);
     if n == 2 {
