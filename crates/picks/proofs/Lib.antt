@@ -1,2 +1,3 @@
 pub mod Darts
 pub mod Entering
+pub mod Places

@@ -40,4 +40,5 @@ besideAt t w a j = link t 2 (getD w (a + j) 0)
 pub record Enters (n : ℕ) (t m w : List ℕ) (a g : ℕ) : Type 0 where
   pub dart : BlockDart n t g
   pub long : length m ≡ slots t
+  pub words : length w ≡ slots t
   pub room : a + half n ≤ length w
