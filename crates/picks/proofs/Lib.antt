@@ -1,3 +1,5 @@
 pub mod Darts
 pub mod Entering
 pub mod Places
+pub mod Alike
+pub mod Taking

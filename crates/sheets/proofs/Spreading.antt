@@ -35,7 +35,7 @@ use Rattle.sheets.proofs.Marks.{firsts-none, firsts-next}
 
 -- ---- numbers
 
-half-some : (n : ℕ) → Dim n → 0 < half n
+pub half-some : (n : ℕ) → Dim n → 0 < half n
 unfolding half
 half-some n dim = two-cases n dim (λ n. 0 < half n) (omega arith) (omega arith)
 
@@ -87,7 +87,7 @@ falls n dim = two-cases n dim (λ n. (size found r slots : ℕ) → 0 < size →
     (λ size found r slots a b c. omega arith) (λ size found r slots a b c. omega arith)
 
 -- darts without the mark 1 are not among those that have it
-fresh-few : {m cell : List ℕ} {k : ℕ} → Fresh m cell k → count 1 m + k ≤ length m
+pub fresh-few : {m cell : List ℕ} {k : ℕ} → Fresh m cell k → count 1 m + k ≤ length m
 fresh-few {m} {cell} {k} F =
     let (r, R) = all k (omega arith) in
     let most = count-most r in
@@ -103,7 +103,7 @@ fresh-few {m} {cell} {k} F =
         let same : j + 1 ≡ suc j = omega arith in
         (_, rw same at next)
 
-zeros-at : (k x : ℕ) → _≡_ {A = ℕ} (getD (replicate k 0) x 0) 0
+pub zeros-at : (k x : ℕ) → _≡_ {A = ℕ} (getD (replicate k 0) x 0) 0
 zeros-at zero x = refl
 zeros-at (suc k) zero = refl
 zeros-at (suc k) (suc x) = zeros-at k x
@@ -123,7 +123,7 @@ module _ {n : ℕ} {t : List ℕ} {g : ℕ} (G : BlockDart n t g) where
   abbrev at : (k : ℕ) → k < cellSize n → getD (places n t g) k 0 ≡ place n t g k
   at = places-at (map-dart G)
 
-  places-fresh : (m : List ℕ) → length m ≡ slots t → ((j : ℕ) → j < half n → getD m (place n t g j) 0 ≢ 1)
+  pub places-fresh : (m : List ℕ) → length m ≡ slots t → ((j : ℕ) → j < half n → getD m (place n t g j) 0 ≢ 1)
       → Fresh m (places n t g) (half n)
   places-fresh m long new = record {
     inside = λ j h.
