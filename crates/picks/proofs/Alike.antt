@@ -1,5 +1,5 @@
 -- The groups of the first places of a cell: their darts have link 1 in a sheet all or none (`alike-place`); where a group of words stands
--- (`group-at`).
+-- (`group-at`, `group-in`).
 use Prim.Native.Nat.{ℕ, _+_, _*_, _-_, _≤_, _<_}
 use mathlib.Core.Path.{_≡_, refl, sym, ap, _∙_}
 use mathlib.Core.Bool.{Bool, true, false, not, _||_}
@@ -54,6 +54,12 @@ unfolding half
 group-at n dim = two-cases n dim (λ n. (c p h : ℕ) → p < group n → half n * h ≤ group n * c + p → group n * c + p < half n * h + half n
     → (e : ℕ) × (group n * c ≡ half n * h + group n * e) × (group n * e + p < half n))
     (λ c p h a b d. (c - h, omega arith, omega arith)) (λ c p h a b d. (c - 2 * h, omega arith, omega arith))
+
+-- in z cells a group that begins ends
+pub group-in : (n : ℕ) → Dim n → (c z : ℕ) → group n * c < half n * z → group n * c + group n ≤ half n * z
+unfolding half
+group-in n dim = two-cases n dim (λ n. (c z : ℕ) → group n * c < half n * z → group n * c + group n ≤ half n * z)
+    (λ c z h. omega arith) (λ c z h. omega arith)
 
 -- ---- the darts there
 

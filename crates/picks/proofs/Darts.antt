@@ -1,6 +1,7 @@
 -- Darts of a map: they are slots (`dart-low`, `dart-few`), the table has their links (`dart-there`), which lead to darts (`dart-next`,
--- `dart-across`).
+-- `dart-across`) and can be marked (`dart-marked`).
 use Prim.Native.Nat.{ℕ, _+_, _*_, _<_}
+use mathlib.Core.Path.{_≡_, ap}
 use mathlib.Core.List.{List}
 use native.Mathlib.Omega.{arith}
 use lib.ListN.{length}
@@ -24,6 +25,16 @@ module _ {t : List ℕ} {x : ℕ} (D : Dart t x) where
 
   pub dart-next : (i : ℕ) → i < 4 → Dart t (link t i x)
   dart-next i h = (D .0, record { table = D .1 .table; lives = rule-at (D .1 .table) x (D .1 .lives) .goes i h })
+
+-- what marking it asks, where y is x
+pub dart-marked : {t : List ℕ} {x : ℕ} → Dart t x → (n y : ℕ) (m : List ℕ) → n < 4 → y ≡ x → length m ≡ slots t
+    → (4 * y + n < length t) × (y < length m) × (link t n y < length m)
+dart-marked {t} D n y m h is long =
+    let there = dart-there D n h in
+    let low = dart-low D in
+    let over = dart-low (dart-next D n h) in
+    let same = ap (link t n) is in
+    (omega arith, omega arith, omega arith)
 
 pub dart-across : {t : List ℕ} {x : ℕ} → Dart t x → Dart t (across t x)
 unfolding walk

@@ -3,3 +3,4 @@ pub mod Entering
 pub mod Places
 pub mod Alike
 pub mod Taking
+pub mod Settling

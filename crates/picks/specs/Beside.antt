@@ -5,6 +5,7 @@ use mathlib.Core.Logic.{_⊎_, _≢_}
 use mathlib.Core.List.{List}
 use lib.ListN.{length, getD}
 use Rattle.model.specs.Table.{slots, link}
+use Rattle.model.specs.Meaning.Maps.{Dim}
 use Rattle.model.specs.Meaning.Sheets.{BlockDart}
 use Rattle.sheets.specs.Spread.{Other}
 use Rattle.picks.specs.Queued.{group}
@@ -21,8 +22,10 @@ BesideTo n t m w a (suc k) r = (q : List ℕ) × BesideTo n t m w a k q × Besid
 
 -- the group of words at a: darts of a block map
 pub record Group (n : ℕ) (t m w : List ℕ) (a : ℕ) : Type 0 where
+  pub dim : Dim n
   pub darts : (j : ℕ) → j < group n → BlockDart n t (getD w (a + j) 0)
   pub long : length m ≡ slots t
+  pub words : length w ≡ slots t
   pub room : a + group n ≤ length w
 
 -- where link 1 of the group's first dart has the mark 1 the marks stay

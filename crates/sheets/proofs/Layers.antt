@@ -30,13 +30,12 @@ use Rattle.sheets.proofs.Halves.{half-along, half-across, half-beside}
 
 -- ---- the marks of a sheet, settled
 
--- 1 at the darts of the sheet of d, 1 or 2 at those of its cells; 3 leads into these, and from a 2 no link n leads to a 0
-pub record Settled (n : ℕ) (t : List ℕ) (d : ℕ) (m : List ℕ) : Type 0 where
+-- 1 at the darts of the sheet of d, 2 only in its cells; 3 leads to a 1 or a 2, and from a 2 no link n leads to a 0
+pub record Settling (n : ℕ) (t : List ℕ) (d : ℕ) (m : List ℕ) : Type 0 where
   pub long : length m ≡ slots t
   pub few : (x : ℕ) → getD m x 0 ≤ 3
   pub ones : (x : ℕ) → (getD m x 0 ≡ 1) ↔ Marked (sheet n t d) x
   pub cells : (x : ℕ) → Inner m x → InCells n t (sheet n t d) x
-  pub inner : (x : ℕ) → InCells n t (sheet n t d) x → Inner m x
   pub outer : (x : ℕ) → getD m x 0 ≡ 3 → (live t x ≡ true) × Inner m (link t n x)
   pub led : (x : ℕ) → getD m x 0 ≡ 2 → getD m (link t n x) 0 ≢ 0
 
@@ -47,19 +46,20 @@ module _ {n : ℕ} {t : List ℕ} {d : ℕ} (D : BlockDart n t d) where
   abbrev T : MapTable n t
   T = mapTable (D .table)
 
-  module _ {m : List ℕ} (P : Settled n t d m) where
+  -- and 1 or 2 at all darts of its cells
+  module _ {m : List ℕ} (P : Settling n t d m) (inner : (x : ℕ) → InCells n t (sheet n t d) x → Inner m x) where
     own : (x : ℕ) → Marked S x → InCells n t S x
     own x s = (x, s, cell-own T x (sheet-live D x s))
 
     outside : (x : ℕ) → getD m x 0 ≢ 1 → getD m x 0 ≢ 2 → InCells n t S x → ⊥
-    outside x one two i = ⊎-elim one two (P .inner x i)
+    outside x one two i = ⊎-elim one two (inner x i)
 
     -- what touches the cells has a mark: link n leads to it from a 2, since from a 1 it leads to a 1
     touches-some : (x : ℕ) → Touches n t S x → getD m x 0 ≢ 0
     touches-some x (l, off, i) z = ⊎-elim
         (λ one. off (own x (rw back at
         (ones-of S (link t n y) (sheet-of D .far y n (D .table .dim .0) (omega arith) (ones-in S y (P .ones y .0 one)))))))
-        (λ two. P .led y two (rw back z)) (P .inner y i)
+        (λ two. P .led y two (rw back z)) (inner y i)
       where
         y : ℕ
         y = link t n x
@@ -73,8 +73,8 @@ module _ {n : ℕ} {t : List ℕ} {d : ℕ} (D : BlockDart n t d) where
         if-eq (getD m x 0) 2 (λ two. two ∙ sym (marks-two D x .1 (apart, P .cells x (inr two)))) (λ two.
         if-eq (getD m x 0) 3
         (λ three.
-        let (l, inner) = P .outer x three in
-        three ∙ sym (marks-three D x .1 (l, outside x one two, P .cells (link t n x) inner)))
+        let (l, in-cell) = P .outer x three in
+        three ∙ sym (marks-three D x .1 (l, outside x one two, P .cells (link t n x) in-cell)))
         (λ three.
         let few = P .few x in
         let none : getD m x 0 ≡ 0 = omega arith in
@@ -146,10 +146,9 @@ module _ {n : ℕ} {t : List ℕ} {d : ℕ} (D : BlockDart n t d) where
       few = P .few;
       ones = λ x. (P .within x, closed-all closed x);
       cells = P .cells;
-      inner = all-inner;
       outer = P .outer;
       led = P .led;
-    })
+    }) all-inner
 
     pub found-size : found ≡ count 1 (sheet n t d)
     found-size = P .number ∙ closed-size closed

@@ -15,7 +15,7 @@ use Rattle.theorems.proofs.Lists.Scan.{if-eq, if-lt}
 use Rattle.theorems.proofs.Sets.Pigeon.{count-one}
 use Rattle.theorems.proofs.Maps.Tables.{live-below, rule-at}
 use Rattle.cells.specs.Listing.{Listing}
-use Rattle.sheets.specs.Spread.{sides, sideStart, Fresh, Firsts, Inner, Touched, Rest, Put, over, Waiting, Spread}
+use Rattle.sheets.specs.Spread.{sides, sideStart, Fresh, Firsts, Inner, Touched, Other, Rest, Put, over, Waiting, Spread}
 use Rattle.sheets.proofs.Halves.{start-low, half-in}
 
 -- ---- counting ones
@@ -124,6 +124,9 @@ module _ (r : List ℕ) (x y : ℕ) (inside : x < length r) (below : y < length 
 
 pub touched-long : (m : List ℕ) (y : ℕ) (r : List ℕ) → Touched m y r → length r ≡ length m
 touched-long m y r h = ⊎-elim (λ (_, e). ap length e ∙ length-set m y 3) (λ (_, e). ap length e) h
+
+pub other-long : (n : ℕ) (t m : List ℕ) (x : ℕ) (r : List ℕ) → Other n t m x r → length r ≡ length m
+other-long n t m x r h = ⊎-elim (λ (_, e). ap length e) (λ (_, to). touched-long (set m x 2) (link t n x) r to ∙ length-set m x 2) h
 
 pub rest-none : (n : ℕ) (t m cell : List ℕ) (a : ℕ) → Rest n t m cell a a m
 rest-none n t m cell a = record {

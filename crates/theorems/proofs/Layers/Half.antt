@@ -1,5 +1,5 @@
 -- How a sheet meets a cell, seen from one of its darts: it holds the places below `half n` (`in-half`); where it holds
--- another place, some dart of it has its link 1 in it (`out-crosses`).
+-- another place, some dart of it has its link 1 in it (`out-crosses`). Every other place is near them (`out-turns`).
 use Prim.Native.Nat.{ℕ, _≤_, _<_}
 use mathlib.Core.Path.{_≡_, refl, sym}
 use mathlib.Core.Logic.{_⊎_, inl, inr, ⊎-elim}
@@ -55,7 +55,8 @@ module _ (n : ℕ) (dim : Dim n) (p : ℕ) where
   unfolding halfPath
   half-word h = and-r (ltb p (cellSize n)) _ (path-of-half h)
 
-  out-turns : half n ≤ p → p < cellSize n → (cellLink n 1 p < half n) ⊎ ((n ≡ 3) × (cellLink n 1 (cellLink n 2 p) < half n))
+  -- a place that is none of these is one link 1 away from them, or for n = 3 links 2 and 1
+  pub out-turns : half n ≤ p → p < cellSize n → (cellLink n 1 p < half n) ⊎ ((n ≡ 3) × (cellLink n 1 (cellLink n 2 p) < half n))
   unfolding inOrTurns turnsIn
   out-turns out h =
       let first = ltb (cellLink n 1 p) (half n) in
