@@ -1,5 +1,5 @@
 -- The groups of the first places of a cell: their darts have link 1 in a sheet all or none (`alike-place`); where a group of words stands
--- (`group-at`, `group-in`).
+-- (`group-at`, `group-in`, `group-next`).
 use Prim.Native.Nat.{ℕ, _+_, _*_, _-_, _≤_, _<_}
 use mathlib.Core.Path.{_≡_, refl, sym, ap, _∙_}
 use mathlib.Core.Bool.{Bool, true, false, not, _||_}
@@ -61,6 +61,9 @@ unfolding half
 group-in n dim = two-cases n dim (λ n. (c z : ℕ) → group n * c < half n * z → group n * c + group n ≤ half n * z)
     (λ c z h. omega arith) (λ c z h. omega arith)
 
+pub group-next : (n : ℕ) → Dim n → (c : ℕ) → group n * c + group n ≡ group n * (c + 1)
+group-next n dim = two-cases n dim (λ n. (c : ℕ) → group n * c + group n ≡ group n * (c + 1)) (λ c. omega arith) (λ c. omega arith)
+
 -- ---- the darts there
 
 module _ {n : ℕ} {t : List ℕ} {d : ℕ} (D : BlockDart n t d) {g : ℕ} (G : BlockDart n t g) where
@@ -78,10 +81,10 @@ module _ {n : ℕ} {t : List ℕ} {d : ℕ} (D : BlockDart n t d) {g : ℕ} (G :
       let to = eqb-true (rowWalk n (path n q) (cellLink n 1 a)) (cellLink n 1 k) (not-false _ e) in
       let y = link t 1 (place n t g a) in
       let leads : place n t y q ≡ link t 1 (place n t g k) =
-          ap (λ (x : ℕ). place n t x q) (follow a low)
-          ∙ walk-rows n t (place n t g) (G .table .dim) (place-chart (G .table) g (G .lives) .follow) (path n q) (cellLink n 1 a)
-          (path-small n q (G .table .dim) (size-half (G .table) q hq)) (rows-in n 1 a (G .table .dim) one-link low)
-          ∙ ap (place n t g) to ∙ sym (follow k (size-half (G .table) k h)) in
+      ap (λ (x : ℕ). place n t x q) (follow a low)
+      ∙ walk-rows n t (place n t g) (G .table .dim) (place-chart (G .table) g (G .lives) .follow) (path n q) (cellLink n 1 a)
+      (path-small n q (G .table .dim) (size-half (G .table) q hq)) (rows-in n 1 a (G .table .dim) one-link low)
+      ∙ ap (place n t g) to ∙ sym (follow k (size-half (G .table) k h)) in
       rw leads at (ones-of S (place n t y q) (in-half (D .table) (sheet-of D) y q (ones-in S y one) hq))
     where
       a : ℕ

@@ -1,4 +1,4 @@
--- The other darts of the cells marked along the queue: one dart (`settling-other`), those beside a dart of the sheet (`settling-beside`),
+-- The other darts of the cells marked along the queue: none (`settling-none`), one dart (`settling-other`), those beside a dart of the sheet (`settling-beside`),
 -- beside some words (`settling-to`), beside a group (`settling-group`); along all of the queue the marks are settled (`settled-all`).
 use Prim.Native.Nat.{ℕ, zero, suc, _+_, _*_, _≤_, _<_}
 use mathlib.Core.Path.{_≡_, refl, sym, ap, _∙_}
@@ -12,11 +12,12 @@ use Rattle.model.specs.Cell.{cellSize, cellOf}
 use Rattle.model.specs.Numbering.{cellLink}
 use Rattle.model.specs.Sheet.{sheet, sheetMarks}
 use Rattle.model.specs.Meaning.Maps.{MapTable}
-use Rattle.model.specs.Meaning.Sets.{Marked}
+use Rattle.model.specs.Meaning.Sets.{Marked, LeastSet, SheetStep}
 use Rattle.model.specs.Meaning.Places.{place}
 use Rattle.model.specs.Meaning.Sheets.{BlockDart, InCells, half}
 use Rattle.theorems.proofs.Lists.Scan.{if-eq, if-lt}
 use Rattle.theorems.proofs.Lists.Ones.{ones-of, ones-in}
+use Rattle.theorems.proofs.Sets.Least.{sheet-is}
 use Rattle.theorems.proofs.Maps.Tables.{mapTable, live-below, rule-at}
 use Rattle.theorems.proofs.Cells.Rows.{rows-in}
 use Rattle.theorems.proofs.Cells.Cell.{cell-own, cell-goes, cell-live, all-places}
@@ -49,6 +50,23 @@ module _ {n : ℕ} {t : List ℕ} {d : ℕ} (D : BlockDart n t d) where
 
   abbrev T : MapTable n t
   T = mapTable (D .table)
+
+  -- where only the sheet has marks
+  pub settling-none : Settling n t d (sheet n t d)
+  settling-none = record {
+    long = I .long;
+    few = λ x. ⊎-elim (λ e. omega arith) (λ e. omega arith) (I .bits x);
+    ones = λ x. (λ e. e, λ e. e);
+    cells = λ x e. ⊎-elim (λ one. (x, one, cell-own T x (sheet-live D x one))) (λ two. absurd (bit x 2 (omega arith) two)) e;
+    outer = λ x e. absurd (bit x 3 (omega arith) e);
+    led = λ x e. absurd (bit x 2 (omega arith) e);
+  }
+    where
+      I : LeastSet (slots t) (λ x. x ≡ d) (SheetStep n t) S
+      I = sheet-is n t d
+
+      bit : (x v : ℕ) → 1 < v → getD S x 0 ≡ v → ⊥
+      bit x v h e = ⊎-elim (λ zero. omega arith) (λ one. omega arith) (I .bits x)
 
   cell-alive : (y : ℕ) → InCells n t S y → live t y ≡ true
   cell-alive y (g, s, c) = cell-live T g (sheet-live D g s) y c
@@ -142,10 +160,12 @@ module _ {n : ℕ} {t : List ℕ} {d : ℕ} (D : BlockDart n t d) where
   settling-to P w a zero s r e = rw e (record { settling = P; kept = λ x i. i }, λ j h. absurd (omega arith))
   settling-to P w a (suc k) s r (q, before, last) =
       let (G, all) = settling-to P w a k (λ j h. s j (omega arith)) q before in
-      let (H, end) = settling-beside (G .settling) _ (s k (omega arith)) r last in
-      (goes-on G H, λ j h. if-eq j k (λ is. rw is end) (λ is.
-      let (one, two) = all j (omega arith) in
-      (H .kept _ one, λ three. H .kept _ (two three))))
+      let (H, end) = settling-beside (G .settling) _ (s k (omega arith)) r last in (
+        goes-on G H,
+        λ j h. if-eq j k (λ is. rw is end) (λ is.
+            let (one, two) = all j (omega arith) in
+            (H .kept _ one, λ three. H .kept _ (two three))),
+      )
 
   -- ---- beside a group, and beside all
 
@@ -153,10 +173,13 @@ module _ {n : ℕ} {t : List ℕ} {d : ℕ} (D : BlockDart n t d) where
     pub settling-group : (c : ℕ) → group n * c < k → (r : List ℕ) → GroupBeside n t m w (group n * c) r
         → Goes n t d m r × ((j : ℕ) → j < group n → Done n t r (getD w (group n * c + j) 0))
     settling-group c low r h = ⊎-elim
-        (λ (one, e). rw e (record { settling = P; kept = λ x i. i }, λ j hj.
-        let y = link t 1 (getD w (group n * c + j) 0) in
-        let s = Q .alike c j hj (room j hj) (P .ones _ .0 one) in
-        (inl (P .ones y .1 s), λ three. inl (P .ones _ .1 (ones-of S (link t 2 y) (sheet-of D .far y 2 (omega arith) (omega arith) (ones-in S y s)))))))
+        (λ (one, e). rw e (
+          record { settling = P; kept = λ x i. i },
+          λ j hj.
+              let y = link t 1 (getD w (group n * c + j) 0) in
+              let s = Q .alike c j hj (room j hj) (P .ones _ .0 one) in
+              (inl (P .ones y .1 s), λ three. inl (P .ones _ .1 (ones-of S (link t 2 y) (sheet-of D .far y 2 (omega arith) (omega arith) (ones-in S y s))))),
+        ))
         (λ (_, to). settling-to P w (group n * c) (group n) (λ j hj. Q .within _ (room j hj)) r to) h
       where
         room : (j : ℕ) → j < group n → group n * c + j < k
@@ -179,7 +202,7 @@ module _ {n : ℕ} {t : List ℕ} {d : ℕ} (D : BlockDart n t d) where
             let (p, low, is) = all-places T g lg follow x in-cell in
             let lx = cell-live T g lg x in-cell in
             let first : (q : ℕ) → q < half n → Marked S (place n t g q) =
-                λ q h. ones-of S _ (in-half (D .table) (sheet-of D) g q (ones-in S g s) h) in
+            λ q h. ones-of S _ (in-half (D .table) (sheet-of D) g q (ones-in S g s) h) in
             let two = D .table .dim .0 in
             let link-is : (j q : ℕ) → j < n → q < cellSize n → link t j (place n t g q) ≡ place n t g (cellLink n j q) = follow in
             if-lt p (half n) (λ h. inl (P .ones x .1 (rw is (first p h)))) (λ h. ⊎-elim
@@ -191,7 +214,7 @@ module _ {n : ℕ} {t : List ℕ} {d : ℕ} (D : BlockDart n t d) where
             let l2 = rule-at T x lx .goes 2 (omega arith) in
             let z : link t 2 x ≡ place n t g (cellLink n 2 p) = ap (link t 2) is ∙ link-is 2 p (omega arith) low in
             let y : link t 1 (link t 2 x) ≡ place n t g (cellLink n 1 (cellLink n 2 p)) =
-                ap (link t 1) z ∙ link-is 1 _ (omega arith) (rows-in n 2 p (D .table .dim) (omega arith) low) in
+            ap (link t 1) z ∙ link-is 1 _ (omega arith) (rows-in n 2 p (D .table .dim) (omega arith) low) in
             let near : link t 1 (link t 1 (link t 2 x)) ≡ link t 2 x = back (link t 2 x) 1 (omega arith) l2 in
             let same : link t 2 (link t 2 x) ≡ x = back x 2 (omega arith) lx in
             rw (near, same) at (beside (link t 1 (link t 2 x)) (rw y (first _ a)) .1 three))

@@ -147,11 +147,11 @@ module _ {n : ℕ} {t : List ℕ} {d : ℕ} (D : BlockDart n t d) where
         once-next i j ij h e = if-lt j tail
             (λ b. P .once i j ij b (sym (Q .kept i (omega arith)) ∙ e ∙ Q .kept j b))
             (λ b. if-lt i tail
-            (λ a. fresh (j - tail) (omega arith) (rw (sym (new-word j b h) , ← e, Q .kept i a) (P .listed i a)))
+            (λ a. fresh (j - tail) (omega arith) (rw (sym (new-word j b h), ← e, Q .kept i a) (P .listed i a)))
             (λ a.
             let same = place-one (D .table) g (i - tail) (j - tail) (met-dart .lives)
-                (size-half (D .table) _ (omega arith)) (size-half (D .table) _ (omega arith))
-                (sym (new-word i a (omega arith)) ∙ e ∙ new-word j b h) in
+            (size-half (D .table) _ (omega arith)) (size-half (D .table) _ (omega arith))
+            (sym (new-word i a (omega arith)) ∙ e ∙ new-word j b h) in
             omega arith))
 
         alike-next : (a p : ℕ) → p < group n → group n * a + p < tail + half n → Marked S (link t 1 (getD v (group n * a) 0))
@@ -162,9 +162,9 @@ module _ {n : ℕ} {t : List ℕ} {d : ℕ} (D : BlockDart n t d) where
             let (z, is) = P .cells in
             let (e, at, low) = group-at n (D .table .dim) a p z hp (omega arith) (omega arith) in
             let start : getD v (group n * a) 0 ≡ c (group n * e) =
-                ap (λ (i : ℕ). getD v i 0) (at ∙ ap (λ (i : ℕ). i + group n * e) (sym is)) ∙ Q .listed (group n * e) (omega arith) in
+            ap (λ (i : ℕ). getD v i 0) (at ∙ ap (λ (i : ℕ). i + group n * e) (sym is)) ∙ Q .listed (group n * e) (omega arith) in
             let behind : getD v (group n * a + p) 0 ≡ c (group n * e + p) =
-                ap (λ (i : ℕ). getD v i 0) (spot a e p z is at) ∙ Q .listed (group n * e + p) low in
+            ap (λ (i : ℕ). getD v i 0) (spot a e p z is at) ∙ Q .listed (group n * e + p) low in
             rw behind (alike-place D met-dart e p hp low (rw start at one)))
           where
             spot : (a e p z : ℕ) → tail ≡ half n * z → group n * a ≡ half n * z + group n * e → group n * a + p ≡ tail + (group n * e + p)

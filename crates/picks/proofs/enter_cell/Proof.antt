@@ -101,8 +101,7 @@ enter-side-requires-2 : tie.Need-enter-side-requires-2
 enter-side-requires-2 c κs =
     let r = c .before .before in
     let o = other r in
-    let room = enough o in
-    (
+    let room = enough o in (
       rw (far-is r) (dart-next (dart-across (dart-next (dart o) 2 (omega arith))) 2 (omega arith)),
       four (first o) .long ∙ start (first o) .pre .long,
       omega arith,
@@ -128,8 +127,7 @@ enter-beside-requires c κs =
     let room = enough o in
     let words = E .words in
     let same = four (first o) .words in
-    let is = half-solid (start (first o) .args .n) (solid o) in
-    (
+    let is = half-solid (start (first o) .args .n) (solid o) in (
       λ j h. rw (E .listed j h) (dart-of (place-dart (start (first o) .pre .dart) j (rw is (omega arith)))),
       (E .long ∙ start (first o) .pre .long, omega arith),
     )
@@ -157,11 +155,10 @@ returns-2 c =
     let o = other (read e) in
     let D = start (first o) .pre .dart in
     let E = eight e in
-    let is = half-solid (start (first o) .args .n) (solid o) in
-    (
+    let is = half-solid (start (first o) .args .n) (solid o) in (
       ap (λ (k : ℕ). start (first o) .args .at + k) (sym is),
       rw is (entered-more E (b .enter-beside .ensures)
-      (λ j h. beside-places D (solid o) j h ∙ ap (link (table o) 2) (sym (E .listed j h)))),
+          (λ j h. beside-places D (solid o) j h ∙ ap (link (table o) 2) (sym (E .listed j h)))),
     )
 
 pub enter-cell-spec : {M : Type 1} → statement M

@@ -83,7 +83,7 @@ returns c =
     let m = marked t in
     let a = start (read m) .args in
     let second = subst (λ (y : ℕ). Other (a .n) (a .table .now) (m .mark-other .last .1 .1 .0) y (f .mark-other2 .last .1 .1 .0)) (second-is l)
-        (f .mark-other2 .ensures) in
+    (f .mark-other2 .ensures) in
     (m .mark-other .last .1 .1 .0, first m, inl (t .if1 .taken, second))
 
 same-length-2 : tie.Need-same-length-2
