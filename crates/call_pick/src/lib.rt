@@ -3,6 +3,7 @@ use answers::Answer;
 use answers::numbers;
 ghost use mathlib.Core.Path.{_≡_};
 ghost use mathlib.Core.Logic.{_≢_};
+ghost use mathlib.Core.Bool.{false};
 ghost use mathlib.Core.List.{[], _∷_};
 ghost use Rattle.model.specs.Checks.{inOrder, must, dimOk, tableOk, marksOk};
 ghost use Rattle.model.specs.Calls.{pickCall, pickTaken};
