@@ -1,4 +1,4 @@
--- What the passed checks of a layer say, as the crates below ask it: `layered`, `marks-long`, `sized`; and `Sheeted`, where the sheet
+-- What the passed checks of a layer say, as the crates below ask it: `layered`, `marks-long`, `sized`, `sheet-given`; and `Sheeted`, where the sheet
 -- has been marked.
 use Prim.Native.Nat.{ℕ, _≤_, _<_}
 use mathlib.Core.Path.{_≡_}
@@ -10,7 +10,7 @@ use Rattle.model.specs.Lists.{indexOf}
 use Rattle.model.specs.Table.{slots, link, live}
 use Rattle.model.specs.Reach.{inSet}
 use Rattle.model.specs.Sheet.{sheet, markOf, markAt, sheetMarks}
-use Rattle.model.specs.Checks.{pass, inOrder, layerChecks, dimOk, tableOk, marksOk, mapChecks, dartOk}
+use Rattle.model.specs.Checks.{pass, inOrder, sheetChecks, layerChecks, dimOk, tableOk, marksOk, mapChecks, dartOk}
 use Rattle.model.specs.Runs.{Op}
 use Rattle.model.specs.Meaning.Ends.{opNumbers}
 use Rattle.model.specs.Meaning.Numbers.{JournalRule}
@@ -19,10 +19,12 @@ use Rattle.model.specs.Meaning.Walks.{Layer}
 use Rattle.theorems.proofs.Lists.Scan.{test, getD-tab}
 use Rattle.theorems.proofs.Calls.Checks.{passed-number}
 use Rattle.theorems.proofs.Layers.Marks.{sheet-layer}
-use Rattle.theorems.proofs.Calls.Pass.{journal-pass, RulesPass, rules-pass, layer-passed}
+use Rattle.theorems.proofs.Cells.Exact.{block-of}
+use Rattle.theorems.proofs.Calls.Pass.{journal-pass, RulesPass, rules-pass, table-of, block-pass, dart-pass, layer-passed}
 use Rattle.reading.specs.Sized.{Sized}
 use Rattle.reading.proofs.Passed.{table-passed}
-use Rattle.answers.proofs.Given.{marks-given}
+use Rattle.answers.proofs.Ladder.{passed-all}
+use Rattle.answers.proofs.Given.{rules-given, marks-given}
 
 pub record Layered (n : ℕ) (t m j : List ℕ) (d : ℕ) : Type 0 where
   pub dim : dimOk n ≡ pass
@@ -53,6 +55,18 @@ module _ {n d : ℕ} {t m j : List ℕ} where
 
   pub sized : Layered n t m j d → Sized t
   sized L = table-passed t (L .table)
+
+-- the same of sheet, which takes no journal, and of pick
+pub sheet-given : (n : ℕ) (t m : List ℕ) (d : ℕ) → inOrder (sheetChecks n t m d) ≡ pass → BlockDart n t d × (length m ≡ slots t)
+unfolding sheetChecks mapChecks
+sheet-given n t m d h =
+    let p = passed-all (sheetChecks n t m d) h in (
+      record {
+        table = block-of n t (table-of n t (search) (search) (rules-given n t (p .1 .1 .1))) (block-pass n t (search));
+        lives = dart-pass t d (search);
+      },
+      marks-given t m (search),
+    )
 
 mark-low : (n : ℕ) (t s c : List ℕ) (x : ℕ) → markAt n t s c x ≤ 3
 unfolding markAt markOf

@@ -1,5 +1,4 @@
--- How pick ends, from its checks: `pick-refused`, `pick-accepted`; what is known where the queue's length is wrong, and where it fits and the
--- checks pass: `queue-wrong`, `pick-given`.
+-- How pick ends, from its checks: `pick-refused`, `pick-accepted`; and where its queue's length is wrong: `queue-wrong`.
 use Prim.Native.Nat.{ℕ}
 use mathlib.Core.Path.{_≡_, refl}
 use mathlib.Core.Logic.{_≢_}
@@ -10,17 +9,12 @@ use borrow.Author.Tests.{ne-eqb}
 use Rattle.model.specs.Lists.{count}
 use Rattle.model.specs.Table.{slots}
 use Rattle.model.specs.Sheet.{sheet, sheetMarks}
-use Rattle.model.specs.Checks.{Check, pass, refuse, must, andThen, inOrder, dimOk, tableOk, marksOk, queueOk, mapChecks, sheetChecks, pickChecks}
+use Rattle.model.specs.Checks.{Check, pass, refuse, must, andThen, inOrder, dimOk, tableOk, marksOk, queueOk, pickChecks}
 use Rattle.model.specs.Calls.{refused, pickCall, pickTaken}
-use Rattle.model.specs.Meaning.Sheets.{BlockDart}
-use Rattle.theorems.proofs.Cells.Exact.{block-of}
 use Rattle.theorems.proofs.Calls.Checks.{not-pass, passed-at}
-use Rattle.theorems.proofs.Calls.Pass.{table-of, block-pass, dart-pass}
 use Rattle.answers.specs.declared.Answer.{Answer}
 use Rattle.answers.specs.Answers.{outcome, refusal, accepted}
 use Rattle.answers.specs.Openings.{Settles}
-use Rattle.answers.proofs.Ladder.{passed-all}
-use Rattle.answers.proofs.Given.{rules-given, marks-given}
 
 module _ (n : ℕ) (t m w : List ℕ) (d : ℕ) where
   pub pick-refused : {k p q : ℕ} → inOrder (pickChecks n t m w d) ≡ refuse k p q
@@ -42,15 +36,3 @@ module _ (n : ℕ) (t m w : List ℕ) (d : ℕ) where
     where
       cs : List Check
       cs = dimOk n ∷ tableOk t ∷ marksOk t m ∷ must false 37 ∷ []
-
-  -- one that fits, where the checks are those of sheet
-  pub pick-given : inOrder (sheetChecks n t m d) ≡ pass → BlockDart n t d × (length m ≡ slots t)
-  unfolding sheetChecks mapChecks
-  pick-given h =
-      let p = passed-all (sheetChecks n t m d) h in (
-        record {
-          table = block-of n t (table-of n t (search) (search) (rules-given n t (p .1 .1 .1))) (block-pass n t (search));
-          lives = dart-pass t d (search);
-        },
-        marks-given t m (search),
-      )

@@ -8,7 +8,8 @@ use Rattle.model.specs.Checks.{Check, pass, inOrder, sheetChecks, pickChecks}
 use Rattle.theorems.proofs.Calls.Picks.{pick-checks}
 use Rattle.answers.specs.Openings.{Settles}
 use Rattle.answers.proofs.Opened.{opened-sheet}
-use Rattle.call_pick.proofs.Ends.{pick-refused, pick-accepted, queue-wrong, pick-given}
+use Rattle.answers.proofs.Layered.{sheet-given}
+use Rattle.call_pick.proofs.Ends.{pick-refused, pick-accepted, queue-wrong}
 use Rattle.call_pick.proofs.pick.Statement.{statement}
 use Rattle.call_pick.proofs.pick.Tie as tie
 
@@ -66,7 +67,7 @@ pick-requires : tie.Need-pick-requires
 unfolding slots
 pick-requires c κs =
     let e = c .before .before in
-    let (dart, marks) = pick-given _ _ _ (start (fits (e .before)) .args .queue .now) _ (passed e) in
+    let (dart, marks) = sheet-given _ _ _ _ (passed e) in
     (dart, marks, fits (e .before) .if1 .left)
 
 same-length-3 : tie.Need-same-length-3

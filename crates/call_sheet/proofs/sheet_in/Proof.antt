@@ -1,6 +1,7 @@
 -- `call_sheet::sheet_in` meets its contract, by `sheets::sheet`.
 use borrow.Author.Needs.{needs}
-use Rattle.call_sheet.proofs.Ends.{sheet-given, sheet-accepted}
+use Rattle.answers.proofs.Layered.{sheet-given}
+use Rattle.call_sheet.proofs.Ends.{sheet-accepted}
 use Rattle.call_sheet.proofs.sheet_in.Statement.{statement}
 use Rattle.call_sheet.proofs.sheet_in.Tie as tie
 
