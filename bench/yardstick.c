@@ -23,10 +23,12 @@
 #ifdef __GNUC__
 #define INLINE static inline __attribute__((always_inline))
 #define COLD static __attribute__((cold, noinline))
+#define ALONE static __attribute__((noinline))
 #define LIKELY(x) __builtin_expect(x, 1)
 #else
 #define INLINE static inline
 #define COLD static
+#define ALONE static
 #define LIKELY(x) (x)
 #endif
 
@@ -608,6 +610,129 @@ uint32_t YARD(sheet)(uint32_t n, const uint32_t *table, size_t table_len,
         return give(refuse(no), place, count);
     uint32_t slots = (uint32_t)marks_len;
     return give(n == 3 ? sheet_in(3, table, slots, marks, d) : sheet_in(2, table, slots, marks, d),
+                place, count);
+}
+
+/* ---------------------------------------------------------------- pick */
+
+/* The darts of S in g's cell along g's axis, in a block map: the first places of cell_list. */
+INLINE void sheet_list(int n, const uint32_t *restrict table, uint32_t g, uint32_t *restrict l)
+{
+    l[0] = g;
+    l[2] = opposite(2, table, g);
+    if (n == 3) {
+        l[8] = ROW(table, l[0])[2];
+        l[10] = ROW(table, l[2])[2];
+        l[12] = opposite(2, table, l[8]);
+        l[14] = opposite(2, table, l[10]);
+        l[4] = ROW(table, l[12])[2];
+        l[6] = ROW(table, l[14])[2];
+    }
+    for (uint32_t k = 0; k < SHEET(n); k += 2)
+        l[k + 1] = ROW(table, l[k])[0];
+}
+
+/* The marks beside those of S at a cell that was not met before: 2 at its other darts, and 3 beyond
+ * the two sides that S does not cross, the darts of even places and those of odd ones. A cell that is
+ * met has marks at all its darts, so one dart beyond a side tells whether it is. */
+INLINE void mark_round(int n, const uint32_t *restrict table, uint8_t *restrict marks,
+                       const uint32_t *restrict l)
+{
+    const uint8_t *apart = n == 3 ? apart3 : apart2;
+    for (uint32_t k = SHEET(n); k < CELL(n); k++)
+        marks[l[k]] = 2;
+    for (uint32_t side = 0; side < 2; side++) {
+        if (marks[ROW(table, l[apart[0] + side])[n]])
+            continue;
+        for (int c = 0; c < n - 1; c++)
+            for (uint32_t k = apart[c] + side; k < apart[c] + (n == 3 ? 8u : 4u); k += 2)
+                marks[ROW(table, l[k])[n]] = 3;
+    }
+}
+
+/* The darts of S in g's cell along g's axis enter at the queue's end; gives the new end. */
+INLINE uint32_t enter(int n, const uint32_t *restrict table, uint8_t *restrict marks,
+                      uint32_t slots, uint32_t g, uint32_t *restrict queue, uint32_t end)
+{
+    uint32_t l[48];
+    int met = marks[g] == 2;                /* along another axis */
+    if (met)
+        sheet_list(n, table, g, l);
+    else if (!cell_list(n, table, slots, g, l))
+        return end;
+    for (uint32_t k = 0; k < SHEET(n); k++) {
+        marks[l[k]] = 1;
+        queue[end++] = l[k];
+    }
+    if (!met)
+        mark_round(n, table, marks, l);
+    return end;
+}
+
+/* The sheet of d in a block map; gives how many darts were taken off the queue, *size is that of S.
+ * Each dart enters once. They enter and are taken off cell by cell, as many as a cell has in S along
+ * an axis: link n of one dart on each side that S crosses leads to where it goes on. */
+INLINE uint32_t queued(int n, const uint32_t *restrict table, uint8_t *restrict marks,
+                       uint32_t slots, uint32_t d, uint32_t *restrict queue,
+                       uint32_t *restrict size)
+{
+    const uint8_t *cross = n == 3 ? cross3 : cross2;
+    memset(marks, 0, slots);
+    uint32_t taken = 0, end = enter(n, table, marks, slots, d, queue, 0);
+    while (taken < end) {
+        const uint32_t *l = queue + taken;
+        taken += SHEET(n);
+        for (int c = 0; c < (n == 3 ? 4 : 2); c++) {
+            uint32_t y = ROW(table, l[cross[c]])[n];
+            if (marks[y] != 1)
+                end = enter(n, table, marks, slots, y, queue, end);
+        }
+    }
+    *size = end;
+    return taken;
+}
+
+/* Not inlined, so that the checks before it are compiled as those of sheet are. */
+ALONE uint32_t queued_by(uint32_t n, const uint32_t *table, uint8_t *marks, uint32_t slots,
+                         uint32_t d, uint32_t *queue, uint32_t *size)
+{
+    return n == 3 ? queued(3, table, marks, slots, d, queue, size)
+                  : queued(2, table, marks, slots, d, queue, size);
+}
+
+INLINE answer pick_in(int n, const uint32_t *table, uint32_t slots, uint8_t *marks,
+                      uint32_t *queue, uint32_t d, uint32_t *taken)
+{
+    uint32_t size;
+    answer a = sheet_gate(n, table, slots, d);
+    if (a.no)
+        return a;
+    *taken = queued_by((uint32_t)n, table, marks, slots, d, queue, &size);
+    return accept(0, size);
+}
+
+static answer pick(uint32_t n, const uint32_t *table, size_t table_len,
+                   uint8_t *marks, size_t marks_len, uint32_t *queue, size_t queue_len,
+                   uint32_t d, uint32_t *taken)
+{
+    uint32_t no = gate(n, table_len);
+    if (no)
+        return refuse(no);
+    if (marks_len != table_len / 4)
+        return refuse(3);
+    if (queue_len != table_len / 4)
+        return refuse(37);
+    uint32_t slots = (uint32_t)marks_len;
+    return n == 3 ? pick_in(3, table, slots, marks, queue, d, taken)
+                  : pick_in(2, table, slots, marks, queue, d, taken);
+}
+
+uint32_t YARD(pick)(uint32_t n, const uint32_t *table, size_t table_len,
+                    uint8_t *marks, size_t marks_len, uint32_t *queue, size_t queue_len,
+                    uint32_t d, uint32_t *taken, uint32_t *place, uint32_t *count)
+{
+    *taken = 0;
+    return give(pick(n, table, table_len, marks, marks_len, queue, queue_len, d, taken),
                 place, count);
 }
 

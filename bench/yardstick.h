@@ -17,6 +17,10 @@ uint32_t yard_sheet(uint32_t n, const uint32_t *table, size_t table_len,
                    uint8_t *marks, size_t marks_len, uint32_t d,
                    uint32_t *place, uint32_t *count);
 
+uint32_t yard_pick(uint32_t n, const uint32_t *table, size_t table_len,
+                  uint8_t *marks, size_t marks_len, uint32_t *queue, size_t queue_len,
+                  uint32_t d, uint32_t *taken, uint32_t *place, uint32_t *count);
+
 uint32_t yard_add(uint32_t n, uint32_t *table, size_t table_len,
                  uint32_t *journal, size_t journal_len, uint32_t tag,
                  uint32_t *place, uint32_t *count);
