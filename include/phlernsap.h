@@ -1,5 +1,5 @@
-/* phlernsap.h - a proved topology kernel for hexahedral blocking: twelve calls over lent buffers.
- * Version 1.2.
+/* phlernsap.h - a proved topology kernel for hexahedral blocking: thirteen calls over lent buffers.
+ * Version 1.3.
  *
  * This file is the manual for programs in C and C++. docs/REFERENCE.md has the same with drawings,
  * examples/c has programs: three_quads.c; grid.c, which builds and cuts 2 x 2 x 2 hexahedra; and
@@ -36,7 +36,7 @@
  *   side      of d for link i: all that is reached from d by the links j <= n that differ from i by
  *             2 or more. For i = n it is an edge of a quad (2 darts), or a face of a block (8).
  *   block map a map in which each cell is a quad (a hexahedron), and no side for link n is sewn onto
- *             itself. phl_sheet, phl_remove, phl_split and phl_insert ask for one.
+ *             itself. phl_sheet, phl_pick, phl_remove, phl_split and phl_insert ask for one.
  *   sheet     of d: the least set of darts that has d and with each dart g also g.0, the opposite
  *             edge g.1.0.1, and g.2 .. g.n: all edges that are parallel to d's, from cell to cell.
  *   layer     the cells that a sheet goes through: what phl_remove takes out, phl_split cuts and
@@ -84,21 +84,27 @@
  *            Word 0 is the cursor, word 1 the end; from then on only the calls write it.
  *   list     list_len words, of any number, three to an item: i, d and e, as phl_sew takes them.
  *            phl_sew_list reads them and never writes them.
+ *   queue    queue_len words, one to a slot: queue_len = table_len / 4. phl_pick works in them; what
+ *            they hold before does not matter, and after an accepted call they may hold anything.
  *   place, count   where the call stores place and count.
+ *   taken    where phl_pick stores how many darts it took off the queue.
  *
  * What the caller owes: lengths are in elements, not in bytes, and are those of the buffers; each
- * pointer is aligned to its elements; no two buffers of one call overlap, place and count included;
- * no pointer is null, but that a buffer of length 0 may have a null pointer. Nothing else: a call
- * takes any content of its buffers and any numbers, and ends in an answer.
+ * pointer is aligned to its elements; no two buffers of one call overlap, place, count and taken
+ * included; no pointer is null, but that a buffer of length 0 may have a null pointer. Nothing else: a
+ * call takes any content of its buffers and any numbers, and ends in an answer.
  *
  *
  * 5. Answers
  *
  * Every call returns a number, 0 for accepted, else the reason why it is refused, and stores place
  * and count. The numbers are those of enum phl_number below, in the order of the checks: the first
- * that applies is given. A refusal leaves table and journal as they were. Its place is 0 but for 5,
- * 24, 25, 26 and 8, its count 0 but for 5, 24, 25 and 26. It leaves the marks too, but that
- * phl_remove and phl_split refused by 13, 14 or 15 leave the sheet's marks.
+ * that applies is given. A refusal leaves table, journal and queue as they were. Its place is 0 but
+ * for 5, 24, 25, 26 and 8, its count 0 but for 5, 24, 25 and 26, taken is 0. It leaves the marks too,
+ * but that phl_remove and phl_split refused by 13, 14 or 15 leave the sheet's marks.
+ *
+ * All that a call answers and leaves is determined by what it is given, but for the content of the
+ * queue after an accepted phl_pick.
  *
  * phl_sew_list makes the checks up to 38 once, before any item, and its refusals by them are as
  * above. Then it checks each item in its turn, from 6 on. Where an item is refused, place says which,
@@ -132,7 +138,8 @@
  * and that its result is a map, and else leave all as it was (17).
  *
  * 14, too few unused slots: give the table more. Copy it to a longer buffer, fill the new entries
- * with PHL_UNUSED, use longer marks, keep the journal: slots and records stay what they are.
+ * with PHL_UNUSED, use longer marks and a longer queue, keep the journal: slots and records stay what
+ * they are.
  *
  * 15, no room in the journal: give it more words, up to PHL_MAX_JOURNAL, by copying it to a longer
  * buffer; or forget the history: journal[0] = journal[1] = PHL_FRESH. The table stays, and nothing
@@ -154,10 +161,11 @@ extern "C" {
 #endif
 
 /* The version: MAJOR changes where a program, a table or a journal of before may not fit any more,
- * MINOR where something is new. 1.1 has phl_insert and its numbers, 1.2 phl_sew_list and 38. */
+ * MINOR where something is new. 1.1 has phl_insert and its numbers, 1.2 phl_sew_list and 38, 1.3
+ * phl_pick and 37. */
 #define PHL_VERSION_MAJOR 1
-#define PHL_VERSION_MINOR 2
-#define PHL_VERSION "1.2"
+#define PHL_VERSION_MINOR 3
+#define PHL_VERSION "1.3"
 
 /* Each entry of an unused slot. */
 #define PHL_UNUSED UINT32_C(4294967295)
@@ -184,6 +192,7 @@ enum phl_number {
     PHL_WRONG_DIMENSION = 1,     /* n is not 2 or 3 */
     PHL_WRONG_TABLE_LENGTH = 2,  /* table_len is no multiple of 4, or above PHL_MAX_ENTRIES */
     PHL_WRONG_MARKS_LENGTH = 3,  /* marks_len differs from the number of slots */
+    PHL_WRONG_QUEUE_LENGTH = 37, /* queue_len differs from the number of slots */
     PHL_WRONG_JOURNAL = 4,       /* not 2 <= journal_len <= PHL_MAX_JOURNAL, or not
                                     2 <= cursor <= end <= journal_len */
     PHL_LINK_NOT_LIVE = 5,       /* a link leads to no live slot; so does PHL_UNUSED in a slot that
@@ -235,6 +244,18 @@ uint32_t phl_orbit(uint32_t n, const uint32_t *table, size_t table_len,
 uint32_t phl_sheet(uint32_t n, const uint32_t *table, size_t table_len,
                    uint8_t *marks, size_t marks_len, uint32_t d,
                    uint32_t *place, uint32_t *count);
+
+/* The sheet of d by a second engine, for large tables: number, place, count and marks are phl_sheet's
+ * for every input, but that 37 is given too. It keeps a queue in a lent buffer of one uint32_t for
+ * each slot, and each dart of the sheet enters it once. Taken: darts taken off the queue; it equals
+ * count if the call is accepted, and is 0 if it is refused.
+ *
+ * The queue overlaps none of table, marks, taken, place and count. What it holds before the call does
+ * not matter. A refusal leaves it as it was; after an accepted call it may hold anything.
+ * Numbers: 1 2 3 37 5 24 25 26 7 8. */
+uint32_t phl_pick(uint32_t n, const uint32_t *table, size_t table_len,
+                  uint8_t *marks, size_t marks_len, uint32_t *queue, size_t queue_len,
+                  uint32_t d, uint32_t *taken, uint32_t *place, uint32_t *count);
 
 /* Adds one free cell: its k-th dart in the k-th lowest unused slot. Place: its first slot. Count: 8
  * or 48. Numbers: 1 2 4 5 24 25 26 14 15. */

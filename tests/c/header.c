@@ -9,10 +9,10 @@ const char *version(void) { return PHL_VERSION; }
 uint32_t call_each(void)
 {
     enum { SLOTS = 8, ENTRIES = 4 * SLOTS, WORDS = 2 + PHL_RECORD_WORDS(ENTRIES), TAG = 7 };
-    static uint32_t table[ENTRIES], journal[WORDS];
+    static uint32_t table[ENTRIES], journal[WORDS], queue[SLOTS];
     static uint8_t marks[SLOTS];
     static const uint32_t list[3] = {2, 0, 4};
-    uint32_t place, count, sum = 0;
+    uint32_t place, count, taken, sum = 0;
     for (int k = 0; k < ENTRIES; k++)
         table[k] = PHL_UNUSED;
     journal[0] = journal[1] = PHL_FRESH;
@@ -20,6 +20,7 @@ uint32_t call_each(void)
     sum += phl_check(2, table, ENTRIES, &place, &count);
     sum += phl_orbit(2, table, ENTRIES, marks, SLOTS, 3, 0, &place, &count);
     sum += phl_sheet(2, table, ENTRIES, marks, SLOTS, 0, &place, &count);
+    sum += phl_pick(2, table, ENTRIES, marks, SLOTS, queue, SLOTS, 0, &taken, &place, &count);
     sum += phl_sew(2, table, ENTRIES, journal, WORDS, TAG, 2, 5, 2, &place, &count);
     sum += phl_sew_list(2, table, ENTRIES, journal, WORDS, TAG, list, 3, &place, &count);
     sum += phl_unsew(2, table, ENTRIES, journal, WORDS, TAG, 2, 5, &place, &count);
@@ -44,6 +45,7 @@ int kind_of(uint32_t x)
     case PHL_WRONG_DIMENSION:
     case PHL_WRONG_TABLE_LENGTH:
     case PHL_WRONG_MARKS_LENGTH:
+    case PHL_WRONG_QUEUE_LENGTH:
     case PHL_WRONG_JOURNAL:
     case PHL_LINK_NOT_LIVE:
     case PHL_LINK_NOT_RETURNED:
