@@ -9,17 +9,17 @@
 #include "yardstick.h"
 
 enum call {
-    CHECK, ORBIT, SHEET, ADD, SEW, SEW_LIST, UNSEW, REMOVE, SPLIT, INSERT, UNDO, REDO, CALLS
+    CHECK, ORBIT, SHEET, PICK, ADD, SEW, SEW_LIST, UNSEW, REMOVE, SPLIT, INSERT, UNDO, REDO, CALLS
 };
 
 static const char *const call_name[CALLS] = {
-    "check", "orbit", "sheet", "add", "sew", "sew_list", "unsew", "remove", "split", "insert",
-    "undo", "redo",
+    "check", "orbit", "sheet", "pick", "add", "sew", "sew_list", "unsew", "remove", "split",
+    "insert", "undo", "redo",
 };
 
 typedef struct { uint32_t no, place, count; } answer;
 
-/* All that some call takes. */
+/* All that some call takes, and where pick stores taken. */
 typedef struct {
     enum call call;
     uint32_t n;
@@ -32,10 +32,13 @@ typedef struct {
     uint32_t i, mask, d, e, tag;
     const uint32_t *list;
     size_t list_len;
+    uint32_t *queue;
+    size_t queue_len;
+    uint32_t *taken;
 } request;
 
-/* Defines NAME, which runs a request on the implementation of that prefix. The place and the
- * count hold no meaningful value before the call. */
+/* Defines NAME, which runs a request on the implementation of that prefix. The place, the count and
+ * what is taken hold no meaningful value before the call. */
 #define DEFINE_RUN(NAME, PREFIX)                                                                  \
     static uint32_t NAME(const request *q, uint32_t *place, uint32_t *count)                      \
     {                                                                                             \
@@ -48,6 +51,9 @@ typedef struct {
         case SHEET:                                                                               \
             return PREFIX##sheet(q->n, q->table, q->table_len, q->marks, q->marks_len, q->d,      \
                                  place, count);                                                   \
+        case PICK:                                                                                \
+            return PREFIX##pick(q->n, q->table, q->table_len, q->marks, q->marks_len, q->queue,   \
+                                q->queue_len, q->d, q->taken, place, count);                      \
         case ADD:                                                                                 \
             return PREFIX##add(q->n, q->table, q->table_len, q->journal, q->journal_len, q->tag,  \
                                place, count);                                                     \

@@ -3,13 +3,15 @@
  *   compare [SEED [ROUNDS]]
  *
  * A round is a table, a journal and a run of calls on them; some calls are given something bad.
- * Both are lent the same buffers: number, place, count and all of table, marks and journal must
- * come out alike, and what stands before and behind each buffer must stay. What an insert changed
- * must come back, by remove and by undo; what a list does must be what its sews do one by one. Each
- * number that the header lists for a call must come up, those of an item at the first, at a middle
- * and at the last item, so that no part of the comparison is empty, and no other may. numbers.h,
- * which the script `run` makes, has the header's lines "Numbers:" as strings, with a blank before
- * and behind each number. */
+ * Both are lent the same buffers: number, place, count, what is taken, and all of table, marks and
+ * journal must come out alike, and what stands before and behind each buffer must stay. What an
+ * insert changed must come back, by remove and by undo; what a list does must be what its sews do one
+ * by one; what pick does must be what sheet does, but for its queue, which it leaves as it likes if it
+ * is accepted. Each number that the header lists for a call must come up, those of an item at the
+ * first, at a middle and at the last item, and those of sheet also where pick's queue is of a wrong
+ * length, so that no part of the comparison is empty, and no other may. numbers.h, which the script
+ * `run` makes, has the header's lines "Numbers:" as strings, with a blank before and behind each
+ * number. */
 #include <inttypes.h>
 #include <stdio.h>
 #include <stdlib.h>
@@ -31,7 +33,7 @@ static const char *const run_name[BOTH] = {"yardstick", "library"};
 
 /* ---------------------------------------------------------------- buffers */
 
-enum { TABLE, MARKS, JOURNAL, LIST, BUFFERS };
+enum { TABLE, MARKS, JOURNAL, LIST, QUEUE, BUFFERS };
 
 typedef struct {
     const char *name;
@@ -48,14 +50,16 @@ static buffer buffer_of(const request *q, int which)
         return (buffer){"marks", q->marks, q->marks_len, 1};
     case JOURNAL:
         return (buffer){"journal", q->journal, 4 * q->journal_len, 4};
-    default:
+    case LIST:
         return (buffer){"list", (void *)q->list, 4 * q->list_len, 4};
+    default:
+        return (buffer){"queue", q->queue, 4 * q->queue_len, 4};
     }
 }
 
-/* Of each buffer, a copy for each implementation, with guards before and behind it; and one for the
- * sews of a list one by one. */
-enum { GUARD = 32, GUARD_BYTE = 0xA5, MOST_SHIFT = 7, ONE_BY_ONE = BOTH, COPIES };
+/* Of each buffer, a copy for each implementation, with guards before and behind it; and one for other
+ * calls that should do the same: the sews of a list, or sheet. */
+enum { GUARD = 32, GUARD_BYTE = 0xA5, MOST_SHIFT = 7, OTHERWISE = BOTH, COPIES };
 
 static uint32_t room[COPIES][BUFFERS][JOURNAL_ROOM + (2 * GUARD + MOST_SHIFT) / 4 + 1];
 
@@ -76,6 +80,7 @@ static request lent(const request *q, int who, const size_t shift[BUFFERS])
     c.marks = copied(room[who][MARKS], buffer_of(q, MARKS), shift[MARKS]);
     c.journal = copied(room[who][JOURNAL], buffer_of(q, JOURNAL), shift[JOURNAL]);
     c.list = copied(room[who][LIST], buffer_of(q, LIST), shift[LIST]);
+    c.queue = copied(room[who][QUEUE], buffer_of(q, QUEUE), shift[QUEUE]);
     return c;
 }
 
@@ -107,6 +112,8 @@ static void tell_call(const request *q)
         for (size_t x = 0; x < q->list_len; x++)
             printf("%s %" PRIu32, x > 0 && x % 3 == 0 ? "," : "", q->list[x]);
     }
+    if (q->call == PICK)
+        printf(", a queue of %zu", q->queue_len);
     printf("\n");
 }
 
@@ -151,6 +158,10 @@ enum { FIRST, MIDDLE, LAST, PLACES };
 
 static unsigned long came_up_at[PLACES][PAST_NUMBERS];
 static const char *const place_name[PLACES] = {" first", " middle", " last"};
+
+/* Of picks with a queue of a wrong length: what sheet gave. Of accepted ones: how many of a dimension
+ * had every slot in the sheet, so that the queue was full. */
+static unsigned long came_up_beside[PAST_NUMBERS], full[4];
 
 /* Whether the header lists the number for the call. */
 static int listed(enum call call, uint32_t number)
@@ -226,7 +237,7 @@ static answer one_by_one(const request *q)
 static void must_be_as_one_by_one(const request *q, const size_t shift[BUFFERS], const request *c,
                                   answer a)
 {
-    request sews = lent(q, ONE_BY_ONE, shift);
+    request sews = lent(q, OTHERWISE, shift);
     answer b = one_by_one(&sews);
     size_t items = q->list_len / 3;
     if (a.no != b.no || a.place != b.place || a.count != b.count)
@@ -240,20 +251,60 @@ static void must_be_as_one_by_one(const request *q, const size_t shift[BUFFERS],
         came_up_at[a.place == 1 ? FIRST : a.place == items ? LAST : MIDDLE][a.no]++;
 }
 
+/* Whether a call is refused by this number before the length of a queue is looked at. */
+static int is_before_queue(uint32_t number)
+{
+    return number == PHL_WRONG_DIMENSION || number == PHL_WRONG_TABLE_LENGTH
+        || number == PHL_WRONG_MARKS_LENGTH;
+}
+
+/* The pick of q was answered by a and left the buffers of c. The library's sheet answers the same and
+ * leaves the same, but that a queue of a wrong length has its place in the order. */
+static void must_be_as_sheet(const request *q, const size_t shift[BUFFERS], const request *c,
+                             answer a)
+{
+    request sheet = lent(q, OTHERWISE, shift);
+    answer b = {0, 0, 0};
+    int fits = q->queue_len == q->table_len / 4;
+    sheet.call = SHEET;
+    b.no = run_library(&sheet, &b.place, &b.count);
+    if (!fits)
+        came_up_beside[b.no]++;
+    if (!fits && !is_before_queue(b.no)) {
+        if (a.no != PHL_WRONG_QUEUE_LENGTH)
+            fail_text(q, "both", "a queue of a wrong length", "is not told");
+        return;
+    }
+    if (a.no != b.no || a.place != b.place || a.count != b.count)
+        fail_text(q, "both", "pick", "is not answered as sheet");
+    for (int which = 0; which < QUEUE; which++) {
+        buffer is = buffer_of(c, which), should = buffer_of(&sheet, which);
+        if (memcmp(is.at, should.at, is.bytes) != 0)
+            fail_text(q, "both", is.name, "is not as sheet leaves it");
+    }
+    if (a.no == PHL_ACCEPTED && a.count == q->queue_len)
+        full[q->n]++;
+}
+
 /* Runs the call on both, and fails if they differ. *left is the yardstick's request, with the
  * buffers as it left them. */
 static answer held(const request *q, const size_t shift[BUFFERS], request *left)
 {
+    static uint32_t out[7];                         /* the even ones are place, count and taken */
     request c[BOTH];
     answer a[BOTH];
+    uint32_t taken[BOTH];
     for (int who = 0; who < BOTH; who++) {
-        uint32_t out[5] = {1, 2, 3, 4, 5};          /* place is the second, count the fourth */
+        for (uint32_t x = 0; x < 7; x++)
+            out[x] = x + 1;
         c[who] = lent(q, who, shift);
+        c[who].taken = &out[5];
         a[who].no = runs[who](&c[who], &out[1], &out[3]);
         a[who].place = out[1];
         a[who].count = out[3];
-        if (out[0] != 1 || out[2] != 3 || out[4] != 5)
-            fail_text(q, run_name[who], "a word beside place or count", "is written");
+        taken[who] = out[5];
+        if (out[0] != 1 || out[2] != 3 || out[4] != 5 || out[6] != 7)
+            fail_text(q, run_name[who], "a word beside place, count or taken", "is written");
         for (int which = 0; which < BUFFERS; which++)
             if (!guards_stand(buffer_of(&c[who], which)))
                 fail_text(q, run_name[who], buffer_of(q, which).name, "is written past its ends");
@@ -267,14 +318,22 @@ static answer held(const request *q, const size_t shift[BUFFERS], request *left)
         fail_word(q, "place", 0, a[YARD].place, a[LIBRARY].place);
     if (a[YARD].count != a[LIBRARY].count)
         fail_word(q, "count", 0, a[YARD].count, a[LIBRARY].count);
+    if (taken[YARD] != taken[LIBRARY])
+        fail_word(q, "taken", 0, taken[YARD], taken[LIBRARY]);
     for (int which = 0; which < BUFFERS; which++)
-        must_be_same(q, buffer_of(&c[YARD], which), buffer_of(&c[LIBRARY], which));
+        if (which != QUEUE || a[YARD].no != PHL_ACCEPTED)
+            must_be_same(q, buffer_of(&c[YARD], which), buffer_of(&c[LIBRARY], which));
     if (!listed(q->call, a[YARD].no))
         fail_text(q, "both", "a number", "that the header does not list for this call");
     if (a[YARD].no != PHL_ACCEPTED && !is_at_an_item(q, a[YARD]))
         must_be_a_refusal(q, &c[YARD], a[YARD]);
     if (q->call == SEW_LIST)
         must_be_as_one_by_one(q, shift, &c[YARD], a[YARD]);
+    if (q->call == PICK) {
+        must_be_as_sheet(q, shift, &c[YARD], a[YARD]);
+        if (taken[YARD] != (a[YARD].no == PHL_ACCEPTED ? a[YARD].count : 0))
+            fail_text(q, "both", "taken", "is not the sheet's size, or not 0 where there is none");
+    }
     if (q->call == INSERT && memcmp(q->marks, c[YARD].marks, q->marks_len) != 0)
         fail_text(q, "both", "marks", "are written by insert");
     came_up[q->call][a[YARD].no]++;
@@ -381,16 +440,20 @@ static void try_null(request q)
 {
     static uint32_t no_word[1];
     static uint8_t no_mark[1];
+    uint32_t taken[BOTH] = {9, 9};
     request plain = q;
     answer a = {0, 0, 0}, b = {0, 0, 0};
+    q.taken = &taken[LIBRARY];
+    plain.taken = &taken[YARD];
     plain.table = no_word;
     plain.marks = no_mark;
     plain.journal = q.journal != NULL ? q.journal : no_word;
     plain.list = no_word;
+    plain.queue = no_word;
     a.no = run_library(&q, &a.place, &a.count);
     b.no = run_yard(&plain, &b.place, &b.count);
     calls++;
-    if (a.no != b.no || a.place != b.place || a.count != b.count)
+    if (a.no != b.no || a.place != b.place || a.count != b.count || taken[YARD] != taken[LIBRARY])
         fail_text(&plain, "library", "a null pointer", "gives another answer");
     if (q.call == CHECK && (q.n == 2 || q.n == 3) && a.count != 2)
         fail_text(&plain, "both", "no slot", "is no block map");
@@ -398,14 +461,15 @@ static void try_null(request q)
         fail_text(&plain, "both", "a journal of no words", "is taken");
 }
 
-/* Null pointers for no slots, no marks and no list, and for a journal of no words or not for a fresh
- * one. */
+/* Null pointers for no slots, no marks, no list and no queue, and for a journal of no words or not for
+ * a fresh one. */
 static void try_null_pointers(void)
 {
     static uint32_t fresh[2] = {PHL_FRESH, PHL_FRESH};
     for (int call = 0; call < CALLS; call++) {
         for (uint32_t n = 0; n < 4; n++) {
-            request q = {(enum call)call, n, NULL, 0, NULL, 0, NULL, 0, 1, 1, 0, 0, 7, NULL, 0};
+            request q = {(enum call)call, n, NULL, 0, NULL, 0, NULL, 0, 1, 1, 0, 0, 7, NULL, 0,
+                         NULL, 0, NULL};
             try_null(q);
             q.journal = fresh;
             q.journal_len = 2;
@@ -416,8 +480,8 @@ static void try_null_pointers(void)
 
 /* ---------------------------------------------------------------- the report */
 
-static const uint32_t order[] = {0,  1,  2,  3,  4,  5,  24, 25, 26, 38, 6,  7,  8, 28,
-                                 29, 30, 31, 32, 9,  10, 11, 12, 13, 14, 15, 16, 17};
+static const uint32_t order[] = {0,  1,  2,  3,  37, 4,  5,  24, 25, 26, 38, 6,  7,  8,
+                                 28, 29, 30, 31, 32, 9,  10, 11, 12, 13, 14, 15, 16, 17};
 enum { NUMBERS = sizeof order / sizeof *order };
 
 /* A number that should come up, and did so often: 0 if never. */
@@ -444,6 +508,22 @@ static int tell_places(void)
     return complete;
 }
 
+/* How often sheet gave each number where pick's queue was of a wrong length; 0 if one never came up,
+ * or if no sheet filled the queue. */
+static int tell_queues(void)
+{
+    int complete = 1;
+    printf("%-8s", " beside");
+    for (int x = 0; x < NUMBERS; x++) {
+        if (!listed(SHEET, order[x]))
+            printf("%6s", "-");
+        else
+            complete &= tell_times(came_up_beside[order[x]]);
+    }
+    printf("\n full queues: %lu for n = 2, %lu for n = 3\n", full[2], full[3]);
+    return complete && full[2] > 0 && full[3] > 0;
+}
+
 /* How often each call gave each number; 0 if some number never came up. */
 static int tell_numbers(void)
 {
@@ -463,13 +543,15 @@ static int tell_numbers(void)
         printf("\n");
         if (call == SEW_LIST)
             complete &= tell_places();
+        if (call == PICK)
+            complete &= tell_queues();
     }
     return complete;
 }
 
 int main(int argc, char **argv)
 {
-    uint64_t rounds = argc > 2 ? strtoull(argv[2], NULL, 10) : 16000;
+    uint64_t rounds = argc > 2 ? strtoull(argv[2], NULL, 10) : 18000;
     seed = argc > 1 ? strtoull(argv[1], NULL, 10) : 1;
     if (sizeof numbers / sizeof *numbers != CALLS) {
         printf("the header has no line of numbers for each call\n");

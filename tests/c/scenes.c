@@ -6,7 +6,7 @@
 /* The longest list, and two words behind it that make it no list of items. */
 enum { MOST_ITEMS = 40, LIST_ROOM = 3 * MOST_ITEMS + 2 };
 
-static uint32_t table[TABLE_ROOM], journal[JOURNAL_ROOM], list[LIST_ROOM];
+static uint32_t table[TABLE_ROOM], journal[JOURNAL_ROOM], list[LIST_ROOM], queue[TABLE_ROOM];
 static uint8_t marks[MARKS_ROOM];
 
 static uint32_t slots_of(const request *q) { return (uint32_t)(q->table_len / 4); }
@@ -77,6 +77,20 @@ static void make_rings(uint32_t n, uint32_t *to, uint32_t slots, rng *r)
     }
 }
 
+/* A chain of cells, in each of which two sides are sewn so that its axes are joined: one sheet has
+ * every dart. */
+static void make_wound(uint32_t n, uint32_t cells, uint32_t *to, uint32_t slots)
+{
+    uint32_t k = cell_darts(n);
+    map_cells(n, cells, to, slots);
+    for (uint32_t c = 0; c < cells; c++) {
+        /* The side +y to -x, for n = 3 to +z: x goes on as y, and z as x. */
+        map_glue(n, to, k * c + (n == 2 ? 2 : 10), k * c + (n == 2 ? 4 : 20));
+        if (c + 1 < cells)
+            map_glue(n, to, k * c + (n == 2 ? 5 : 25), k * (c + 1) + (n == 2 ? 0 : 24));
+    }
+}
+
 /* In a map of cells a side is sewn onto itself, so that it is folded; or not even a map is left. */
 static void fold(uint32_t n, uint32_t cells, uint32_t *to, rng *r)
 {
@@ -121,15 +135,17 @@ static void make_numbers(uint32_t *to, uint32_t slots, rng *r)
         to[x] = one_in(r, 8) ? NONE : rng_below(r, slots + 1);
 }
 
-enum kind { EMPTY, RINGS, MATCHES, LOOSE, NUMBERS, GRID, RANDOM };
+enum kind { EMPTY, RINGS, MATCHES, LOOSE, NUMBERS, GRID, RANDOM, WOUND };
 
 /* A table of one kind or another; mostly a map. */
 static void make_table(uint32_t n, uint32_t cells, uint32_t *to, uint32_t slots, rng *r)
 {
     enum kind kind = cells == 0  ? ONE_OF(r, EMPTY, RINGS, MATCHES, LOOSE, NUMBERS)
                    : slots < 500 ? ONE_OF(r, EMPTY, EMPTY, RINGS, MATCHES, LOOSE, LOOSE, NUMBERS,
-                                          GRID, GRID, GRID, RANDOM, RANDOM, RANDOM, RANDOM)
-                   : ONE_OF(r, EMPTY, RINGS, RINGS, RINGS, LOOSE, GRID, GRID, RANDOM, RANDOM);
+                                          GRID, GRID, GRID, RANDOM, RANDOM, RANDOM, RANDOM,
+                                          WOUND)
+                   : ONE_OF(r, EMPTY, RINGS, RINGS, RINGS, LOOSE, GRID, GRID, RANDOM, RANDOM,
+                            WOUND);
     map_clear(to, slots);
     if (kind == RINGS && slots >= 4)
         make_rings(n, to, slots, r);
@@ -143,6 +159,8 @@ static void make_table(uint32_t n, uint32_t cells, uint32_t *to, uint32_t slots,
         make_grid(n, cells, to, slots, r);
     else if (kind == RANDOM)
         map_random(n, cells, ONE_OF(r, 0, 50, 80, 100), to, slots, r);
+    else if (kind == WOUND)
+        make_wound(n, cells, to, slots);
     if ((kind == GRID || kind == RANDOM) && one_in(r, 8))
         fold(n, cells, to, r);
     if (one_in(r, 3))
@@ -226,8 +244,10 @@ request scene_new(rng *r, uint32_t about)
             slots = MAX_SLOTS;
         cells = slots / k / ONE_OF(r, 1, 2, 2);
     }
+    if (one_in(r, 12))
+        slots = k * cells;
     request q = {CHECK, n, table, 4 * (size_t)slots, marks, slots, journal, 0, 0, 0, 0, 0, 0,
-                 list, 0};
+                 list, 0, queue, slots, NULL};
     make_table(n, cells, table, slots, r);
     make_fresh_journal(&q, about, r);
     if (about <= 4096 && one_in(r, 8))
@@ -461,6 +481,16 @@ static void draw_list(request *q, rng *r)
         spoil_item(q, list + 3 * ONE_OF(r, 0, items - 1, rng_below(r, items)), r);
 }
 
+/* ---------------------------------------------------------------- queues */
+
+/* Words of any kind in the queue, and in what a queue that is too long has besides. */
+static void fill_queue(const request *q, rng *r)
+{
+    uint32_t slots = slots_of(q), kind = rng_below(r, 4), word = ONE_OF(r, 0, 1, NONE, any(r));
+    for (uint32_t k = 0; k < 4 * slots + 1; k++)
+        queue[k] = kind == 0 ? word : kind == 1 ? k : kind == 2 ? rng_below(r, slots) : any(r);
+}
+
 /* ---------------------------------------------------------------- a call */
 
 void scene_ask(request *q, rng *r)
@@ -475,6 +505,8 @@ void scene_ask(request *q, rng *r)
         q->call = INSERT;
     if (one_in(r, slots_of(q) < 500 ? 32 : 4))
         q->call = SEW_LIST;
+    if (one_in(r, slots_of(q) < 500 ? 16 : 8))
+        q->call = PICK;
     if (q->call == UNSEW && wish == FREE)
         wish = SEWN;
     q->tag = any(r);
@@ -487,6 +519,8 @@ void scene_ask(request *q, rng *r)
         draw(q, r);
     if (q->call == SEW_LIST)
         draw_list(q, r);
+    if (q->call == PICK)
+        fill_queue(q, r);
 }
 
 /* ---------------------------------------------------------------- spoiling */
@@ -534,6 +568,15 @@ static void spoil_length(request *q, rng *r)
         else
             q->journal_len = PHL_MAX_JOURNAL + ONE_OF(r, 0, 1);
     }
+}
+
+/* A length that is too short or too long, also with marks of a wrong length. */
+static void spoil_queue(request *q, rng *r)
+{
+    size_t slots = slots_of(q);
+    q->queue_len = ONE_OF(r, 0, slots / 2, slots < 1 ? 1 : slots - 1, slots + 1, 4 * slots);
+    if (one_in(r, 8))
+        q->marks_len = ONE_OF(r, 0, slots < 1 ? 1 : slots - 1, slots + 1);
 }
 
 static void spoil_argument(request *q, rng *r)
@@ -629,6 +672,8 @@ static void spoil_record(const request *q, rng *r)
 void scene_spoil(request *q, rng *r)
 {
     uint32_t what = q->call >= UNDO && one_in(r, 3) ? 4 : rng_below(r, 10);
+    if (q->call == PICK && one_in(r, 4))
+        spoil_queue(q, r);
     if (what == 0)
         q->n = ONE_OF(r, 0, 1, 4, 9, NONE, 2, 3);
     else if (what == 1)

@@ -18,10 +18,11 @@ enum {
 request scene_new(rng *r, uint32_t about);
 
 /* A call, with arguments that are good ones most often; for insert a wall is drawn in the marks, for
- * sew_list a list. */
+ * sew_list a list, and for pick the queue is filled with anything. */
 void scene_ask(request *q, rng *r);
 
-/* Makes one thing bad: n, a length, an argument, a mark, an item, or words of table or journal. */
+/* Makes one thing bad: n, a length, an argument, a mark, an item, or words of table or journal; for
+ * pick at times also the queue's length. */
 void scene_spoil(request *q, rng *r);
 
 /* Puts the words back that were spoilt since the last call; if not `back`, they stay. */

@@ -69,13 +69,13 @@ static uint32_t next_number(const char *key, uint32_t most)
     return (uint32_t)number;
 }
 
-/* A session has neither lists nor walls. */
+/* A session has neither lists nor walls nor queues. */
 static enum call call_of(const char *name)
 {
     int call = 0;
     while (call < CALLS && strcmp(name, call_name[call]) != 0)
         call++;
-    if (call == CALLS || call == SEW_LIST || call == INSERT)
+    if (call == CALLS || call == SEW_LIST || call == INSERT || call == PICK)
         bad();
     return (enum call)call;
 }
@@ -95,7 +95,8 @@ static void show_table(const request *q)
 int main(void)
 {
     char line[LINE];
-    request q = {CHECK, 0, table, 0, marks, 0, journal, WORDS, 0, 0, 0, 0, 0, NULL, 0};
+    request q = {CHECK, 0, table, 0, marks, 0, journal, WORDS, 0, 0, 0, 0, 0, NULL, 0,
+                 NULL, 0, NULL};
     q.n = next_number("dim=", NONE);
     q.marks_len = next_number("slots=", MOST_SLOTS);
     q.table_len = 4 * q.marks_len;

@@ -11,11 +11,12 @@ DEFINE_RUN(run_yard, yard_)
 
 enum { SLOTS = MAX_SLOTS + 1, WORDS = 443000, LIST = 96, LINE = 1000, MOST_NUMBERS = 3 };
 
-static uint32_t table[4 * SLOTS], journal[WORDS], list[LIST];
+static uint32_t table[4 * SLOTS], journal[WORDS], list[LIST], queue[SLOTS], taken;
 static uint8_t marks[SLOTS], drawn[SLOTS];
 
 /* What the calls are given from here on. */
-static request given = {CHECK, 0, table, 0, marks, 0, journal, 0, 0, 0, 0, 0, 0, list, 0};
+static request given = {CHECK, 0, table, 0, marks, 0, journal, 0, 0, 0, 0, 0, 0, list, 0,
+                        queue, 0, &taken};
 
 /* The numbers of the line, and how many it has. */
 static uint32_t number[MOST_NUMBERS];
@@ -55,7 +56,8 @@ static void show_marks(const request *q)
 
 static int has_marks(enum call call)
 {
-    return call == ORBIT || call == SHEET || call == REMOVE || call == SPLIT || call == INSERT;
+    return call == ORBIT || call == SHEET || call == PICK || call == REMOVE || call == SPLIT
+        || call == INSERT;
 }
 
 /* ---------------------------------------------------------------- lines */
@@ -69,6 +71,8 @@ static void play_call(request q)
         memcpy(marks, drawn, sizeof marks);
     no = run_yard(&q, &place, &count);
     printf(": number %u, place %u, count %u", (unsigned)no, (unsigned)place, (unsigned)count);
+    if (q.call == PICK)
+        printf(", taken %u", (unsigned)taken);
     if (q.call >= ADD) {
         printf(", cursor %u, end %u, journal %u, table %u",
                q.journal_len > 0 ? (unsigned)journal[0] : 0,
@@ -84,6 +88,7 @@ static void play_scene(void)
     given.n = number[0];
     given.marks_len = number[1];
     given.table_len = 4 * given.marks_len;
+    given.queue_len = number[1];
     given.journal_len = number[2];
     given.tag = 0;
     given.list_len = 0;
@@ -129,7 +134,7 @@ static int is(const char *line, const char *word, int count)
 /* Whether the line is a call, other than sew_list; its arguments go to q. */
 static int is_call(const char *line, request *q)
 {
-    static const int arguments[CALLS] = {0, 2, 1, 0, 3, 0, 2, 1, 1, 0, 0, 0};
+    static const int arguments[CALLS] = {0, 2, 1, 1, 0, 3, 0, 2, 1, 1, 0, 0, 0};
     for (int call = 0; call < CALLS; call++) {
         if (call == SEW_LIST || !is(line, call_name[call], arguments[call]))
             continue;
@@ -183,7 +188,9 @@ static void play(const char *line)
         given.table_len = a;
         given.marks_len = b;
         given.journal_len = c;
-    } else if (is(line, "put", 3))
+    } else if (is(line, "queue", 1) && a <= SLOTS)
+        given.queue_len = a;
+    else if (is(line, "put", 3))
         table[4 * a + b] = c;
     else if (is(line, "write", 2))
         journal[a] = b;
