@@ -35,6 +35,17 @@ END {
         key = line[x]
         if (sub(/^sew-list /, "sew-singles ", key) && key in test) printf "list %s %.4f\n", substr(key, 13), test[line[x]] / test[key]
     }
+    print "# pick sheet dim slots: the kernel's time for pick over its time for sheet, in the line of that name"
+    for (x = 1; x <= lines; x++) {
+        key = line[x]
+        if (!sub(/^pick/, "sheet", key)) continue
+        quotient = test[line[x]] / test[key]
+        printf "pick %s %.3f\n", key, quotient
+        picks++
+        pick_sum += log(quotient)
+        if (quotient > pick_worst) { pick_worst = quotient; pick_key = key }
+        if (key ~ /-random / && quotient > random_worst) { random_worst = quotient; random_key = key }
+    }
     print "# refusal call yardstick_ns kernel_ns: n = 9"
     for (x = 1; x <= refusals; x++) printf "refusal %s %.1f %.1f\n", refusal[x], refused[refusal[x]], refused_test[refusal[x]]
     print "# growth call dim yardstick kernel live: time at 65k over time at 8k, over live darts; 1 is linear"
@@ -44,4 +55,7 @@ END {
             test[key " 65536"] / test[key " 8192"] / live[key], live[key]
     }
     printf "worst ratio %.2f (%s), geometric mean %.2f, of %d measurements\n", worst, worst_key, exp(sum / lines), lines
+    if (picks > 0)
+        printf "pick over sheet: worst %.3f (%s), geometric mean %.3f, of %d; worst of -random %.3f (%s)\n", \
+            pick_worst, pick_key, exp(pick_sum / picks), picks, random_worst, random_key
 }

@@ -16,6 +16,7 @@ enum { STACK = 4 << 20, PATTERN = 0xA5 };
 static uint32_t table[MAX_ENTRIES];
 static uint8_t marks[MAX_SLOTS];
 static uint32_t journal[MAX_JOURNAL];
+static uint32_t queue[MAX_SLOTS], off;     /* for pick, and what it took off */
 
 static void *nothing(void *q) { return q; }
 
@@ -50,7 +51,7 @@ static void measure(enum call call, uint32_t n, uint32_t slots, uint32_t i, uint
 {
     const uint32_t item[3] = {i, d, e};
     request q = {call, n, table, 4 * (size_t)slots, marks, slots, journal, MAX_JOURNAL,
-                 i, 2, d, e, 0, item, 3};
+                 i, 2, d, e, 0, item, 3, queue, slots, &off};
     request none = q;
     size_t base = taken(nothing, &none);
     size_t whole = taken(one_call, &q);
@@ -75,13 +76,14 @@ static void measure_all(uint32_t n, const uint32_t grid[3], uint32_t slots)
     measure(CHECK, n, slots, 0, 0, 0);
     measure(ORBIT, n, slots, 0, 0, 0);
     measure(SHEET, n, slots, 0, 0, 0);
+    measure(PICK, n, slots, 0, 0, 0);
     measure(SPLIT, n, slots, 0, 0, 0);
     measure(UNDO, n, slots, 0, 0, 0);
     measure(REDO, n, slots, 0, 0, 0);
     draw_cut(n, first, slots);
     measure(INSERT, n, slots, 0, 0, 0);
     request q = {UNDO, n, table, 4 * (size_t)slots, marks, slots, journal, MAX_JOURNAL,
-                 0, 0, 0, 0, 0, NULL, 0};
+                 0, 0, 0, 0, 0, NULL, 0, NULL, 0, NULL};
     run_test(&q, &place, &count);
     measure(REMOVE, n, slots, 0, 0, 0);
     measure(ADD, n, slots, 0, 0, 0);
