@@ -1,6 +1,7 @@
 -- Darts entered and taken off, on the way to the sheet of d: what holds at first (`taking-none`), when the first places of a cell enter
 -- (`taking-enter`), for which there is room (`taking-room`), when a dart is taken off (`taking-next`), and when all are: the marks are the
--- sheet (`taken-marks`), which the queue lists (`taken-queue`, `taken-size`).
+-- sheet (`taken-marks`), which the queue lists (`taken-queue`, `taken-size`). `Meeting`: a dart of the sheet is met, with no mark (`met-new`) or
+-- with one (`met-old`).
 use Prim.Native.Nat.{ℕ, _+_, _*_, _-_, _≤_, _<_}
 use mathlib.Core.Path.{_≡_, refl, sym, ap, _∙_}
 use mathlib.Core.Logic.{_⊎_, inl, inr, _≢_, ⊎-elim}
@@ -228,14 +229,55 @@ module _ {n : ℕ} {t : List ℕ} {d : ℕ} (D : BlockDart n t d) where
         cells = P .cells;
       }
 
--- g is link n of the dart that is taken off, and enters with its cell
-pub taking-over : {n : ℕ} {t : List ℕ} {d : ℕ} (D : BlockDart n t d) {m w : List ℕ} {taken tail : ℕ} (P : Taking n t d m w taken tail)
-    (g : ℕ) (in-sheet : Marked (sheet n t d) g) (new : getD m g 0 ≢ 1) {m′ v : List ℕ} → Entered m w tail (half n) (place n t g) m′ v
-    → taken < tail → g ≡ link t n (getD w taken 0) → getD m d 0 ≡ 1 → Taking n t d m′ v (taken + 1) (tail + half n) × (getD m′ d 0 ≡ 1)
-taking-over {n} {t} {d} D {m} {w} {taken} P g in-sheet new {m′} {v} Q some is begun =
-    (taking-next D (taking-enter D P g in-sheet new Q) led (omega arith), ones-kept D P g in-sheet new Q d begun)
-  where
-    led : getD m′ (link t n (getD v taken 0)) 0 ≡ 1
-    led =
-        ap (λ (x : ℕ). getD m′ (link t n x) 0) (Q .kept taken some) ∙ ap (λ (x : ℕ). getD m′ x 0) (sym is)
-        ∙ entered-own D P g in-sheet new Q
+-- ---- a dart y is met
+
+-- d at first, then link n of the dart that was taken off last
+abbrev pub Meeting : ℕ → List ℕ → ℕ → List ℕ → List ℕ → ℕ → ℕ → ℕ → Type 0
+Meeting n t d m w taken tail y =
+    (Taking n t d m w 0 0 × (taken ≡ 0) × (tail ≡ 0) × (y ≡ d))
+    ⊎ ((k : ℕ) × Taking n t d m w k tail × (k < tail) × (taken ≡ k + 1) × (y ≡ link t n (getD w k 0)) × (getD m d 0 ≡ 1))
+
+module _ {n : ℕ} {t : List ℕ} {d : ℕ} (D : BlockDart n t d) where
+  pub meeting-first : (w : List ℕ) → length w ≡ slots t → Meeting n t d (replicate (slots t) 0) w 0 0 d
+  meeting-first w words = inl (taking-none D w words, refl, refl, refl)
+
+  pub meeting-next : {m w : List ℕ} {taken tail : ℕ} → Taking n t d m w taken tail → getD m d 0 ≡ 1 → taken < tail
+      → Meeting n t d m w (taken + 1) tail (link t n (getD w taken 0))
+  meeting-next {taken = taken} P begun some = inr (taken, P, some, refl, refl, begun)
+
+  module _ {m w : List ℕ} {taken tail y : ℕ} (M : Meeting n t d m w taken tail y) where
+    pub met-sheet : Marked (sheet n t d) y
+    met-sheet = ⊎-elim (λ (_, _, _, is). rw is (sheet-own D)) (λ (k, P, some, _, is, _). rw is (word-over D P k some)) M
+
+    pub met-length : (length m ≡ slots t) × (length w ≡ slots t)
+    met-length = ⊎-elim (λ (P, _, _, _). (P .long, P .words)) (λ (_, P, _, _, _, _). (P .long, P .words)) M
+
+    -- it has no mark: its cell can enter, and does
+    module _ (none : getD m y 0 ≡ 0) where
+      new : getD m y 0 ≢ 1
+      new e = absurd (omega arith)
+
+      pub met-enters : Enters n t m w tail y
+      met-enters = ⊎-elim (λ (P, _, zero, _). rw zero (enters-of D P y met-sheet new))
+          (λ (_, P, _, _, _, _). enters-of D P y met-sheet new) M
+
+      pub met-new : {m′ v : List ℕ} → Entered m w tail (half n) (place n t y) m′ v
+          → Taking n t d m′ v taken (tail + half n) × (getD m′ d 0 ≡ 1)
+      met-new {m′} {v} Q = ⊎-elim
+          (λ (P, start, zero, is).
+          let R = rw zero at Q in
+          (rw (start, zero) (taking-enter D P y met-sheet new R), rw (← is) (entered-own D P y met-sheet new R)))
+          (λ (k, P, some, next, is, begun).
+          let led : getD m′ (link t n (getD v k 0)) 0 ≡ 1 =
+          ap (λ (x : ℕ). getD m′ (link t n x) 0) (Q .kept k some) ∙ ap (λ (x : ℕ). getD m′ x 0) (sym is)
+          ∙ entered-own D P y met-sheet new Q in
+          (rw next (taking-next D (taking-enter D P y met-sheet new Q) led (omega arith)), ones-kept D P y met-sheet new Q d begun)) M
+
+    -- it has a mark
+    pub met-old : getD m y 0 ≢ 0 → Taking n t d m w taken tail × (getD m d 0 ≡ 1)
+    met-old some = ⊎-elim
+        (λ (P, _, _, _). let (i, low, _) = P .all y (one P) in absurd (omega arith))
+        (λ (k, P, low, next, is, begun). (rw next (taking-next D P (rw (← is) (one P)) low), begun)) M
+      where
+        one : {k l : ℕ} → Taking n t d m w k l → getD m y 0 ≡ 1
+        one P = let few = P .few y in omega arith

@@ -96,25 +96,29 @@ fn enter_cell(
     at + 16
 }
 
-// The sheet of d where no mark is set: marks 1 at its darts, which the queue lists, each once.
+// The sheet of d where no mark is set: marks 1 at its darts, which the queue lists, each once. First d is met, then link n of each dart that is
+// taken off. (As there is one call of enter_cell, it is copied in here, which matters: a sheet in 2D is a chain of cells.)
 fn flood(n: u32, table: &[u32], marks: &mut [u8], queue: &mut [u32], d: u32) -> Found
     requires { ⌜ (BlockDart n (now table) d) × (now marks ≡ replicate (slots (now table)) 0) × (length (now queue) ≡ slots (now table)) ⌝ }
     ensures { λ r. ⌜ (now (marks .exit) ≡ sheet n (now (table .entry)) d) × (Queued n (now (table .entry)) d (now (queue .exit)) (r .entered)) ⌝ }
     ensures { λ r. ⌜ (r .entered ≡ count 1 (sheet n (now (table .entry)) d)) × (r .taken ≡ count 1 (sheet n (now (table .entry)) d)) ⌝ }
 {
-    let mut tail = enter_cell(n, table, marks, queue, 0, d);
+    let mut tail: usize = 0;
     let mut taken: usize = 0;
-    while taken < tail {
-        let x = queue[taken];
-        taken += 1;
-        let y = link_in(table, n as usize, x);
+    let mut y = d;
+    loop {
         if marks[y as usize] == 0 {
             tail = enter_cell(n, table, marks, queue, tail, y);
         }
-    }
-    Found {
-        entered: tail as u32,
-        taken: taken as u32,
+        if taken == tail {
+            return Found {
+                entered: tail as u32,
+                taken: taken as u32,
+            };
+        }
+        let x = queue[taken];
+        taken += 1;
+        y = link_in(table, n as usize, x);
     }
 }
 
