@@ -1,10 +1,11 @@
 // The C interface: the calls, each proved against the same definition of the model as the call below it. The number is
-// returned, place and count are stored. include/phlernsap.h says it in C.
+// returned, place and count are stored, and of pick how many darts it took off. include/phlernsap.h says it in C.
 use answers::Answer;
 ghost use mathlib.Core.Path.{_≡_};
+ghost use mathlib.Core.Logic.{_≢_};
 ghost use mathlib.Core.List.{[]};
-ghost use Rattle.model.specs.Calls.{checkCall, orbitCall, sheetCall, addCall, sewCall, unsewCall, removeCall, splitCall};
-ghost use Rattle.model.specs.Calls.{sewListCall, insertCall, undoCall, redoCall};
+ghost use Rattle.model.specs.Calls.{checkCall, orbitCall, sheetCall, pickCall, pickTaken, addCall, sewCall, unsewCall};
+ghost use Rattle.model.specs.Calls.{removeCall, splitCall, sewListCall, insertCall, undoCall, redoCall};
 ghost use Rattle.phlernsap.specs.Given.{given};
 
 // Stores place and count, and returns the number.
@@ -53,6 +54,27 @@ pub extern "C" fn phl_sheet(
         ≡ sheetCall n (now (table .entry)) (now (marks .entry)) d ⌝ }
 {
     give(kernel::sheet(n, table, marks, d), place, count)
+}
+
+#[no_mangle]
+pub extern "C" fn phl_pick(
+    n: u32,
+    table: &[u32],
+    marks: &mut [u8],
+    queue: &mut [u32],
+    d: u32,
+    taken: &mut u32,
+    place: &mut u32,
+    count: &mut u32,
+) -> u32
+    ensures { λ r. ⌜ given r (now (place .exit)) (now (count .exit)) (now (table .entry)) (now (marks .exit)) []
+        ≡ pickCall n (now (table .entry)) (now (marks .entry)) (now (queue .entry)) d ⌝ }
+    ensures { λ _. ⌜ now (taken .exit) ≡ pickTaken n (now (table .entry)) (now (marks .entry)) (now (queue .entry)) d ⌝ }
+    ensures { λ r. ⌜ (r ≢ 0 → now (queue .exit) ≡ now (queue .entry)) ⌝ }
+{
+    let picked = kernel::pick(n, table, marks, queue, d);
+    *taken = picked.taken;
+    give(picked.answer, place, count)
 }
 
 #[no_mangle]
