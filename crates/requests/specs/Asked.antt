@@ -3,7 +3,7 @@ use Prim.Native.Nat.{ℕ}
 use mathlib.Core.Bool.{true, false}
 use mathlib.Core.List.{List}
 use lib.Dec.{eqb}
-use Rattle.model.specs.Calls.{Outcome, sewListCall}
+use Rattle.model.specs.Calls.{Outcome, pickTaken, sewListCall}
 use Rattle.model.specs.Runs.{Op, Call, doCall, keeping}
 use Rattle.model.specs.Session.{callOf}
 
@@ -11,14 +11,18 @@ use Rattle.model.specs.Session.{callOf}
 abbrev pub lentTo : List ℕ → List ℕ → List ℕ → Outcome
 lentTo t m j = record { number = 0; place = 0; count = 0; table = t; marks = m; journal = j }
 
--- what any call leaves of o: the session's by the places of their names, and behind them insert, along the wall that the marks draw, and
--- sew_list, of the list l
-unfoldable pub anyOutcome : ℕ → Outcome → ℕ → ℕ → ℕ → ℕ → ℕ → List ℕ → Outcome
-anyOutcome n o p tag i d e l =
+-- what any call leaves of o: the session's by the places of their names, and behind them insert, along the wall that the marks draw,
+-- sew_list, of the list l, and pick, over the queue w
+unfoldable pub anyOutcome : ℕ → Outcome → ℕ → ℕ → ℕ → ℕ → ℕ → List ℕ → List ℕ → Outcome
+anyOutcome n o p tag i d e l w =
     elim (eqb p 10) [
       | true ↦ doCall n o (Call.op tag (Op.insert (o .marks)))
       | false ↦ (elim (eqb p 11) [
         | true ↦ (let r = sewListCall n (o .table) (o .journal) tag l in keeping r (o .marks) (r .journal))
-        | false ↦ doCall n o (callOf p tag i d e)
+        | false ↦ (elim (eqb p 12) [ true ↦ doCall n o (Call.pick w d) | false ↦ doCall n o (callOf p tag i d e) ])
       ])
     ]
+
+-- how many darts pick takes off its queue w; of every other call 0
+unfoldable pub anyTaken : ℕ → List ℕ → List ℕ → ℕ → ℕ → List ℕ → ℕ
+anyTaken n t m p d w = elim (eqb p 12) [ true ↦ pickTaken n t m w d | false ↦ 0 ]

@@ -40,7 +40,7 @@ fn asked(row: Row) -> Row {
     }
     Row {
         kind: if row.kind >= lines::UNDO_WITH {
-            row.kind - 4
+            row.kind - 5
         } else {
             row.kind
         },
@@ -81,7 +81,21 @@ fn lend_some(
     list: &[u32],
 ) {
     let slots = few(marks, s.marks);
-    ask(s.n, s.tag, row, table, &mut marks[..slots], journal, list);
+    lend_queue(s, row, table, &mut marks[..slots], journal, list);
+}
+
+// Each call is lent a queue of equal words, which only pick takes.
+fn lend_queue(
+    s: Stage,
+    row: Row,
+    table: &mut [u32],
+    marks: &mut [u8],
+    journal: &mut [u32],
+    list: &[u32],
+) {
+    let word = s.queue_word;
+    let mut queue = [word; 65537];
+    ask(s, row, table, marks, journal, list, &mut queue);
 }
 
 // So many marks; if there are not so many, a question mark and none.
@@ -96,34 +110,41 @@ fn few(marks: &[u8], most: usize) -> usize
 }
 
 fn ask(
-    n: u32,
-    tag: u32,
+    s: Stage,
     row: Row,
     table: &mut [u32],
     marks: &mut [u8],
     journal: &mut [u32],
     list: &[u32],
+    queue: &mut [u32],
 ) {
+    let words = crate::few(queue, s.queue);
+    let mut taken: u32 = 0;
     let a = requests::any_request(
-        n,
+        s.n,
         table,
         marks,
         journal,
         row.kind,
-        tag,
+        s.tag,
         row.a,
         row.b,
         row.c,
         list,
+        &mut queue[..words],
+        &mut taken,
     );
     shows::answer(a.number, a.place, a.count);
+    if row.kind == lines::PICK {
+        shows::picked(a.number, taken, queue, s.queue_word);
+    }
     left(row.kind, table, marks, journal);
 }
 
 // ---- what it leaves
 
 fn left(kind: u32, table: &[u32], marks: &[u8], journal: &[u32]) {
-    if kind > lines::SHEET {
+    if kind > lines::SHEET && kind != lines::PICK {
         shows::journal(journal);
         shows::number(b", table ", shows::digest(table));
     }
@@ -134,7 +155,8 @@ fn left(kind: u32, table: &[u32], marks: &[u8], journal: &[u32]) {
 
 fn has_marks(kind: u32) -> bool {
     match kind {
-        lines::ORBIT | lines::SHEET | lines::REMOVE | lines::SPLIT | lines::INSERT => true,
+        lines::ORBIT | lines::SHEET | lines::PICK => true,
+        lines::REMOVE | lines::SPLIT | lines::INSERT => true,
         _ => false,
     }
 }

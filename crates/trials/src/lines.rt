@@ -17,49 +17,53 @@ pub const INSERT: u32 = 10;
 
 pub const SEW_LIST: u32 = 11;
 
+pub const PICK: u32 = 12;
+
 // undo and redo, with a word of the journal and a value for it
-pub const UNDO_WITH: u32 = 12;
+pub const UNDO_WITH: u32 = 13;
 
-pub const LINKS: u32 = 14;
+pub const LINKS: u32 = 15;
 
-pub const TABLE: u32 = 15;
+pub const TABLE: u32 = 16;
 
-pub const WORDS: u32 = 16;
+pub const WORDS: u32 = 17;
 
-pub const PUT: u32 = 17;
+pub const PUT: u32 = 18;
 
-pub const WRITE: u32 = 18;
+pub const WRITE: u32 = 19;
 
-pub const FILL: u32 = 19;
+pub const FILL: u32 = 20;
 
-pub const MARK: u32 = 20;
+pub const MARK: u32 = 21;
 
-pub const ITEM: u32 = 21;
+pub const ITEM: u32 = 22;
 
-pub const WORD: u32 = 22;
+pub const WORD: u32 = 23;
 
-pub const TILE: u32 = 23;
+pub const QUEUE: u32 = 24;
 
-pub const SCENE: u32 = 24;
+pub const TILE: u32 = 25;
 
-pub const LEND: u32 = 25;
+pub const SCENE: u32 = 26;
 
-pub const DIM: u32 = 26;
+pub const LEND: u32 = 27;
 
-pub const TAG: u32 = 27;
+pub const DIM: u32 = 28;
 
-pub const UNKNOWN: u32 = 28;
+pub const TAG: u32 = 29;
 
-pub const REMARK: u32 = 29;
+pub const UNKNOWN: u32 = 30;
+
+pub const REMARK: u32 = 31;
 
 // No line, but the script's end.
-pub const END: u32 = 30;
+pub const END: u32 = 32;
 
 // The first words, each with the digit of how many numbers there are.
 fn names(k: usize) -> u8 {
     let all =
-        b"check0 orbit2 sheet1 add0 sew3 unsew2 remove1 split1 undo0 redo0 insert0 sewlist0 undo2 redo2 links1 table0 words2 put3 write2 fill3 mark3 item3 word1 tile2 scene3 lend3 dim1 tag1 ";
-    if k < 180 { all[k] } else { b' ' }
+        b"check0 orbit2 sheet1 add0 sew3 unsew2 remove1 split1 undo0 redo0 insert0 sewlist0 pick1 undo2 redo2 links1 table0 words2 put3 write2 fill3 mark3 item3 word1 queue2 tile2 scene3 lend3 dim1 tag1 ";
+    if k < 193 { all[k] } else { b' ' }
 }
 
 // What a line does, and the last three of its numbers.
@@ -167,7 +171,7 @@ fn place(name: u64) -> u32 {
         name: 0,
         found: UNKNOWN,
     };
-    for k in 0..180 {
+    for k in 0..193 {
         search = further(search, name, names(k));
     }
     search.found

@@ -30,6 +30,27 @@ pub fn answer(answer: u32, place: u32, count: u32) {
     number(b", count ", count);
 }
 
+// What pick took off; and of a refusal whether the queue, each word of which was this one, is as it was lent.
+pub fn picked(answer: u32, taken: u32, queue: &[u32], word: u32) {
+    number(b", taken ", taken);
+    if answer != 0 {
+        if only(queue, word) {
+            text(b", queue as lent");
+        } else {
+            text(b", queue changed");
+        }
+    }
+}
+
+fn only(words: &[u32], word: u32) -> bool {
+    for k in 0..words.len() {
+        if words[k] != word {
+            return false;
+        }
+    }
+    true
+}
+
 // Its first two words, and its digest.
 pub fn journal(journal: &[u32]) {
     number(b", cursor ", stage::word(journal, 0));

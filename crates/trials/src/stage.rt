@@ -1,5 +1,5 @@
-// The stage: the dimension that calls are given, how much of the buffers is lent to them, the tag of operations, and how many
-// words the list has.
+// The stage: the dimension that calls are given, how much of the buffers is lent to them, the tag of operations, how many words the
+// list and the queue have, and what each word of the queue is.
 use crate::lines;
 use crate::lines::Row;
 use crate::shows;
@@ -12,6 +12,8 @@ pub struct Stage {
     pub words: usize,
     pub tag: u32,
     pub list: usize,
+    pub queue: usize,
+    pub queue_word: u32,
 }
 
 pub const EMPTY: Stage = Stage {
@@ -21,45 +23,49 @@ pub const EMPTY: Stage = Stage {
     words: 0,
     tag: 0,
     list: 0,
+    queue: 0,
+    queue_word: 9,
 };
 
 // The stage for a line and those behind it.
 pub fn next(s: Stage, row: Row) -> Stage {
     let kind = row.kind;
+    let mut next = s;
     match kind {
-        lines::SCENE => Stage {
-            n: row.a,
-            entries: entry(row.b, 0),
-            marks: row.b as usize,
-            words: row.c as usize,
-            tag: 0,
-            list: 0,
-        },
-        lines::LEND => Stage {
-            n: s.n,
-            entries: row.a as usize,
-            marks: row.b as usize,
-            words: row.c as usize,
-            tag: s.tag,
-            list: s.list,
-        },
-        lines::DIM => Stage {
-            n: row.c,
-            entries: s.entries,
-            marks: s.marks,
-            words: s.words,
-            tag: s.tag,
-            list: s.list,
-        },
-        lines::TAG => Stage {
-            n: s.n,
-            entries: s.entries,
-            marks: s.marks,
-            words: s.words,
-            tag: row.c,
-            list: s.list,
-        },
-        _ => s,
+        lines::SCENE => {
+            next = scene(row);
+        }
+        lines::LEND => {
+            next.entries = row.a as usize;
+            next.marks = row.b as usize;
+            next.words = row.c as usize;
+        }
+        lines::DIM => {
+            next.n = row.c;
+        }
+        lines::TAG => {
+            next.tag = row.c;
+        }
+        lines::QUEUE => {
+            next.queue = row.b as usize;
+            next.queue_word = row.c;
+        }
+        _ => {}
+    }
+    next
+}
+
+// As many marks and words of the queue as slots.
+fn scene(row: Row) -> Stage {
+    Stage {
+        n: row.a,
+        entries: entry(row.b, 0),
+        marks: row.b as usize,
+        words: row.c as usize,
+        tag: 0,
+        list: 0,
+        queue: row.b as usize,
+        queue_word: 9,
     }
 }
 
