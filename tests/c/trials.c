@@ -12,6 +12,7 @@ DEFINE_RUN(run_yard, yard_)
 enum { SLOTS = MAX_SLOTS + 1, WORDS = 443000, LIST = 96, LINE = 1000, MOST_NUMBERS = 3 };
 
 static uint32_t table[4 * SLOTS], journal[WORDS], list[LIST], queue[SLOTS], taken;
+static uint32_t queue_word;                /* each word of the queue that is lent */
 static uint8_t marks[SLOTS], drawn[SLOTS];
 
 /* What the calls are given from here on. */
@@ -62,6 +63,14 @@ static int has_marks(enum call call)
 
 /* ---------------------------------------------------------------- lines */
 
+static int queue_as_lent(const request *q)
+{
+    size_t k = 0;
+    while (k < q->queue_len && queue[k] == queue_word)
+        k++;
+    return k == q->queue_len;
+}
+
 /* A call, on marks that are 9; insert, on those that are drawn. */
 static void play_call(request q)
 {
@@ -69,10 +78,13 @@ static void play_call(request q)
     memset(marks, 9, sizeof marks);
     if (q.call == INSERT)
         memcpy(marks, drawn, sizeof marks);
+    for (size_t k = 0; q.call == PICK && k < q.queue_len; k++)
+        queue[k] = queue_word;
     no = run_yard(&q, &place, &count);
     printf(": number %u, place %u, count %u", (unsigned)no, (unsigned)place, (unsigned)count);
     if (q.call == PICK)
-        printf(", taken %u", (unsigned)taken);
+        printf(", taken %u%s", (unsigned)taken,
+               no == 0 ? "" : queue_as_lent(&q) ? ", queue as lent" : ", queue changed");
     if (q.call >= ADD) {
         printf(", cursor %u, end %u, journal %u, table %u",
                q.journal_len > 0 ? (unsigned)journal[0] : 0,
@@ -89,6 +101,7 @@ static void play_scene(void)
     given.marks_len = number[1];
     given.table_len = 4 * given.marks_len;
     given.queue_len = number[1];
+    queue_word = 9;
     given.journal_len = number[2];
     given.tag = 0;
     given.list_len = 0;
@@ -188,9 +201,10 @@ static void play(const char *line)
         given.table_len = a;
         given.marks_len = b;
         given.journal_len = c;
-    } else if (is(line, "queue", 1) && a <= SLOTS)
+    } else if (is(line, "queue", 2) && a <= SLOTS) {
         given.queue_len = a;
-    else if (is(line, "put", 3))
+        queue_word = b;
+    } else if (is(line, "put", 3))
         table[4 * a + b] = c;
     else if (is(line, "write", 2))
         journal[a] = b;
