@@ -1,6 +1,6 @@
 -- How pick ends, from its checks: `pick-refused`, `pick-accepted`; and where its queue's length is wrong: `queue-wrong`.
 use Prim.Native.Nat.{ℕ}
-use mathlib.Core.Path.{_≡_, refl}
+use mathlib.Core.Path.{_≡_}
 use mathlib.Core.Logic.{_≢_}
 use mathlib.Core.Bool.{false}
 use mathlib.Core.List.{List, [], _∷_}

@@ -8,7 +8,7 @@ use native.Mathlib.Omega.{arith}
 use lib.Dec.{eqb, ltb}
 use borrow.Author.Tests.{eqb-true, ltb-true}
 use Rattle.model.specs.Lists.{allBelow}
-use Rattle.model.specs.Table.{link, walk, live}
+use Rattle.model.specs.Table.{link, walk}
 use Rattle.model.specs.Cell.{cellSize}
 use Rattle.model.specs.Numbering.{cellLink}
 use Rattle.model.specs.Everything.{everything}

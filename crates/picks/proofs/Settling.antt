@@ -1,14 +1,14 @@
 -- The other darts of the cells marked along the queue: none (`settling-none`), one dart (`settling-other`), those beside a dart of the sheet (`settling-beside`),
 -- beside some words (`settling-to`), beside a group (`settling-group`); along all of the queue the marks are settled (`settled-all`).
 use Prim.Native.Nat.{ℕ, zero, suc, _+_, _*_, _≤_, _<_}
-use mathlib.Core.Path.{_≡_, refl, sym, ap, _∙_}
+use mathlib.Core.Path.{_≡_, sym, ap, _∙_}
 use mathlib.Core.Logic.{_⊎_, inl, inr, _≢_, ⊎-elim}
 use mathlib.Core.Bool.{true}
 use mathlib.Core.List.{List}
 use native.Mathlib.Omega.{arith}
-use lib.ListN.{length, getD, set}
+use lib.ListN.{getD}
 use Rattle.model.specs.Table.{slots, link, live}
-use Rattle.model.specs.Cell.{cellSize, cellOf}
+use Rattle.model.specs.Cell.{cellSize}
 use Rattle.model.specs.Numbering.{cellLink}
 use Rattle.model.specs.Sheet.{sheet, sheetMarks}
 use Rattle.model.specs.Meaning.Maps.{MapTable}

@@ -5,15 +5,13 @@
 use Prim.Native.Nat.{ℕ, _+_, _*_, _-_, _≤_, _<_}
 use mathlib.Core.Path.{_≡_, refl, sym, ap, _∙_}
 use mathlib.Core.Logic.{_⊎_, inl, inr, _≢_, ⊎-elim}
-use mathlib.Core.Bool.{true}
 use mathlib.Core.List.{List}
 use native.Mathlib.Omega.{arith}
 use lib.ListN.{length, getD, replicate, length-replicate}
 use lib.Seq.{ext-getD}
 use Rattle.model.specs.Lists.{count}
-use Rattle.model.specs.Table.{slots, link, live}
+use Rattle.model.specs.Table.{slots, link}
 use Rattle.model.specs.Sheet.{sheet}
-use Rattle.model.specs.Meaning.Maps.{MapTable}
 use Rattle.model.specs.Meaning.Sets.{Marked}
 use Rattle.model.specs.Meaning.Places.{place}
 use Rattle.model.specs.Meaning.Sheets.{BlockDart, half}
@@ -21,7 +19,6 @@ use Rattle.theorems.proofs.Lists.Scan.{if-eq, if-lt}
 use Rattle.theorems.proofs.Lists.Ones.{ones-of, ones-in}
 use Rattle.theorems.proofs.Sets.Pigeon.{count-by, count-most}
 use Rattle.theorems.proofs.Sets.Least.{sheet-is}
-use Rattle.theorems.proofs.Maps.Tables.{mapTable}
 use Rattle.theorems.proofs.Cells.Chart.{place-one, place-zero}
 use Rattle.theorems.proofs.Layers.Sheet.{sheet-own, sheet-live, sheet-of}
 use Rattle.theorems.proofs.Layers.Half.{in-half}

@@ -4,7 +4,7 @@ ghost use mathlib.Core.Path.{_≡_};
 ghost use Prim.Native.Nat.{ℕ, _+_, _<_, _≤_};
 ghost use lib.ListN.{length, getD, replicate};
 ghost use Rattle.model.specs.Lists.{count};
-ghost use Rattle.model.specs.Table.{slots, link};
+ghost use Rattle.model.specs.Table.{slots};
 ghost use Rattle.model.specs.Sheet.{sheet, sheetMarks};
 ghost use Rattle.model.specs.Meaning.Maps.{Dim};
 ghost use Rattle.model.specs.Meaning.Places.{place};
@@ -33,7 +33,7 @@ fn across(table: &[u32], x: u32) -> u32
     link_in(table, 1, z)
 }
 
-// x gets the mark 1 and is the queue's word at.
+// x gets the mark 1 and becomes the word of the queue at `at`.
 fn enter(marks: &mut [u8], queue: &mut [u32], at: usize, x: u32)
     requires { ⌜ (x < length (now marks)) × (at < length (now queue)) ⌝ }
     ensures { λ _. ⌜ Entered (now (marks .entry)) (now (queue .entry)) at 1 (λ _. x) (now (marks .exit)) (now (queue .exit)) ⌝ }

@@ -2,7 +2,6 @@
 use mathlib.Core.Path.{_≡_, refl, _∙_}
 use mathlib.Core.List.{List}
 use borrow.Author.Needs.{needs}
-use lib.ListN.{length}
 use Rattle.model.specs.Table.{slots}
 use Rattle.model.specs.Checks.{Check, pass, inOrder, sheetChecks, pickChecks}
 use Rattle.theorems.proofs.Calls.Picks.{pick-checks}
@@ -46,6 +45,9 @@ fits c = c .before .before .before .before
 settled : (c : tie.After-struct-known) → Settles (c .before .opening-layer .result) (inOrder (checks (start (fits c))))
 settled c = opened-sheet _ _ _ _ (c .before .before .marks-fit .ensures) _ (c .before .opening-layer .ensures)
 
+passed : (c : tie.Else2) → inOrder (checks (start (fits (c .before)))) ≡ pass
+passed c = settled (c .before) .passes (c .if2 .left)
+
 marks-fit-requires : tie.Need-marks-fit-requires
 marks-fit-requires c κs = search needs
 
@@ -59,9 +61,6 @@ returns-2 : tie.Need-returns-2
 returns-2 c =
     let (ends, none) = pick-refused _ _ _ _ _ (same-checks (fits (c .before)) ∙ settled (c .before) .refuses (c .if2 .taken)) in
     (ends, (none, λ _. refl))
-
-passed : (c : tie.Else2) → inOrder (checks (start (fits (c .before)))) ≡ pass
-passed c = settled (c .before) .passes (c .if2 .left)
 
 pick-requires : tie.Need-pick-requires
 unfolding slots

@@ -1,5 +1,5 @@
 -- `picks::enter_beside` meets its contract. The loop's invariant: what link 2 leads to from the words passed has entered.
-use Prim.Native.Nat.{ℕ, _+_, _-_, _≤_, _<_}
+use Prim.Native.Nat.{_+_, _-_, _≤_}
 use mathlib.Core.Path.{_≡_, sym, ap, _∙_}
 use native.Mathlib.Omega.{arith}
 use borrow.Author.Needs.{needs}

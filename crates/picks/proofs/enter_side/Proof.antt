@@ -1,9 +1,7 @@
 -- `picks::enter_side` meets its contract: dart by dart.
-use Prim.Native.Nat.{_<_}
 use mathlib.Core.Path.{_≡_, refl, sym, ap, _∙_}
 use native.Mathlib.Omega.{arith}
 use borrow.Author.Needs.{needs}
-use lib.ListN.{length}
 use Rattle.model.specs.Table.{link}
 use Rattle.picks.specs.Enter.{Dart, across, sideAt, Entered}
 use Rattle.picks.proofs.Darts.{dart-low, dart-there, dart-next, dart-across}

@@ -1,13 +1,12 @@
 -- `picks::flood` meets its contract. The loop's invariant: a dart of the sheet of d is met; what has entered and been taken off is on the way
 -- to the sheet.
 use Prim.Native.Nat.{ℕ, _+_, _-_, _≤_, _<_}
-use mathlib.Core.Path.{_≡_, refl, sym, ap, _∙_, subst}
+use mathlib.Core.Path.{_≡_, sym, ap, _∙_, subst}
 use mathlib.Core.Logic.{⊎-elim}
 use mathlib.Core.List.{List}
 use native.Mathlib.Omega.{arith}
-use borrow.Author.Needs.{needs}
 use lib.ListN.{length, getD, length-replicate}
-use Rattle.model.specs.Table.{slots, link}
+use Rattle.model.specs.Table.{slots}
 use Rattle.model.specs.Meaning.Sheets.{BlockDart}
 use Rattle.theorems.proofs.Lists.Scan.{if-lt}
 use Rattle.theorems.proofs.Layers.Sheet.{sheet-live}

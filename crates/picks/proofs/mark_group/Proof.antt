@@ -1,18 +1,15 @@
 -- `picks::mark_group` meets its contract. The loop's invariant: beside the words passed all is marked.
-use Prim.Native.Nat.{ℕ, zero, suc, _+_, _-_, _≤_, _<_}
+use Prim.Native.Nat.{ℕ, suc, _+_, _-_, _≤_, _<_}
 use mathlib.Core.Path.{_≡_, refl, sym, ap, _∙_}
-use mathlib.Core.Logic.{inl, inr, _≢_, ⊎-elim}
-use mathlib.Core.List.{List}
+use mathlib.Core.Logic.{inl, inr}
 use native.Mathlib.Omega.{arith}
 use borrow.Author.Needs.{needs}
 use lib.ListN.{length, getD}
-use Rattle.model.specs.Table.{slots, link}
-use Rattle.model.specs.Meaning.Sheets.{BlockDart}
-use Rattle.sheets.proofs.Marks.{other-long}
+use Rattle.model.specs.Table.{slots}
 use Rattle.picks.specs.Enter.{Dart}
 use Rattle.picks.specs.Queued.{group}
-use Rattle.picks.specs.Beside.{Beside, BesideTo}
-use Rattle.picks.proofs.Darts.{dart-of, dart-low, dart-few, dart-there, dart-next}
+use Rattle.picks.specs.Beside.{BesideTo}
+use Rattle.picks.proofs.Darts.{dart-of, dart-low, dart-there, dart-next}
 use Rattle.picks.proofs.mark_group.Statement.{statement}
 use Rattle.picks.proofs.mark_group.Tie as tie
 

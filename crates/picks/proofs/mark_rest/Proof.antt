@@ -1,11 +1,9 @@
 -- `picks::mark_rest` meets its contract. The loop's invariant: the marks are settling, and beside the words of the groups passed all has a mark.
 use Prim.Native.Nat.{ℕ, _+_, _*_, _-_, _≤_, _<_}
-use mathlib.Core.Path.{_≡_, refl, sym, ap, _∙_}
+use mathlib.Core.Path.{_≡_, sym, ap, _∙_}
 use native.Mathlib.Omega.{arith}
 use lib.ListN.{length, getD}
 use Rattle.model.specs.Table.{slots}
-use Rattle.model.specs.Sheet.{sheetMarks}
-use Rattle.model.specs.Meaning.Sheets.{BlockDart, half}
 use Rattle.theorems.proofs.Lists.Scan.{if-lt}
 use Rattle.theorems.proofs.Sets.Pigeon.{count-most}
 use Rattle.theorems.proofs.Layers.Sheet.{sheet-live}

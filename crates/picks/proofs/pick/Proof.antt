@@ -1,9 +1,8 @@
 -- `picks::pick` meets its contract.
 use Prim.Native.Nat.{ℕ}
-use mathlib.Core.Path.{_≡_, ap, sym, _∙_}
-use mathlib.Core.List.{List}
+use mathlib.Core.Path.{ap, sym, _∙_}
 use borrow.Author.Needs.{needs}
-use lib.ListN.{length, replicate}
+use lib.ListN.{replicate}
 use Rattle.model.specs.Lists.{count}
 use Rattle.model.specs.Sheet.{sheetMarks}
 use Rattle.picks.proofs.pick.Statement.{statement}

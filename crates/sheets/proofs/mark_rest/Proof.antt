@@ -6,7 +6,7 @@ use mathlib.Core.Logic.{⊎-elim}
 use mathlib.Core.Bool.{true}
 use native.Mathlib.Omega.{arith}
 use borrow.Author.Needs.{needs}
-use lib.ListN.{length, getD, length-set}
+use lib.ListN.{length, getD}
 use Rattle.model.specs.Table.{slots, link, live}
 use Rattle.model.specs.Cell.{cellSize}
 use Rattle.theorems.proofs.Maps.Tables.{live-below, rule-at}
