@@ -1,5 +1,5 @@
 -- `sheets::mark_other` meets its contract.
-use mathlib.Core.Path.{refl, _∙_}
+use mathlib.Core.Path.{refl}
 use mathlib.Core.Logic.{inl, inr}
 use lib.ListN.{length-set}
 use borrow.Author.Needs.{needs}
@@ -17,9 +17,7 @@ touch-requires : tie.Need-touch-requires
 touch-requires c κs = search needs
 
 same-length : tie.Need-same-length
-same-length c =
-    let a = c .before .before .before .before .before .before .before .before .args in
-    touched-long _ _ _ (c .before .before .touch .ensures) ∙ length-set (a .marks .now) (a .x) 2
+same-length c = rw length-set at (touched-long _ _ _ (c .before .before .touch .ensures))
 
 returns : tie.Need-returns
 returns c = inr (c .before .before .before .before .if1 .taken, c .before .before .touch .ensures)
