@@ -245,10 +245,10 @@ uint32_t phl_sheet(uint32_t n, const uint32_t *table, size_t table_len,
                    uint8_t *marks, size_t marks_len, uint32_t d,
                    uint32_t *place, uint32_t *count);
 
-/* The sheet of d by a second engine, for large tables: number, place, count and marks are phl_sheet's
- * for every input, but that 37 is given too. It keeps a queue in a lent buffer of one uint32_t for
- * each slot, and each dart of the sheet enters it once. Taken: darts taken off the queue; it equals
- * count if the call is accepted, and is 0 if it is refused.
+/* The sheet of d by a second engine, which is faster where the sheet is large: number, place, count
+ * and marks are phl_sheet's for every input, but that 37 is given too. It keeps a queue in a lent
+ * buffer of one uint32_t for each slot, and each dart of the sheet enters it once. Taken: darts taken
+ * off the queue; it equals count if the call is accepted, and is 0 if it is refused.
  *
  * The queue overlaps none of table, marks, taken, place and count. What it holds before the call does
  * not matter. A refusal leaves it as it was; after an accepted call it may hold anything.

@@ -1,5 +1,5 @@
--- Darts that enter the queue: one (`entered-one`), some behind others (`entered-more`), the darts of a cell by their places
--- (`side-places`, `beside-places`).
+-- Darts that enter the queue: none (`entered-none`), one (`entered-one`), some behind others (`entered-more`, `entered-next`), the same by
+-- another list (`entered-as`).
 use Prim.Native.Nat.{ℕ, _+_, _-_, _≤_, _<_}
 use mathlib.Core.Path.{_≡_, refl, sym, ap, _∙_}
 use mathlib.Core.Logic.{_⊎_, inl, inr, ⊎-elim}

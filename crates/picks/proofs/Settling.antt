@@ -127,7 +127,7 @@ module _ {n : ℕ} {t : List ℕ} {d : ℕ} (D : BlockDart n t d) where
         kept = inner-kept;
       }
 
-    pub settling-other : (r : List ℕ) → Other n t m y r → Goes n t d m r × Inner r y
+    settling-other : (r : List ℕ) → Other n t m y r → Goes n t d m r × Inner r y
     settling-other r h = ⊎-elim (λ (one, e). rw e (record { settling = P; kept = λ x i. i }, inl one)) (λ (new, to).
         let long = P .long in
         let low = live-below T y alive in
@@ -143,7 +143,7 @@ module _ {n : ℕ} {t : List ℕ} {d : ℕ} (D : BlockDart n t d) where
   next-cell : (x j : ℕ) → j < n → InCells n t S x → InCells n t S (link t j x)
   next-cell x j h (g, s, c) = (g, s, cell-goes T g (sheet-live D g s) x j c h)
 
-  pub settling-beside : {m : List ℕ} → Settling n t d m → (x : ℕ) → Marked (sheet n t d) x → (r : List ℕ) → Beside n t m x r
+  settling-beside : {m : List ℕ} → Settling n t d m → (x : ℕ) → Marked (sheet n t d) x → (r : List ℕ) → Beside n t m x r
       → Goes n t d m r × Done n t r x
   settling-beside P x s r (q, first, second) =
       let two = D .table .dim .0 in
@@ -155,7 +155,7 @@ module _ {n : ℕ} {t : List ℕ} {d : ℕ} (D : BlockDart n t d) where
       (goes-on G H, (H .kept _ one, λ _. end)))
       (λ (other, e). rw e (G, (one, λ three. absurd (other three)))) second
 
-  pub settling-to : {m : List ℕ} → Settling n t d m → (w : List ℕ) (a k : ℕ) → ((j : ℕ) → j < k → Marked (sheet n t d) (getD w (a + j) 0))
+  settling-to : {m : List ℕ} → Settling n t d m → (w : List ℕ) (a k : ℕ) → ((j : ℕ) → j < k → Marked (sheet n t d) (getD w (a + j) 0))
       → (r : List ℕ) → BesideTo n t m w a k r → Goes n t d m r × ((j : ℕ) → j < k → Done n t r (getD w (a + j) 0))
   settling-to P w a zero s r e = rw e (record { settling = P; kept = λ x i. i }, λ j h. absurd (omega arith))
   settling-to P w a (suc k) s r (q, before, last) =

@@ -49,7 +49,7 @@ module _ {n : ℕ} {t : List ℕ} {d : ℕ} (D : BlockDart n t d) where
   abbrev S : List ℕ
   S = sheet n t d
 
-  pub taking-none : (w : List ℕ) → length w ≡ slots t → Taking n t d (replicate (slots t) 0) w 0 0
+  taking-none : (w : List ℕ) → length w ≡ slots t → Taking n t d (replicate (slots t) 0) w 0 0
   taking-none w words = record {
     long = length-replicate (slots t) 0;
     words = words;
@@ -79,13 +79,13 @@ module _ {n : ℕ} {t : List ℕ} {d : ℕ} (D : BlockDart n t d) where
     pub word-dart : (i : ℕ) → i < tail → BlockDart n t (getD w i 0)
     word-dart i h = record { table = D .table; lives = sheet-live D _ (P .within _ (P .listed i h)) }
 
-    pub word-over : (i : ℕ) → i < tail → Marked (sheet n t d) (link t n (getD w i 0))
+    word-over : (i : ℕ) → i < tail → Marked (sheet n t d) (link t n (getD w i 0))
     word-over i h =
         let x = getD w i 0 in
         ones-of S (link t n x) (sheet-of D .far x n (D .table .dim .0) (omega arith) (ones-in S x (P .within x (P .listed i h))))
 
     -- a dart is taken off, whose link n has the mark 1
-    pub taking-next : getD m (link t n (getD w taken 0)) 0 ≡ 1 → taken < tail → Taking n t d m w (taken + 1) tail
+    taking-next : getD m (link t n (getD w taken 0)) 0 ≡ 1 → taken < tail → Taking n t d m w (taken + 1) tail
     taking-next one some = record {
       long = P .long;
       words = P .words;
@@ -104,7 +104,7 @@ module _ {n : ℕ} {t : List ℕ} {d : ℕ} (D : BlockDart n t d) where
     -- ---- the first places of the cell of g, a dart of the sheet that has no mark
 
     module _ (g : ℕ) (in-sheet : Marked (sheet n t d) g) (new : getD m g 0 ≢ 1) where
-      pub met-dart : BlockDart n t g
+      met-dart : BlockDart n t g
       met-dart = record { table = D .table; lives = sheet-live D g in-sheet }
 
       abbrev c : ℕ → ℕ
@@ -115,21 +115,21 @@ module _ {n : ℕ} {t : List ℕ} {d : ℕ} (D : BlockDart n t d) where
           let (q, hq, back) = half-back (D .table) g (met-dart .lives) j h in
           new (rw back at (P .firsts (c j) q e hq))
 
-      pub taking-room : tail + half n ≤ slots t
+      taking-room : tail + half n ≤ slots t
       taking-room =
           let few = fresh-few (places-fresh met-dart m (P .long) fresh) in
           let long = P .long in
           let size = tail-size in
           omega arith
 
-      pub enters-of : Enters n t m w tail g
+      enters-of : Enters n t m w tail g
       enters-of = record { dart = met-dart; long = P .long; words = P .words; room = rw (P .words) taking-room }
 
       module _ {m′ v : List ℕ} (Q : Entered m w tail (half n) (place n t g) m′ v) where
         abbrev First : ℕ → Type 0
         First x = (k : ℕ) × (k < half n) × (x ≡ c k)
 
-        pub ones-kept : (x : ℕ) → getD m x 0 ≡ 1 → getD m′ x 0 ≡ 1
+        ones-kept : (x : ℕ) → getD m x 0 ≡ 1 → getD m′ x 0 ≡ 1
         ones-kept x e = ⊎-elim (λ same. same ∙ e) (λ (one, _). one) (Q .only x)
 
         one-cases : (x : ℕ) → getD m′ x 0 ≡ 1 → (getD m x 0 ≡ 1) ⊎ First x
@@ -168,7 +168,7 @@ module _ {n : ℕ} {t : List ℕ} {d : ℕ} (D : BlockDart n t d) where
             spot : (a e p z : ℕ) → tail ≡ half n * z → group n * a ≡ half n * z + group n * e → group n * a + p ≡ tail + (group n * e + p)
             spot a e p z is at = omega arith
 
-        pub taking-enter : Taking n t d m′ v taken (tail + half n)
+        taking-enter : Taking n t d m′ v taken (tail + half n)
         taking-enter = record {
           long = Q .long ∙ P .long;
           words = Q .words ∙ P .words;
@@ -190,7 +190,7 @@ module _ {n : ℕ} {t : List ℕ} {d : ℕ} (D : BlockDart n t d) where
         }
 
         -- g has the mark 1 then
-        pub entered-own : getD m′ g 0 ≡ 1
+        entered-own : getD m′ g 0 ≡ 1
         entered-own =
             let some = half-some n (D .table .dim) in
             ap (λ (x : ℕ). getD m′ x 0) (place-zero (D .table) g (met-dart .lives)) ∙ Q .done 0 some

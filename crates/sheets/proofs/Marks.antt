@@ -1,5 +1,5 @@
 -- One cell: its darts are marked one by one, the darts over its sides put to those that wait one by one, and what comes of both.
--- Main theorems: `firsts-none` and `firsts-next`; `marked-on`, `rest-none`, `rest-new` and `rest-old`; `waiting-none`, `over-low` and `waiting-next`; `spread-of`.
+-- Main theorems: `firsts-none` and `firsts-next`; `marked-on`, `touched-long`, `other-long`, `rest-none`, `rest-new` and `rest-old`; `waiting-none`, `over-low` and `waiting-next`; `spread-of`.
 use Prim.Native.Nat.{ℕ, zero, suc, _+_, _≤_, _<_}
 use mathlib.Core.Path.{_≡_, refl, sym, ap, _∙_}
 use mathlib.Core.Logic.{_⊎_, inl, inr, _≢_, ⊎-elim}

@@ -64,7 +64,8 @@ same-taking marks queue end P = rw (marks, queue, end) P
 
 joined : (c : tie.Joined1 Inv-loop μ-loop) →
     let a = start (turn c) .args in
-    Taking (a .n) (a .table .now) (a .d) (c .if1 .marks) (c .if1 .queue) (turn c .loop .taken) (c .if1 .tail) × (getD (c .if1 .marks) (a .d) 0 ≡ 1)
+    Taking (a .n) (a .table .now) (a .d) (c .if1 .marks) (c .if1 .queue) (turn c .loop .taken) (c .if1 .tail)
+    × (getD (c .if1 .marks) (a .d) 0 ≡ 1)
 joined c =
     let l = turn c in
     let D = seed l in
