@@ -11,4 +11,5 @@ pub mod Rules
 pub mod Written
 pub mod Symmetric
 pub mod Kept
+pub mod Removals
 pub mod Restored

@@ -4,4 +4,5 @@ pub mod Closure
 pub mod Pigeon
 pub mod Escape
 pub mod Least
+pub mod Classes
 pub mod Sizes

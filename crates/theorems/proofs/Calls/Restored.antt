@@ -1,42 +1,32 @@
 -- "Removing the sheet through the new crossing edges must, given journal room, give back the old table entry for entry" (02, R-5):
 -- `remove-accepted`, of a table that insert made; `insert-restored`, after an accepted insert. `restored-words`: the room that it needs.
-use Prim.Native.Nat.{ℕ, _+_, _*_, _-_, _%_, _≤_, _<_}
-use mathlib.Core.Path.{_≡_, ap, _∙_, subst}
-use mathlib.Core.Logic.{_⊎_, _≢_, ⊎-elim}
+use Prim.Native.Nat.{ℕ, _+_, _*_, _-_, _≤_, _<_}
+use mathlib.Core.Path.{_≡_, refl, ap, _∙_, subst}
+use mathlib.Core.Logic.{inr}
 use mathlib.Core.List.{List, []}
 use native.Mathlib.Omega.{arith}
 use lib.ListN.{length}
 use Rattle.model.specs.Lists.{count}
 use Rattle.model.specs.Table.{slots}
-use Rattle.model.specs.Map.{MapRule, links-live, links-return, pairs-commute, stays-flat}
 use Rattle.model.specs.Remove.{removeTable}
 use Rattle.model.specs.Insert.{insertTable}
 use Rattle.model.specs.Journal.{cursor, changesFrom, recordOf, recordLength}
 use Rattle.model.specs.Calls.{removeCall, insertCall}
-use Rattle.model.specs.Runs.{Op, Call, doCall, keeping, effect}
+use Rattle.model.specs.Runs.{Op, doCall, keeping, effect}
 use Rattle.model.specs.Meaning.Ends.{lent}
-use Rattle.model.specs.Meaning.Maps.{BreaksFirst, BlockTable}
 use Rattle.model.specs.Meaning.Numbers.{JournalRule}
 use Rattle.model.specs.Meaning.Sets.{Marked}
 use Rattle.model.specs.Meaning.Walls.{Inserts, layerDart}
-use Rattle.theorems.proofs.Lists.Scan.{clash}
-use Rattle.theorems.proofs.Maps.Dim.{dim-cases}
-use Rattle.theorems.proofs.Maps.Tables.{mapTable}
-use Rattle.theorems.proofs.Cells.Exact.{block-exactly, of-block}
 use Rattle.theorems.proofs.Operations.Changes.{changes-turn}
-use Rattle.theorems.proofs.Insert.Inserted.{insert-keeps, insert-dart, insert-back, insert-changes}
+use Rattle.theorems.proofs.Insert.Inserted.{insert-dart, insert-back, insert-changes}
 use Rattle.theorems.proofs.History.Record.{length-record}
 use Rattle.theorems.proofs.Calls.Pass.{insert-passed}
 use Rattle.theorems.proofs.Calls.Ends.{op-effect}
-use Rattle.theorems.proofs.Calls.Rules.{not-map-exactly}
-use Rattle.theorems.proofs.Calls.Table.{_beside_, nothing, none-given}
+use Rattle.theorems.proofs.Calls.Removals.{remove-numbers}
 
 module _ {n : ℕ} {t w : List ℕ} (I : Inserts n t w) where
   abbrev u : List ℕ
   u = insertTable n t w
-
-  B : BlockTable n u
-  B = insert-keeps I
 
   -- the record of remove has as many words as that of insert
   pub restored-words : (tag : ℕ) → length (recordOf tag (changesFrom 0 u t)) ≡ recordLength ((4 * n + 1) * count 1 w)
@@ -48,31 +38,14 @@ module _ {n : ℕ} {t w : List ℕ} (I : Inserts n t w) where
     abbrev d : ℕ
     d = layerDart n t w (n - 1) h
 
-    abbrev removal : Call
-    removal = Call.op tag (Op.remove d)
+    not-short : length j - cursor j < length (recordOf tag (changesFrom 0 u (removeTable n u d))) → ⊥
+    not-short g =
+        let short = subst (λ (v : List ℕ). length j - cursor j < length (recordOf tag (changesFrom 0 u v))) (insert-back I h on) g in
+        omega arith
 
-    remove-number : doCall n (lent u m j) removal .number ≡ 0
+    remove-number : removeCall n u m j tag d .number ≡ 0
     remove-number =
-        let block = block-exactly (mapTable B) .0 (of-block n u B) in
-        let lives = clash (insert-dart I h on .lives) in
-        none-given n (lent u m j) removal
-        (not-dim beside not-long beside (λ g. g long) beside (λ g. g rule)
-        beside keeps links-live beside keeps links-return beside keeps pairs-commute beside keeps stays-flat
-        beside lives beside (λ g. g block) beside not-short beside nothing)
-      where
-        not-dim : (n ≢ 2) × (n ≢ 3) → ⊥
-        not-dim g = ⊎-elim (g .0) (g .1) (dim-cases n (B .dim))
-
-        not-long : (length u % 4 ≢ 0) ⊎ (262144 < length u) → ⊥
-        not-long g = let whole = B .whole in let few = B .few in ⊎-elim (λ e. e (omega arith)) (λ e. omega arith) g
-
-        keeps : (r : MapRule) → (x : ℕ) × (i : ℕ) × BreaksFirst n u r x i → ⊥
-        keeps r broken = not-map-exactly n u (B .dim .1) .1 (r, broken .0, broken .1, broken .2) (B .map)
-
-        not-short : length j - cursor j < length (recordOf tag (changesFrom 0 u (removeTable n u d))) → ⊥
-        not-short g =
-            let short = subst (λ (v : List ℕ). length j - cursor j < length (recordOf tag (changesFrom 0 u v))) (insert-back I h on) g in
-            omega arith
+        remove-numbers (insert-dart I h on) m j tag 0 .1 (inr (λ g. g long, inr (λ g. g rule, inr (not-short, refl))))
 
     pub remove-accepted : (removeCall n u m j tag d .number ≡ 0) × (removeCall n u m j tag d .table ≡ t)
     unfolding doCall effect

@@ -1,8 +1,8 @@
--- `number-table`: each call gives the number of the first of its rows of 01's table that is given, or 0. `none-given`: 0 where none is.
+-- `number-table`: each call gives the number of the first of its rows of 01's table that is given, or 0. `narrowed-table`: of those that may be given.
 -- `list-table`: the same of sew_list before any item, and what it leaves then; `list-passes`: where none is given its checks pass.
 use Prim.Native.Nat.{ℕ, _<_}
 use mathlib.Core.Path.{_≡_, refl, sym, ap, _∙_, subst}
-use mathlib.Core.Logic.{inl, inr, _≢_, _↔_}
+use mathlib.Core.Logic.{inl, inr, ⊎-elim, _≢_, _↔_}
 use mathlib.Core.Bool.{Bool, true, false}
 use mathlib.Core.List.{List, [], _∷_, _++_}
 use native.Mathlib.Omega.{arith}
@@ -37,15 +37,21 @@ first-once (r ∷ rs) y z (inl a) (inr b) = absurd (b .0 (a .0))
 first-once (r ∷ rs) y z (inr a) (inl b) = absurd (a .0 (b .0))
 first-once (r ∷ rs) y z (inr a) (inr b) = first-once rs y z (a .1) (b .1)
 
--- none of the rows is given
+-- the rows qs are the rows rs without some that are not given
 infixr 5 _beside_
-pub data NoneGiven : List NumberRow → Type 1 where
-  nothing : NoneGiven []
-  _beside_ : {r : NumberRow} {rs : List NumberRow} → (r .given → ⊥) → NoneGiven rs → NoneGiven (r ∷ rs)
+pub data Narrows : List NumberRow → List NumberRow → Type 1 where
+  nothing : Narrows [] []
+  _beside_ : {r : NumberRow} {rs qs : List NumberRow} → (r .given → ⊥) → Narrows rs qs → Narrows (r ∷ rs) qs
+  also : {r : NumberRow} {rs qs : List NumberRow} → Narrows rs qs → Narrows (r ∷ rs) (r ∷ qs)
 
-first-none : (rs : List NumberRow) → NoneGiven rs → First rs 0
-first-none [] nothing = refl
-first-none (r ∷ rs) (a beside b) = inr (a, first-none rs b)
+first-narrowed : {rs qs : List NumberRow} → Narrows rs qs → (z : ℕ) → First rs z ↔ First qs z
+first-narrowed nothing z = (λ e. e, λ e. e)
+first-narrowed (not-given beside rest) z =
+    let rec = first-narrowed rest z in
+    (⊎-elim (λ g. absurd (not-given (g .0))) (λ f. rec .0 (f .1)), λ f. inr (not-given, rec .1 f))
+first-narrowed (also rest) z =
+    let rec = first-narrowed rest z in
+    (⊎-elim inl (λ f. inr (f .0, rec .0 (f .1))), ⊎-elim inl (λ f. inr (f .0, rec .1 (f .1))))
 
 -- each check fails exactly if its row is given; some where those before them pass
 infixr 5 _next_ _next-passed_
@@ -233,8 +239,13 @@ module _ (n : ℕ) (o : Outcome) where
       let first = rw (← number-in-order c) at (first-number [] (numberRows n t m j c) (checks n o c) refl (meets c) w) in
       (λ h. subst (First (numberRows n t m j c)) h first, λ g. first-once (numberRows n t m j c) _ z first g)
 
-  pub none-given : (c : Call) → NoneGiven (numberRows n (o .table) (o .marks) (o .journal) c) → doCall n o c .number ≡ 0
-  none-given c none = number-table c 0 .1 (first-none _ none)
+  -- where some of its rows are known not to be given
+  pub narrowed-table : (c : Call) {qs : List NumberRow} → Narrows (numberRows n (o .table) (o .marks) (o .journal) c) qs → (z : ℕ)
+      → (doCall n o c .number ≡ z) ↔ First qs z
+  narrowed-table c w z =
+      let all = number-table c z in
+      let left = first-narrowed w z in
+      (λ h. left .0 (all .0 h), λ f. all .1 (left .1 f))
 
 -- ---- sew_list, before any item
 

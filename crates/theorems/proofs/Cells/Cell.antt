@@ -21,10 +21,11 @@ use Rattle.model.specs.Meaning.Sets.{Marked, ByLink}
 use Rattle.model.specs.Meaning.Maps.{Dim, MapTable, Straight, GoodCell, squareWord, cornerWord}
 use Rattle.model.specs.Meaning.Places.{path, place, AtPlace, Follows, Chart}
 use Rattle.theorems.proofs.Lists.Scan.{test, if-eq, clash, and-l, and-r, and-i, below-at, below-three}
-use Rattle.theorems.proofs.Sets.Least.{least-set-unique, cell-is}
+use Rattle.theorems.proofs.Sets.Least.{cell-is}
+use Rattle.theorems.proofs.Sets.Classes.{class-same}
 use Rattle.theorems.proofs.Sets.Pigeon.{count-by, apart-by}
 use Rattle.theorems.proofs.Maps.Dim.{two-cases, size-some}
-use Rattle.theorems.proofs.Maps.Tables.{live-below, rule-at}
+use Rattle.theorems.proofs.Maps.Tables.{live-below, rule-at, links-reversible}
 use Rattle.theorems.proofs.Cells.Rows.{small, rowWalk, walk-keeps, walk-rows, rows-in, path-small, path-zero}
 use Rattle.theorems.proofs.Cells.Places.{around, Turning, places-follow}
 
@@ -262,35 +263,10 @@ module _ {n : ℕ} {t : List ℕ} (T : MapTable n t) where
 
   -- ---- the darts of one cell have one cell
 
-  cell-sub : (x y : ℕ) → Marked (cellOf n t y) x → (z : ℕ) → Marked (cellOf n t x) z → Marked (cellOf n t y) z
-  cell-sub x y h =
-      cell-is n t x .within (Marked (cellOf n t y)) (λ z e _. rw e h) (λ a b _. cell-is n t y .closed a b)
-
-  cell-back : (d : ℕ) → live t d ≡ true → (x : ℕ) → Marked (cellOf n t d) x → Marked (cellOf n t x) d
-  cell-back d ld x h =
-      cell-is n t d .within Mutual (λ z e _. rw e (ld, cell-own d ld)) (λ y z _ p s _. step y z p s) x h .1
-    where
-      Mutual : ℕ → Type 0
-      Mutual z = (live t z ≡ true) × Marked (cellOf n t z) d
-
-      step : (y z : ℕ) → Mutual y → ByLink t (λ j. j < n) y z → Mutual z
-      step y z (ly, m) s =
-          let j = s .by in
-          let low = s .allowed in
-          let next = rule-at T y ly .goes j (omega arith) in
-          let own = cell-goes (link t j y) next (link t j y) j (cell-own (link t j y) next) low in
-          rw (s .leads) (next, cell-sub y (link t j y) (rw (rule-at T y ly .comes j (omega arith)) at own) d m)
-
   pub cell-same : (d x : ℕ) → live t d ≡ true → Marked (cellOf n t d) x → cellOf n t x ≡ cellOf n t d
-  cell-same d x ld h =
-      let c = cell-is n t d in
-      least-set-unique (cell-is n t x) (record {
-        long = c .long;
-        bits = c .bits;
-        holds = λ z e _. rw e h;
-        closed = c .closed;
-        within = λ P seed kept z m. cell-is n t x .within P seed kept z (cell-sub d x (cell-back d ld x h) z m);
-      })
+  cell-same =
+      let top = T .dim .1 in
+      class-same (cellOf n t) (cell-is n t) (links-reversible T (λ j low. omega arith))
 
   -- ---- words in a good cell
 

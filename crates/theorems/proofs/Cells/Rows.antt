@@ -25,7 +25,7 @@ unfoldable pub small : ℕ → List ℕ → Bool
 small n [] = true
 small n (i ∷ w) = elim (ltb i n) [ true ↦ small n w | false ↦ false ]
 
-small-cases : (n i : ℕ) (w : List ℕ) → small n (i ∷ w) ≡ true → (i < n) × (small n w ≡ true)
+pub small-cases : (n i : ℕ) (w : List ℕ) → small n (i ∷ w) ≡ true → (i < n) × (small n w ≡ true)
 unfolding small
 small-cases n i w h =
     test (ltb i n) (λ e. (ltb-true i n e, rw (e, small) at h)) (λ e. absurd (clash h (rw (e, small))))

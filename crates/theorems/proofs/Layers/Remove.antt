@@ -101,7 +101,7 @@ module _ {n : ℕ} {t m u : List ℕ} (L : Layer n t m) (R : Removes n t m u) wh
   layer-slots = rw (R .long)
 
   -- the new link n of a remaining dart is the first dart outside on the walk; where that begins outside, it is the old one
-  layer-walk : (x : ℕ) → marked m x ≡ false → FirstOutside n t m (link u n x) (link t n x)
+  pub layer-walk : (x : ℕ) → marked m x ≡ false → FirstOutside n t m (link u n x) (link t n x)
   layer-walk x out = test (marked m (link t n x)) (R .found x out) (λ e.
       let same = R .keeps x out e in
       record { reached = arrived (sym same); outside = ap (marked m) same ∙ e })

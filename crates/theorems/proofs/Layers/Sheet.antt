@@ -15,6 +15,7 @@ use Rattle.model.specs.Table.{slots, link, walk, live}
 use Rattle.model.specs.Reach.{steps, links, inSet}
 use Rattle.model.specs.Sheet.{sheetWords, sheet}
 use Rattle.model.specs.Split.{crosses}
+use Rattle.model.specs.Meaning.Maps.{BlockTable}
 use Rattle.model.specs.Meaning.Sets.{Least, Marked}
 use Rattle.model.specs.Meaning.Sheets.{BlockDart, Sheet, Crossing}
 use Rattle.theorems.proofs.Lists.Scan.{test, clash}
@@ -23,23 +24,31 @@ use Rattle.theorems.proofs.Sets.Closure.{closure-least}
 use Rattle.theorems.proofs.Sets.Links.{step-in, step-of}
 use Rattle.theorems.proofs.Maps.Tables.{mapTable, live-below, rule-at}
 
+-- ---- the steps of a sheet lead from live darts to live darts
+
+module _ {n : ℕ} {t : List ℕ} (B : BlockTable n t) where
+  goes : (x j : ℕ) → j ≤ n → live t x ≡ true → live t (link t j x) ≡ true
+  goes x j b l = let low = B .dim .1 in rule-at (mapTable B) x l .goes j (omega arith)
+
+  pub edge-live : (x : ℕ) → live t x ≡ true → live t (walk t (1 ∷ 0 ∷ 1 ∷ []) x) ≡ true
+  unfolding walk
+  edge-live x l = let two = B .dim .0 in goes _ 1 (omega arith) (goes _ 0 (omega arith) (goes x 1 (omega arith) l))
+
+-- ---- the sheet
+
 module _ {n : ℕ} {t : List ℕ} {d : ℕ} (D : BlockDart n t d) where
   abbrev S : List ℕ
   S = sheet n t d
+
+  abbrev B : BlockTable n t
+  B = D .table
 
   pub sheet-least : Least (steps t (sheetWords n)) (slots t) (d ∷ []) S
   unfolding sheet
   sheet-least = closure-least t (sheetWords n) (d ∷ [])
 
-  goes : (x j : ℕ) → j ≤ n → live t x ≡ true → live t (link t j x) ≡ true
-  goes x j b l = let low = D .table .dim .1 in rule-at (mapTable (D .table)) x l .goes j (omega arith)
-
   pub sheet-own : Marked S d
   sheet-own = sheet-least .holds d (here refl) (live-below (mapTable (D .table)) d (D .lives))
-
-  edge-live : (x : ℕ) → live t x ≡ true → live t (walk t (1 ∷ 0 ∷ 1 ∷ []) x) ≡ true
-  unfolding walk
-  edge-live x l = let two = D .table .dim .0 in goes _ 1 (omega arith) (goes _ 0 (omega arith) (goes x 1 (omega arith) l))
 
   pub sheet-live : (x : ℕ) → Marked S x → live t x ≡ true
   unfolding sheetWords steps links walk
@@ -47,11 +56,11 @@ module _ {n : ℕ} {t : List ℕ} {d : ℕ} (D : BlockDart n t d) where
       (λ x y _ l i _. step x y l (in-cons i))
     where
       far : (x y : ℕ) → live t x ≡ true → In y (steps t (links n (λ j. leb 2 j)) x) → live t y ≡ true
-      far x y l i = let (j, low, far, at) = step-of t x (λ j. leb 2 j) (suc n) 0 y i in rw at (goes x j (omega arith) l)
+      far x y l i = let (j, low, far, at) = step-of t x (λ j. leb 2 j) (suc n) 0 y i in rw at (goes B x j (omega arith) l)
 
       step : (x y : ℕ) → live t x ≡ true
           → (y ≡ link t 0 x) ⊎ In y (walk t (1 ∷ 0 ∷ 1 ∷ []) x ∷ steps t (links n (λ j. leb 2 j)) x) → live t y ≡ true
-      step x y l = ⊎-elim (λ e. rw e (goes x 0 (omega arith) l)) (λ i. ⊎-elim (λ e. rw e (edge-live x l)) (far x y l) (in-cons i))
+      step x y l = ⊎-elim (λ e. rw e (goes B x 0 (omega arith) l)) (λ i. ⊎-elim (λ e. rw e (edge-live B x l)) (far x y l) (in-cons i))
 
   closed : (x y : ℕ) → In y (steps t (sheetWords n) x) → Marked S x → live t y ≡ true → Marked S y
   closed x y i h l = sheet-least .closed x y h i (live-below (mapTable (D .table)) y l)
@@ -61,11 +70,11 @@ module _ {n : ℕ} {t : List ℕ} {d : ℕ} (D : BlockDart n t d) where
   sheet-of = record {
     once = ones-distinct S 0;
     lives = λ x i. sheet-live x (ones-of S x i);
-    along = λ x i. into x _ i (here refl) (goes x 0 (omega arith));
-    over = λ x i. into x _ i (there (here refl)) (edge-live x);
+    along = λ x i. into x _ i (here refl) (goes B x 0 (omega arith));
+    over = λ x i. into x _ i (there (here refl)) (edge-live B x);
     far = λ x j two low i.
         let step = step-in t x (λ j. leb 2 j) (suc n) 0 j (omega arith) (omega arith) (le-leb 2 j two) in
-        into x _ i (there (there step)) (goes x j low);
+        into x _ i (there (there step)) (goes B x j low);
   }
     where
       into : (x y : ℕ) → In x (ones S) → In y (steps t (sheetWords n) x) → (live t x ≡ true → live t y ≡ true) → In y (ones S)

@@ -117,7 +117,7 @@ module _ {n : ℕ} {t : List ℕ} (B : BlockTable n t) where
 -- ---- the walk, and the model's
 
 module _ {n : ℕ} {t m : List ℕ} where
-  reaches-on : {x y z : ℕ} → Reaches n t m y z → Reaches n t m x y → Reaches n t m x z
+  pub reaches-on : {x y z : ℕ} → Reaches n t m y z → Reaches n t m x y → Reaches n t m x z
   reaches-on (arrived e) q = rw e q
   reaches-on (onward r p) q = onward r (reaches-on p q)
 
@@ -158,7 +158,7 @@ module _ {n : ℕ} {t m : List ℕ} (L : Layer n t m) where
       let back : link t j (link t j x) ≡ x = rule B x l .comes j (omega arith) in
       absurd (clash (rw back at (L .closed (link t j x) j b e)) out)) (λ e. e)
 
-  facing-marked : (x : ℕ) → marked m x ≡ true → marked m (facing n t x) ≡ true
+  pub facing-marked : (x : ℕ) → marked m x ≡ true → marked m (facing n t x) ≡ true
   facing-marked x e = facing-keeps B (λ y. marked m y ≡ true) (λ y j b _ p. L .closed y j b p) x (L .lives x e) e .1
 
   reaches-live : {z y : ℕ} → live t y ≡ true → Reaches n t m z y → live t z ≡ true

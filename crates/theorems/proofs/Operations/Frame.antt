@@ -1,7 +1,7 @@
 -- What add, split and insert leave: every entry but those named (`add-frame`, `split-frame`, `insert-frame`); the walk across removed
 -- cells stops at once outside of them (`outside-stops`); a cell whose darts keep the links below n stays (`cell-kept`).
 use Prim.Native.Nat.{ℕ, zero, suc, _*_, _<_}
-use mathlib.Core.Path.{_≡_, refl, sym, _∙_}
+use mathlib.Core.Path.{_≡_, refl, _∙_}
 use mathlib.Core.Bool.{false}
 use mathlib.Core.List.{List, List·Memᴰ as In}
 use lib.ListN.{length}
@@ -17,7 +17,7 @@ use Rattle.model.specs.Meaning.Sets.{Marked, LeastSet, ByLink}
 use Rattle.theorems.proofs.Lists.Scan.{if-eq}
 use Rattle.theorems.proofs.Maps.Rules.{link-retable}
 use Rattle.theorems.proofs.Lists.Ones.{index-out}
-use Rattle.theorems.proofs.Sets.Least.{least-set-unique, cell-is}
+use Rattle.theorems.proofs.Sets.Least.{least-set-unique, least-kept, by-link-same, cell-is}
 
 -- the walk across removed cells stops at once outside of them
 pub outside-stops : (n : ℕ) (t m : List ℕ) (fuel y : ℕ) → marked m y ≡ false → outside n t m fuel y ≡ y
@@ -57,21 +57,7 @@ module _ (t : List ℕ) (fits : length t ≡ 4 * slots t) (x : ℕ) (low : x < s
 -- a cell whose darts keep the links below n stays
 pub cell-kept : (n : ℕ) (t u : List ℕ) (x : ℕ) → slots u ≡ slots t
     → ((y j : ℕ) → Marked (cellOf n t x) y → j < n → link u j y ≡ link t j y) → cellOf n u x ≡ cellOf n t x
-cell-kept n t u x same kept = least-set-unique (cell-is n u x) (record {
-  long = cell .long ∙ sym same;
-  bits = cell .bits;
-  holds = λ y e low. cell .holds y e (rw same at low);
-  closed = λ y z m s low. cell .closed y z m (before y z m s) (rw same at low);
-  within = λ P seed step y m. cell .within (λ y. Marked (cellOf n t x) y × P y)
-      (λ y e low. (cell .holds y e low, seed y e (rw same low)))
-      (λ y z low (m, p) s to. (cell .closed y z m s to, step y z (rw same low) p (after y z m s) (rw same to))) y m .1;
-})
-  where
-    cell : LeastSet (slots t) (λ y. y ≡ x) (ByLink t (λ j. j < n)) (cellOf n t x)
-    cell = cell-is n t x
-
-    before : (y z : ℕ) → Marked (cellOf n t x) y → ByLink u (λ j. j < n) y z → ByLink t (λ j. j < n) y z
-    before y z m s = record { by = s .by; allowed = s .allowed; leads = s .leads ∙ kept y (s .by) m (s .allowed) }
-
-    after : (y z : ℕ) → Marked (cellOf n t x) y → ByLink t (λ j. j < n) y z → ByLink u (λ j. j < n) y z
-    after y z m s = record { by = s .by; allowed = s .allowed; leads = s .leads ∙ sym (kept y (s .by) m (s .allowed)) }
+cell-kept n t u x same kept =
+    let after : LeastSet (slots t) (λ y. y ≡ x) (ByLink u (λ j. j < n)) (cellOf n u x) = rw same at (cell-is n u x) in
+    let before = cell-is n t x in
+    least-set-unique after (least-kept before (λ y z m. by-link-same t u (λ j. j < n) y (λ j. kept y j m) z))

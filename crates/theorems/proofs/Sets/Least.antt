@@ -11,7 +11,7 @@ use lib.ListN.{getD}
 use lib.Seq.{ext-getD}
 use lib.Dec.{ltb, leb}
 use borrow.Author.Tests.{ltb-true, lt-ltb, leb-true, le-leb}
-use Rattle.model.specs.Table.{slots, walk}
+use Rattle.model.specs.Table.{slots, link, walk}
 use Rattle.model.specs.Reach.{steps, closure, links}
 use Rattle.model.specs.Cell.{cellWords, cellOf}
 use Rattle.model.specs.Orbit.{bit, orbitWords, orbit}
@@ -37,6 +37,27 @@ module _ {n : ℕ} {Seed : ℕ → Type 0} {Step : ℕ → ℕ → Type 0} where
       same i (inr a) b = a ∙ sym (least-set-within p q i a)
       same i (inl a) (inl b) = a ∙ sym b
       same i (inl a) (inr b) = least-set-within q p i b ∙ sym b
+
+-- a least set stays one under other steps that are the same from its own darts
+pub least-kept : {k : ℕ} {Seed : ℕ → Type 0} {Step Next : ℕ → ℕ → Type 0} {s : List ℕ} → LeastSet k Seed Step s
+    → ((x y : ℕ) → Marked s x → Next x y ↔ Step x y) → LeastSet k Seed Next s
+least-kept {k} {Seed} {Step} {Next} {s} L same = record {
+  long = L .long;
+  bits = L .bits;
+  holds = L .holds;
+  closed = λ x y h p. L .closed x y h (same x y h .0 p);
+  within = λ P seed kept x h. L .within (λ y. Marked s y × P y)
+      (λ y q low. (L .holds y q low, seed y q low))
+      (λ y z low (m, p) q to. (L .closed y z m q to, kept y z low p (same y z m .1 q) to)) x h .1;
+}
+
+-- steps by links, where these lead from x as they do in another table
+pub by-link-same : (t u : List ℕ) (Allowed : ℕ → Type 0) (x : ℕ) → ((j : ℕ) → Allowed j → link u j x ≡ link t j x) → (y : ℕ)
+    → ByLink u Allowed x y ↔ ByLink t Allowed x y
+by-link-same t u Allowed x same y = (
+  λ b. record { by = b .by; allowed = b .allowed; leads = b .leads ∙ same (b .by) (b .allowed) },
+  λ b. record { by = b .by; allowed = b .allowed; leads = b .leads ∙ sym (same (b .by) (b .allowed)) },
+)
 
 -- ---- the closure of one dart, with its steps as a property
 
