@@ -1,0 +1,93 @@
+-- Layers of T, 01's three quads in a row, removed in two orders, computed from the definitions (`orders-hold`): the two outer layers;
+-- the first and the middle one, which touch; all three. `touching-moves`: what touches a layer can be other darts when the one
+-- beside it is removed.
+use Prim.Native.Nat.{ℕ}
+use mathlib.Core.Path.{_≡_, refl}
+use mathlib.Core.Bool.{Bool, true, false, not, _&&_}
+use mathlib.Core.List.{List, [], _∷_, _++_}
+use lib.ListN.{replicate}
+use Rattle.model.specs.Lists.{allBelow, allOf, equal}
+use Rattle.model.specs.Table.{unused, slots, liveCount}
+use Rattle.model.specs.Add.{addTable}
+use Rattle.model.specs.Sew.{sewTable}
+use Rattle.model.specs.Remove.{marked, removeTable}
+use Rattle.model.specs.Calls.{Outcome, removeCall}
+use Rattle.model.specs.Runs.{begin}
+use Rattle.model.specs.Everything.{everything}
+use Rattle.model.specs.Meaning.Ends.{lent}
+use Rattle.model.specs.Meaning.Sheets.{marksOf}
+use Rattle.model.specs.Meaning.Worked.{Seen, goes, liveAre, beginOn, sees, seesAll}
+
+-- the sheets of d and e share no cell, by their marks
+unfoldable pub apart : ℕ → List ℕ → ℕ → ℕ → Bool
+apart n t d e = allBelow (slots t) (λ x. not (marked (marksOf n t d) x && marked (marksOf n t e) x))
+
+-- no two of the sheets of these darts share a cell
+unfoldable pub allApart : ℕ → List ℕ → List ℕ → Bool
+allApart n t [] = true
+allApart n t (d ∷ ds) = allOf (apart n t d) ds && allApart n t ds
+
+-- number and count of each removal, and what the last one left
+pub record Removals : Type 0 where
+  pub answers : List ℕ
+  pub left : Outcome
+
+unfoldable pub removals : ℕ → Outcome → List ℕ → Removals
+removals n o [] = record { answers = []; left = o }
+removals n o (d ∷ ds) =
+    let r = removeCall n (o .table) (o .marks) (o .journal) 0 d in
+    let rest = removals n r ds in
+    record { answers = r .number ∷ r .count ∷ rest .answers; left = rest .left }
+
+-- the darts in one order and in another, what the removals of each order answer, and what is seen after both
+pub record OrderCase : Type 0 where
+  pub label : ℕ
+  pub dim : ℕ
+  pub table : List ℕ
+  pub order : List ℕ
+  pub other : List ℕ
+  pub answers : List ℕ
+  pub seen : List Seen
+
+-- in a fresh journal of 400 words: no two sheets share a cell, both orders answer so, and leave the same table
+unfoldable pub holdsOrder : OrderCase → Bool
+holdsOrder c =
+    let o = beginOn (c .table) 400 in
+    let one = removals (c .dim) o (c .order) in
+    let two = removals (c .dim) o (c .other) in
+    allApart (c .dim) (c .table) (c .order)
+    && equal (one .answers) (c .answers) && equal (two .answers) (c .answers)
+    && equal (one .left .table) (two .left .table) && seesAll (c .dim) o (one .left) (c .seen)
+
+-- the labels of the cases that do not hold
+unfoldable pub failingOrders : List OrderCase → List ℕ
+failingOrders [] = []
+failingOrders (c ∷ cs) = elim (holdsOrder c) [ true ↦ failingOrders cs | false ↦ c .label ∷ failingOrders cs ]
+
+-- T: three quads from 0, 8, 16, sewn by link 2: (5,12), (13,20)
+unfoldable pub threeQuads : List ℕ
+threeQuads = sewTable 2 (sewTable 2 (addTable 2 (addTable 2 (addTable 2 (replicate 96 unused)))) 2 5 12) 2 13 20
+
+-- label, darts in one order, in another, what each removal answers, what is seen
+orderRow : ℕ → List ℕ → List ℕ → List ℕ → List Seen → OrderCase
+orderRow l ds es a ss =
+    record { label = l; dim = 2; table = threeQuads; order = ds; other = es; answers = a; seen = ss }
+
+pub orderCases : List OrderCase
+orderCases =
+    orderRow 11401 (0 ∷ 16 ∷ []) (16 ∷ 0 ∷ []) (0 ∷ 8 ∷ 0 ∷ 8 ∷ [])
+    (liveAre 8 ∷ goes 12 2 12 ∷ goes 14 2 14 ∷ goes 13 2 13 ∷ goes 15 2 15 ∷ goes 12 0 14 ∷ [])
+    ∷ orderRow 11402 (0 ∷ 8 ∷ []) (8 ∷ 0 ∷ []) (0 ∷ 8 ∷ 0 ∷ 8 ∷ []) (liveAre 8 ∷ goes 20 2 20 ∷ goes 22 2 22 ∷ goes 20 0 22 ∷ [])
+    ∷ orderRow 11403 (0 ∷ 8 ∷ 16 ∷ []) (16 ∷ 0 ∷ 8 ∷ []) (0 ∷ 8 ∷ 0 ∷ 8 ∷ 0 ∷ 8 ∷ []) (liveAre 0 ∷ [])
+    ∷ []
+
+pub orders-hold : failingOrders orderCases ≡ []
+unfolding everything liveCount apart allApart removals holdsOrder failingOrders threeQuads orderRow orderCases begin beginOn sees seesAll equal
+orders-hold = refl
+
+-- the marks of the first layer: 3 is on darts of the middle one, and when that is removed on darts of the last
+pub touching-moves : (marksOf 2 threeQuads 0 ≡ replicate 4 1 ++ replicate 4 2 ++ (0 ∷ 0 ∷ 0 ∷ 0 ∷ 3 ∷ 0 ∷ 3 ∷ 0 ∷ replicate 8 0))
+    × (marksOf 2 (removeTable 2 threeQuads 8) 0
+    ≡ replicate 4 1 ++ replicate 4 2 ++ replicate 8 0 ++ (0 ∷ 0 ∷ 0 ∷ 0 ∷ 3 ∷ 0 ∷ 3 ∷ 0 ∷ []))
+unfolding everything threeQuads
+touching-moves = (refl, refl)
