@@ -292,7 +292,8 @@ uint32_t phl_unsew(uint32_t n, uint32_t *table, size_t table_len,
 /* Removes the layer of d: its slots become unused, and what lay on either side of it is linked; a
  * dart beyond which the layer was free becomes n-free. Marks: as phl_sheet gives them before the
  * change; the darts with 1 and 2 are removed, and link n of each dart with 3 changes. A layer that
- * crosses itself is removed like any other. Count: darts removed.
+ * crosses itself is removed like any other. Layers that have no cell in common (no dart has a 1 or a
+ * 2 in the marks of both) can be removed in any order, and leave the same table. Count: darts removed.
  * Numbers: 1 2 3 4 5 24 25 26 7 8 15. */
 uint32_t phl_remove(uint32_t n, uint32_t *table, size_t table_len,
                     uint8_t *marks, size_t marks_len, uint32_t *journal, size_t journal_len,

@@ -5,10 +5,9 @@ use mathlib.Core.Path.{_≡_, refl, sym, _∙_}
 use mathlib.Core.Bool.{Bool, true, false, _&&_}
 use mathlib.Core.List.{List}
 use Rattle.model.specs.Cell.{cellOf, goodCell}
-use Rattle.theorems.proofs.Lists.Scan.{and-l, and-r, and-i}
+use Rattle.theorems.proofs.Lists.Scan.{and-l, and-r, and-i, same-test}
 use Rattle.theorems.proofs.Cells.Cell.{good-chart}
 use Rattle.theorems.proofs.Cells.Exact.{good-exactly}
-use Rattle.reading.proofs.Rules.{same-test}
 use Rattle.cells.specs.Listing.{MapDart, Listing, places}
 use Rattle.good_cells.specs.Good.{allFollow, onlyFirst, allStraight}
 use Rattle.cells.proofs.Listing.{places-listing}

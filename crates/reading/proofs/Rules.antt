@@ -11,14 +11,10 @@ use borrow.Author.Tests.{eqb-true, eq-eqb, ne-eqb}
 use Rattle.model.specs.Table.{unused, link, live}
 use Rattle.model.specs.Map.{crossed, keepsRules}
 use Rattle.model.specs.Meaning.Maps.{Dim, Rule}
-use Rattle.theorems.proofs.Lists.Scan.{and-l, and-r, and-i, test, if-eq}
+use Rattle.theorems.proofs.Lists.Scan.{and-l, and-r, and-i, test, same-test, if-eq}
 use Rattle.theorems.proofs.Maps.Dim.{dim-cases}
 use Rattle.theorems.proofs.Maps.Rules.{rule-of, of-rule, crossed-far, dead-link}
 use Rattle.reading.specs.Near.{four, rules, turned}
-
--- two tests that pass together are equal
-pub same-test : {a b : Bool} → (a ≡ true → b ≡ true) → (b ≡ true → a ≡ true) → a ≡ b
-same-test {a} {b} f g = test a (λ e. e ∙ sym (f e)) (λ e. test b (λ q. g q ∙ sym q) (λ q. e ∙ sym q))
 
 module _ (p : ℕ → Bool) where
   pub four-at : four p ≡ true → (i : ℕ) → i < 4 → p i ≡ true

@@ -3,7 +3,7 @@
 -- the other they leave what the removal of both at once leaves (`remove-both`), so the order does not matter (`remove-order`).
 use Prim.Native.Nat.{ℕ, _≤_, _<_}
 use mathlib.Core.Path.{_≡_, refl, sym, _∙_}
-use mathlib.Core.Logic.{_≢_, _↔_, Iff·trans}
+use mathlib.Core.Logic.{_≢_, _↔_}
 use mathlib.Core.Bool.{true, false}
 use mathlib.Core.List.{List, [], _∷_}
 use native.Mathlib.Omega.{arith}
@@ -15,7 +15,7 @@ use Rattle.model.specs.Meaning.Maps.{Dim, MapTable}
 use Rattle.model.specs.Meaning.Sets.{Marked, LeastSet, ByLink, SheetStep, along, across, beside}
 use Rattle.model.specs.Meaning.Sheets.{BlockDart, marksOf, InCells}
 use Rattle.model.specs.Meaning.Walks.{Removes}
-use Rattle.theorems.proofs.Lists.Scan.{test, if-eq, clash}
+use Rattle.theorems.proofs.Lists.Scan.{same-test, if-eq}
 use Rattle.theorems.proofs.Maps.Dim.{two-cases}
 use Rattle.theorems.proofs.Maps.Tables.{mapTable, live-below}
 use Rattle.theorems.proofs.Sets.Least.{least-set-unique, least-kept, by-link-same, sheet-is}
@@ -166,10 +166,9 @@ module _ {n : ℕ} {t : List ℕ} {d e : ℕ} (D : BlockDart n t d) (E : BlockDa
       before x h = rw sheet-kept h
 
   pub marked-kept : (x : ℕ) → marked (marksOf n (removeTable n t d) e) x ≡ marked (marksOf n t e) x
-  marked-kept x =
-      let same = Iff·trans (marks-cells seed-kept x) (in-cells-kept x) in
-      test (marked b x) (λ h. marks-cells seed-kept x .1 (in-cells-kept x .1 (marks-cells E x .0 h)) ∙ sym h)
-      (λ h. test (marked (marksOf n u e) x) (λ k. absurd (clash (marks-cells E x .1 (same .0 k)) h)) (λ k. k ∙ sym h))
+  marked-kept x = same-test
+      (λ h. marks-cells E x .1 (in-cells-kept x .0 (marks-cells seed-kept x .0 h)))
+      (λ h. marks-cells seed-kept x .1 (in-cells-kept x .1 (marks-cells E x .0 h)))
 
   then-removes : RemovedFrom n (removeTable n t d) (marksOf n t e) (removeTable n (removeTable n t d) e)
   then-removes = record {

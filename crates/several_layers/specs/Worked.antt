@@ -14,9 +14,12 @@ use Rattle.model.specs.Remove.{marked, removeTable}
 use Rattle.model.specs.Calls.{Outcome, removeCall}
 use Rattle.model.specs.Runs.{begin}
 use Rattle.model.specs.Everything.{everything}
-use Rattle.model.specs.Meaning.Ends.{lent}
 use Rattle.model.specs.Meaning.Sheets.{marksOf}
 use Rattle.model.specs.Meaning.Worked.{Seen, goes, liveAre, beginOn, sees, seesAll}
+
+-- T: three quads from 0, 8, 16, sewn by link 2: (5,12), (13,20)
+unfoldable pub threeQuads : List ℕ
+threeQuads = sewTable 2 (sewTable 2 (addTable 2 (addTable 2 (addTable 2 (replicate 96 unused)))) 2 5 12) 2 13 20
 
 -- the sheets of d and e share no cell, by their marks
 unfoldable pub apart : ℕ → List ℕ → ℕ → ℕ → Bool
@@ -27,51 +30,44 @@ unfoldable pub allApart : ℕ → List ℕ → List ℕ → Bool
 allApart n t [] = true
 allApart n t (d ∷ ds) = allOf (apart n t d) ds && allApart n t ds
 
--- number and count of each removal, and what the last one left
-pub record Removals : Type 0 where
+-- removals one after the other: number and count of each, and what the last one left
+pub record InTurn : Type 0 where
   pub answers : List ℕ
   pub left : Outcome
 
-unfoldable pub removals : ℕ → Outcome → List ℕ → Removals
-removals n o [] = record { answers = []; left = o }
-removals n o (d ∷ ds) =
+unfoldable pub inTurn : ℕ → Outcome → List ℕ → InTurn
+inTurn n o [] = record { answers = []; left = o }
+inTurn n o (d ∷ ds) =
     let r = removeCall n (o .table) (o .marks) (o .journal) 0 d in
-    let rest = removals n r ds in
+    let rest = inTurn n r ds in
     record { answers = r .number ∷ r .count ∷ rest .answers; left = rest .left }
 
--- the darts in one order and in another, what the removals of each order answer, and what is seen after both
+-- darts of T in one order and in another, what the removals answer in either, and what is seen after them
 pub record OrderCase : Type 0 where
   pub label : ℕ
-  pub dim : ℕ
-  pub table : List ℕ
   pub order : List ℕ
   pub other : List ℕ
   pub answers : List ℕ
   pub seen : List Seen
 
--- in a fresh journal of 400 words: no two sheets share a cell, both orders answer so, and leave the same table
+-- with a fresh journal of 400 words: no two of the sheets share a cell, and both orders answer so and leave the same table
 unfoldable pub holdsOrder : OrderCase → Bool
 holdsOrder c =
-    let o = beginOn (c .table) 400 in
-    let one = removals (c .dim) o (c .order) in
-    let two = removals (c .dim) o (c .other) in
-    allApart (c .dim) (c .table) (c .order)
+    let o = beginOn threeQuads 400 in
+    let one = inTurn 2 o (c .order) in
+    let two = inTurn 2 o (c .other) in
+    allApart 2 threeQuads (c .order)
     && equal (one .answers) (c .answers) && equal (two .answers) (c .answers)
-    && equal (one .left .table) (two .left .table) && seesAll (c .dim) o (one .left) (c .seen)
+    && equal (one .left .table) (two .left .table) && seesAll 2 o (one .left) (c .seen)
 
 -- the labels of the cases that do not hold
 unfoldable pub failingOrders : List OrderCase → List ℕ
 failingOrders [] = []
 failingOrders (c ∷ cs) = elim (holdsOrder c) [ true ↦ failingOrders cs | false ↦ c .label ∷ failingOrders cs ]
 
--- T: three quads from 0, 8, 16, sewn by link 2: (5,12), (13,20)
-unfoldable pub threeQuads : List ℕ
-threeQuads = sewTable 2 (sewTable 2 (addTable 2 (addTable 2 (addTable 2 (replicate 96 unused)))) 2 5 12) 2 13 20
-
--- label, darts in one order, in another, what each removal answers, what is seen
+-- label, darts in one order, in another, what the removals answer, what is seen
 orderRow : ℕ → List ℕ → List ℕ → List ℕ → List Seen → OrderCase
-orderRow l ds es a ss =
-    record { label = l; dim = 2; table = threeQuads; order = ds; other = es; answers = a; seen = ss }
+orderRow l ds es a ss = record { label = l; order = ds; other = es; answers = a; seen = ss }
 
 pub orderCases : List OrderCase
 orderCases =
@@ -82,7 +78,7 @@ orderCases =
     ∷ []
 
 pub orders-hold : failingOrders orderCases ≡ []
-unfolding everything liveCount apart allApart removals holdsOrder failingOrders threeQuads orderRow orderCases begin beginOn sees seesAll equal
+unfolding everything liveCount apart allApart inTurn holdsOrder failingOrders threeQuads orderRow orderCases begin beginOn sees seesAll equal
 orders-hold = refl
 
 -- the marks of the first layer: 3 is on darts of the middle one, and when that is removed on darts of the last

@@ -1,4 +1,5 @@
--- `number-table`: each call gives the number of the first of its rows of 01's table that is given, or 0. `narrowed-table`: of those that may be given.
+-- `number-table`: each call gives the number of the first of its rows of 01's table that is given, or 0; `narrowed-table`: of those of
+-- them that may be given.
 -- `list-table`: the same of sew_list before any item, and what it leaves then; `list-passes`: where none is given its checks pass.
 use Prim.Native.Nat.{ℕ, _<_}
 use mathlib.Core.Path.{_≡_, refl, sym, ap, _∙_, subst}

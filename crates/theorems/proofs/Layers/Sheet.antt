@@ -48,7 +48,7 @@ module _ {n : ℕ} {t : List ℕ} {d : ℕ} (D : BlockDart n t d) where
   sheet-least = closure-least t (sheetWords n) (d ∷ [])
 
   pub sheet-own : Marked S d
-  sheet-own = sheet-least .holds d (here refl) (live-below (mapTable (D .table)) d (D .lives))
+  sheet-own = sheet-least .holds d (here refl) (live-below (mapTable B) d (D .lives))
 
   pub sheet-live : (x : ℕ) → Marked S x → live t x ≡ true
   unfolding sheetWords steps links walk
@@ -63,7 +63,7 @@ module _ {n : ℕ} {t : List ℕ} {d : ℕ} (D : BlockDart n t d) where
       step x y l = ⊎-elim (λ e. rw e (goes B x 0 (omega arith) l)) (λ i. ⊎-elim (λ e. rw e (edge-live B x l)) (far x y l) (in-cons i))
 
   closed : (x y : ℕ) → In y (steps t (sheetWords n) x) → Marked S x → live t y ≡ true → Marked S y
-  closed x y i h l = sheet-least .closed x y h i (live-below (mapTable (D .table)) y l)
+  closed x y i h l = sheet-least .closed x y h i (live-below (mapTable B) y l)
 
   pub sheet-of : Sheet n t (ones S)
   unfolding sheetWords steps links walk

@@ -52,6 +52,10 @@ pub test : {P : Type 0} (b : Bool) → (b ≡ true → P) → (b ≡ false → P
 test true f g = f refl
 test false f g = g refl
 
+-- two tests that pass together are equal
+pub same-test : {a b : Bool} → (a ≡ true → b ≡ true) → (b ≡ true → a ≡ true) → a ≡ b
+same-test {a} {b} f g = test a (λ e. e ∙ sym (f e)) (λ e. test b (λ q. g q ∙ sym q) (λ q. e ∙ sym q))
+
 pub if-eq : {P : Type 0} (a b : ℕ) → (a ≡ b → P) → (a ≢ b → P) → P
 if-eq {P} a b f g = go (ℕ-discrete a b)
   where
