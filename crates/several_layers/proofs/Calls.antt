@@ -4,14 +4,14 @@
 -- (`remove-then-sheet`, `remove-then-count`), and only the buffers of that remove can refuse it (`remove-then-numbers`).
 -- `remove-calls-order`: removed in either order they leave equal tables.
 use Prim.Native.Nat.{ℕ}
-use mathlib.Core.Path.{_≡_, refl, sym, ap, _∙_}
+use mathlib.Core.Path.{_≡_, sym, ap, _∙_}
 use mathlib.Core.Logic.{_↔_}
 use mathlib.Core.List.{List, [], _∷_}
 use lib.ListN.{getD}
 use Rattle.model.specs.Lists.{indexOf, count}
 use Rattle.model.specs.Table.{slots}
 use Rattle.model.specs.Sheet.{sheet}
-use Rattle.model.specs.Remove.{marked, countMarked, removeTable}
+use Rattle.model.specs.Remove.{marked, removeTable}
 use Rattle.model.specs.Checks.{mapChecks, sheetChecks}
 use Rattle.model.specs.Calls.{Outcome, sheetCall, removeCall}
 use Rattle.model.specs.Runs.{Op, Call, doCall, keeping, effect}
@@ -58,7 +58,7 @@ module _ (n : ℕ) (t m j : List ℕ) (tag d : ℕ) (passed : removeCall n t m j
   unfolding doCall
   remove-dart = layer-passed n t j m d (op-effect n (lent t m j) tag (Op.remove d) passed .0)
 
-  pub remove-leaves : removeCall n t m j tag d .table ≡ removeTable n t d
+  remove-leaves : removeCall n t m j tag d .table ≡ removeTable n t d
   unfolding doCall effect
   remove-leaves = op-effect n (lent t m j) tag (Op.remove d) passed .1
 

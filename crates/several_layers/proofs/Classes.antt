@@ -10,7 +10,7 @@ use native.Mathlib.Omega.{arith}
 use Rattle.model.specs.Table.{slots, link, walk, live}
 use Rattle.model.specs.Sheet.{sheet, sheetMarks}
 use Rattle.model.specs.Meaning.Maps.{BlockTable, Rule}
-use Rattle.model.specs.Meaning.Sets.{Marked, ByLink, SheetStep, along, across, beside}
+use Rattle.model.specs.Meaning.Sets.{ByLink, SheetStep, along, across, beside}
 use Rattle.model.specs.Meaning.Sheets.{BlockDart, marksOf}
 use Rattle.theorems.proofs.Sets.Least.{sheet-is}
 use Rattle.theorems.proofs.Sets.Classes.{Reversible, class-sub, class-own, class-back, class-same}
@@ -69,7 +69,7 @@ module _ {n : ℕ} {t : List ℕ} (B : BlockTable n t) where
   }
 
   -- what lies in a sheet has that sheet
-  pub sheet-same : (d x : ℕ) → live t d ≡ true → LiesIn n t x d → sheet n t x ≡ sheet n t d
+  sheet-same : (d x : ℕ) → live t d ≡ true → LiesIn n t x d → sheet n t x ≡ sheet n t d
   sheet-same = class-same (sheet n t) (sheet-is n t) sheet-reversible
 
   -- "each live dart lies in exactly one sheet"

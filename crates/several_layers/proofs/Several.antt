@@ -32,12 +32,12 @@ module _ {n : ℕ} {t : List ℕ} (B : BlockTable n t) where
   dart : (x : ℕ) → live t x ≡ true → BlockDart n t x
   dart x l = record { table = B; lives = l }
 
-  parted-live : {ds : List ℕ} → Parted n t ds → (x : ℕ) → In x ds → live t x ≡ true
+  pub parted-live : {ds : List ℕ} → Parted n t ds → (x : ℕ) → In x ds → live t x ≡ true
   parted-live lone x i = absurd (not-nil i)
   parted-live (with l o rest) x i = let rec = parted-live rest x in ⊎-elim (λ q. rw q l) rec (in-cons i)
 
   -- the others are parted still when one is removed
-  pub parted-after : {d : ℕ} {ds : List ℕ} → BlockDart n t d → ((e : ℕ) → In e ds → ShareNoCell n t d e) → Parted n t ds
+  parted-after : {d : ℕ} {ds : List ℕ} → BlockDart n t d → ((e : ℕ) → In e ds → ShareNoCell n t d e) → Parted n t ds
       → Parted n (removeTable n t d) ds
   parted-after D o lone = lone
   parted-after D o (with {d = e} le oe rest) =

@@ -7,7 +7,7 @@ use mathlib.Core.Bool.{Bool, true, false, not, _&&_}
 use mathlib.Core.List.{List, [], _∷_, _++_}
 use lib.ListN.{replicate}
 use Rattle.model.specs.Lists.{allBelow, allOf, equal}
-use Rattle.model.specs.Table.{unused, slots, liveCount}
+use Rattle.model.specs.Table.{unused, slots, live, liveCount}
 use Rattle.model.specs.Add.{addTable}
 use Rattle.model.specs.Sew.{sewTable}
 use Rattle.model.specs.Remove.{marked, removeTable}
@@ -25,10 +25,10 @@ threeQuads = sewTable 2 (sewTable 2 (addTable 2 (addTable 2 (addTable 2 (replica
 unfoldable pub apart : ℕ → List ℕ → ℕ → ℕ → Bool
 apart n t d e = allBelow (slots t) (λ x. not (marked (marksOf n t d) x && marked (marksOf n t e) x))
 
--- no two of the sheets of these darts share a cell
-unfoldable pub allApart : ℕ → List ℕ → List ℕ → Bool
-allApart n t [] = true
-allApart n t (d ∷ ds) = allOf (apart n t d) ds && allApart n t ds
+-- these darts are live, and no two of their sheets share a cell
+unfoldable pub parted : ℕ → List ℕ → List ℕ → Bool
+parted n t [] = true
+parted n t (d ∷ ds) = live t d && allOf (apart n t d) ds && parted n t ds
 
 -- removals one after the other: number and count of each, and what the last one left
 pub record InTurn : Type 0 where
@@ -56,7 +56,7 @@ holdsOrder c =
     let o = beginOn threeQuads 400 in
     let one = inTurn 2 o (c .order) in
     let two = inTurn 2 o (c .other) in
-    allApart 2 threeQuads (c .order)
+    parted 2 threeQuads (c .order)
     && equal (one .answers) (c .answers) && equal (two .answers) (c .answers)
     && equal (one .left .table) (two .left .table) && seesAll 2 o (one .left) (c .seen)
 
@@ -78,7 +78,7 @@ orderCases =
     ∷ []
 
 pub orders-hold : failingOrders orderCases ≡ []
-unfolding everything liveCount apart allApart inTurn holdsOrder failingOrders threeQuads orderRow orderCases begin beginOn sees seesAll equal
+unfolding everything liveCount apart parted inTurn holdsOrder failingOrders threeQuads orderRow orderCases begin beginOn sees seesAll equal
 orders-hold = refl
 
 -- the marks of the first layer: 3 is on darts of the middle one, and when that is removed on darts of the last
