@@ -41,7 +41,7 @@ static uint32_t removed(uint32_t *t, uint32_t d)
 static void start(uint32_t *t)
 {
     memcpy(t, map, 16 * slots);
-    journal[0] = journal[1] = 2;
+    journal[0] = journal[1] = PHL_FRESH;
 }
 
 static void find_sheets(void)
