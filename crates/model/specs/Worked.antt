@@ -33,7 +33,7 @@ quad : List Op
 quad = Op.add ∷ []
 
 -- T: three quads from 0, 8, 16, sewn by link 2: (5,12), (13,20)
-three : List Op
+unfoldable pub three : List Op
 three = Op.add ∷ Op.add ∷ Op.add ∷ Op.sew 2 5 12 ∷ Op.sew 2 13 20 ∷ []
 
 -- Q split in two, as in 3
@@ -84,11 +84,11 @@ named : List Call
 named = Call.op 7 Op.add ∷ Call.op 4294967295 (Op.split 0) ∷ []
 
 -- R-5: what operations make of a table, and of unused slots
-madeOf : ℕ → List ℕ → List Op → List ℕ
+unfoldable pub madeOf : ℕ → List ℕ → List Op → List ℕ
 madeOf n t [] = t
 madeOf n t (p ∷ ps) = madeOf n (effect n t p) ps
 
-made : ℕ → ℕ → List Op → List ℕ
+unfoldable pub made : ℕ → ℕ → List Op → List ℕ
 made n slots ps = madeOf n (replicate (4 * slots) unused) ps
 
 -- R-5: the marks of a wall, and insert along it

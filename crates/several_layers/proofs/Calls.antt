@@ -1,8 +1,7 @@
 -- Sheets as classes, and the order of two removals, of the calls. `sheet-calls-ones`: two accepted sheet calls leave equal marks 1 exactly
 -- if each seed is in the other's sheet; their marks tell that (`sheet-calls-told`), and whether the sheets share a cell
 -- (`sheet-calls-share`). When one of two sheets that share no cell is removed, sheet and remove of the other answer as before
--- (`remove-then-sheet`, `remove-then-count`), and only the buffers of that remove can refuse it (`remove-then-numbers`).
--- `remove-calls-order`: removed in either order they leave equal tables.
+-- (`remove-then-sheet`, `remove-then-count`). `remove-calls-order`: removed in either order they leave equal tables.
 use Prim.Native.Nat.{ℕ}
 use mathlib.Core.Path.{_≡_, sym, ap, _∙_}
 use mathlib.Core.Logic.{_↔_}
@@ -16,7 +15,6 @@ use Rattle.model.specs.Checks.{mapChecks, sheetChecks}
 use Rattle.model.specs.Calls.{Outcome, sheetCall, removeCall}
 use Rattle.model.specs.Runs.{Op, Call, doCall, keeping, effect}
 use Rattle.model.specs.Meaning.Ends.{lent, numbers, checksOf, doneOf}
-use Rattle.model.specs.Meaning.Numbers.{First, marksRow, journalRow, recordRow}
 use Rattle.model.specs.Meaning.Sheets.{BlockDart, marksOf, howMany}
 use Rattle.theorems.proofs.Layers.Counts.{howMany-same}
 use Rattle.theorems.proofs.Layers.Marks.{marks-one, sheet-layer}
@@ -26,12 +24,11 @@ use Rattle.theorems.proofs.Calls.Checks.{passed-number}
 use Rattle.theorems.proofs.Calls.Pass.{rules-pass, block-table-of, dart-pass, layer-passed}
 use Rattle.theorems.proofs.Calls.Ends.{call-passed, call-done, op-effect}
 use Rattle.theorems.proofs.Calls.Untouched.{sheet-marks}
-use Rattle.theorems.proofs.Calls.Removals.{remove-numbers}
 use Rattle.theorems.proofs.History.Counts.{sheet-count}
 use Rattle.several_layers.specs.Classes.{SameMark, SameOnes, InEachOther}
 use Rattle.several_layers.specs.Removals.{ShareNoCell, Disjoint, removeEach, RemovedInTurn, finished, accepted}
 use Rattle.several_layers.proofs.Classes.{ones-exactly}
-use Rattle.several_layers.proofs.Apart.{share-exactly, sheet-kept, seed-kept, marks-kept, marked-kept, remove-order}
+use Rattle.several_layers.proofs.Apart.{share-exactly, sheet-kept, marks-kept, marked-kept, remove-order}
 
 -- ---- what an accepted call has passed, and leaves
 
@@ -126,11 +123,6 @@ module _ (n : ℕ) (t m j : List ℕ) (tag d e : ℕ) (apart : ShareNoCell n t d
       ∙ ap (λ (v : List ℕ). howMany (slots v) (marked (marksOf n v e))) is
       ∙ ap (λ (s : ℕ). howMany s (marked (marksOf n (removeTable n t d) e))) long
       ∙ howMany-same (slots t) _ _ (λ x _. marked-kept D E apart x) ∙ sym (remove-counts n t k i a e q)
-
-  -- remove of e, given marks l and a journal h, can be refused only for these, and for want of room
-  pub remove-then-numbers : BlockDart n t e → (l h : List ℕ) (b z : ℕ) → (removeCall n u l h b e .number ≡ z)
-      ↔ First (marksRow u l ∷ journalRow h ∷ recordRow b u (removeTable n u e) h ∷ []) z
-  remove-then-numbers E l h b z = rw is (remove-numbers (seed-kept D E apart) l h b z)
 
 -- ---- removals in turn
 

@@ -3,7 +3,7 @@
 -- that remove leaves is one only (`removes-one`), so the order does not matter (`layers-order`).
 use Prim.Native.Nat.{ℕ, _*_, _≤_, _<_}
 use mathlib.Core.Path.{_≡_, refl, sym, ap, ap₂, _∙_}
-use mathlib.Core.Logic.{inl, inr, ⊎-elim}
+use mathlib.Core.Logic.{_⊎_, inl, inr, ⊎-elim, _↔_}
 use mathlib.Core.Bool.{Bool, true, false, _||_}
 use mathlib.Core.List.{List, [], _∷_}
 use native.Mathlib.Omega.{arith}
@@ -18,7 +18,7 @@ use Rattle.theorems.proofs.Cells.Rows.{small, small-cases}
 use Rattle.theorems.proofs.Operations.Relink.{table-same}
 use Rattle.theorems.proofs.Layers.Walk.{opposite-small, reaches-on, outside-unique, facing-marked}
 use Rattle.theorems.proofs.Layers.Remove.{layer-walk}
-use Rattle.several_layers.specs.Removals.{Disjoint, Joined, join}
+use Rattle.several_layers.specs.Removals.{Disjoint, join}
 
 -- ---- a walk by a word of a cell's links, where the darts on it keep those links
 
@@ -32,6 +32,10 @@ walk-same n t u P goes same (j ∷ w) h x p =
     ap (walk u w) (same x j low p) ∙ walk-same n t u P goes same w rest (link t j x) (goes x j low p)
 
 -- ---- marks of both
+
+-- m has a mark 1 or 2 where a or b has one
+record Joined (a b m : List ℕ) : Type 0 where
+  exactly : (x : ℕ) → (marked m x ≡ true) ↔ ((marked a x ≡ true) ⊎ (marked b x ≡ true))
 
 pub unmarked-past : (m : List ℕ) (x : ℕ) → length m ≤ x → marked m x ≡ false
 unfolding marked cellMark

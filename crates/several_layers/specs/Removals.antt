@@ -1,8 +1,7 @@
 -- Layers that are removed one after the other: `ShareNoCell`, of two sheets; `Parted`, of several; `RemovedInTurn`, their removals as
--- calls. `Disjoint`, `Joined` and `join` are of the marks of two.
+-- calls. `Disjoint` and `join` are of the marks of two.
 use Prim.Native.Nat.{ℕ}
 use mathlib.Core.Path.{_≡_}
-use mathlib.Core.Logic.{_⊎_, _↔_}
 use mathlib.Core.Bool.{true, false, _||_}
 use mathlib.Core.List.{List, [], _∷_, List·Memᴰ as In}
 use lib.ListN.{length}
@@ -23,11 +22,7 @@ ShareNoCell n t d e = (x : ℕ) → InCells n t (sheet n t d) x → InCells n t 
 abbrev pub Disjoint : List ℕ → List ℕ → Type 0
 Disjoint a b = (x : ℕ) → marked a x ≡ true → marked b x ≡ true → ⊥
 
--- m has a mark 1 or 2 where a or b has one
-pub record Joined (a b m : List ℕ) : Type 0 where
-  pub exactly : (x : ℕ) → (marked m x ≡ true) ↔ ((marked a x ≡ true) ⊎ (marked b x ≡ true))
-
--- such marks, where a and b are as long as each other
+-- marks as long as a and b, 1 where one of these is 1 or 2
 unfoldable pub join : List ℕ → List ℕ → List ℕ
 join a b = tabulate (length a) (λ x. elim (marked a x || marked b x) [ true ↦ 1 | false ↦ 0 ])
 

@@ -7,19 +7,19 @@ use mathlib.Core.Bool.{Bool, true, false, not, _&&_}
 use mathlib.Core.List.{List, [], _∷_, _++_}
 use lib.ListN.{replicate}
 use Rattle.model.specs.Lists.{allBelow, allOf, equal}
-use Rattle.model.specs.Table.{unused, slots, live, liveCount}
-use Rattle.model.specs.Add.{addTable}
-use Rattle.model.specs.Sew.{sewTable}
+use Rattle.model.specs.Table.{slots, live, liveCount}
 use Rattle.model.specs.Remove.{marked, removeTable}
 use Rattle.model.specs.Calls.{Outcome, removeCall}
-use Rattle.model.specs.Runs.{begin}
+use Rattle.model.specs.Runs.{effect, begin}
 use Rattle.model.specs.Everything.{everything}
 use Rattle.model.specs.Meaning.Sheets.{marksOf}
 use Rattle.model.specs.Meaning.Worked.{Seen, goes, liveAre, beginOn, sees, seesAll}
+use Rattle.model.specs.Worked.{three, madeOf, made}
 
--- T: three quads from 0, 8, 16, sewn by link 2: (5,12), (13,20)
+-- T, three quads in a row
 unfoldable pub threeQuads : List ℕ
-threeQuads = sewTable 2 (sewTable 2 (addTable 2 (addTable 2 (addTable 2 (replicate 96 unused)))) 2 5 12) 2 13 20
+unfolding three madeOf made effect
+threeQuads = made 2 24 three
 
 -- the sheets of d and e share no cell, by their marks
 unfoldable pub apart : ℕ → List ℕ → ℕ → ℕ → Bool

@@ -6,7 +6,7 @@ use mathlib.Core.List.{List}
 use Rattle.model.specs.Meaning.Sets.{Marked, LeastSet}
 use Rattle.theorems.proofs.Sets.Least.{least-set-unique}
 
--- a step from where P holds leads to where it holds, and a step leads back
+-- P holds of numbers below k; a step from where it holds leads to where it holds, and a step leads back
 pub record Reversible (k : ℕ) (P : ℕ → Type 0) (Step : ℕ → ℕ → Type 0) : Type 0 where
   pub below : (x : ℕ) → P x → x < k
   pub goes : (x y : ℕ) → P x → Step x y → P y
