@@ -16,10 +16,12 @@ use Rattle.model.specs.Remove.{countMarked, removeTable}
 use Rattle.model.specs.NewDarts.{slotsFor}
 use Rattle.model.specs.Split.{splitTable}
 use Rattle.model.specs.Insert.{insertTable}
+use Rattle.model.specs.Vtk.{gridOf, rowsIn}
+use Rattle.model.specs.Faces.{darts, vtkTable}
 use Rattle.model.specs.Journal.{Change, cursor, changesFrom, recordOf, recordLength, written, changesAt, tagAt, put}
 use Rattle.model.specs.Journal.{unbroken}
 use Rattle.model.specs.Checks.{pass, refuse, inOrder, checkChecks, orbitChecks, sheetChecks, addChecks, sewChecks, unsewChecks}
-use Rattle.model.specs.Checks.{pickChecks, listChecks, layerChecks, splitChecks, insertChecks, stepChecks, undoOk, redoOk}
+use Rattle.model.specs.Checks.{pickChecks, listChecks, layerChecks, splitChecks, insertChecks, vtkChecks, stepChecks, undoOk, redoOk}
 
 pub record Outcome : Type 0 where
   pub number : ℕ
@@ -155,6 +157,15 @@ insertCall n t m j tag =
           let hs = ones m in
           commit t (insertTable n t m) m j tag (getD (slotsFor n t hs) 0 0) (λ cs. n * length hs))
       | refuse k p q ↦ refused k p q t m j
+    ]
+
+-- 02, R-1: "Place 0; count: darts added"
+unfoldable pub vtkCall : ℕ → List ℕ → List ℕ → ℕ → List ℕ → Outcome
+vtkCall n t j tag text =
+    let g = gridOf text in
+    elim (inOrder (vtkChecks n t j g)) [
+      | pass ↦ commit t (vtkTable t (rowsIn g)) [] j tag 0 (λ cs. darts (rowsIn g))
+      | refuse k p q ↦ refused k p q t [] j
     ]
 
 -- ---- 02, R-9: a list of sews

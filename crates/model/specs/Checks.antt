@@ -1,13 +1,14 @@
 -- Numbers a call gives back: for each number the check that refuses by it, and for each call its checks, which "run in the
--- order of the numbers", 37 behind 3, 24 to 26 in 5's place, 38 behind them and 28 to 32 behind 8. 15 and 17 ask what a call would write or put
--- back: they stand with the calls.
+-- order of the numbers", 37 behind 3, 24 to 26 in 5's place, 38 and 18 to 23 behind them and 28 to 32 behind 8. 15 and 17 ask what a call would
+-- write or put back: they stand with the calls.
 use Prim.Native.Nat.{ℕ, _+_, _*_, _%_, _^_}
 use mathlib.Core.Bool.{Bool, true, false, not, _&&_, _||_}
 use mathlib.Core.List.{List, [], _∷_, _++_}
+use mathlib.Core.Option.{Option, none, some}
 use lib.ListN.{length}
 use lib.Dec.{leb, ltb, eqb}
-use Rattle.model.specs.Lists.{ones, allOf}
-use Rattle.model.specs.Table.{slots, link, live}
+use Rattle.model.specs.Lists.{ones, allOf, allBelow}
+use Rattle.model.specs.Table.{slots, link, live, unusedSlots}
 use Rattle.model.specs.Map.{MapRule, links-live, links-return, pairs-commute, stays-flat, keepsRule, breakingLink}
 use Rattle.model.specs.Map.{leastBreaking, isMap}
 use Rattle.model.specs.Reach.{inSet}
@@ -18,6 +19,8 @@ use Rattle.model.specs.NewDarts.{slotsFor}
 use Rattle.model.specs.Split.{crosses}
 use Rattle.model.specs.Wall.{drawn, enclosed, sewnWall, turnsWell, connected}
 use Rattle.model.specs.Journal.{cursor, end}
+use Rattle.model.specs.Vtk.{Grid, rowsIn, typesIn}
+use Rattle.model.specs.Faces.{repeats, sharing, allFaces, agree, darts}
 
 -- passed, or refused: the number, the place and the count
 pub data Check : Type 0 where
@@ -87,6 +90,35 @@ mapChecks n t = ruleOk n t links-live ∷ ruleOk n t links-return ∷ ruleOk n t
 unfoldable pub listOk : List ℕ → Check
 listOk l = must (eqb (length l % 3) 0) 38
 
+-- 1 of a read: "n = 2 is refused by 1"
+unfoldable pub solidOk : ℕ → Check
+solidOk n = must (eqb n 3) 1
+
+-- 18: "table not empty"
+unfoldable pub emptyOk : List ℕ → Check
+emptyOk t = must (allBelow (slots t) (λ d. not (live t d))) 18
+
+-- 19: "text not of the form"
+unfoldable pub formOk : Option Grid → Check
+formOk none = refuse 19 0 0
+formOk (some g) = pass
+
+-- 20: "other cell type"
+unfoldable pub typesOk : List ℕ → Check
+typesOk ts = must (allOf (λ x. eqb x 12) ts) 20
+
+-- 21: "vertex repeated in a cell"
+unfoldable pub verticesOk : List (List ℕ) → Check
+verticesOk rows = must (allOf (λ row. not (repeats row)) rows) 21
+
+-- 22: "three cells with the same four vertices in a face"
+unfoldable pub sharingOk : List (List ℕ) → Check
+sharingOk rows = must (allOf (λ r. leb (sharing r rows) 2) (allFaces rows)) 22
+
+-- 23: "same four vertices in another order"
+unfoldable pub orderOk : List (List ℕ) → Check
+orderOk rows = let fs = allFaces rows in must (allOf (λ r. allOf (agree r) fs) fs) 23
+
 -- 6: "i above n, or mask above 2^(n+1) - 1"
 unfoldable pub indexOk : ℕ → ℕ → Check
 indexOk n i = must (leb i n) 6
@@ -149,6 +181,9 @@ addRoomOk n t = must (eqb (length (addSlots n t)) (cellSize n)) 14
 unfoldable pub newRoomOk : ℕ → List ℕ → List ℕ → Check
 newRoomOk n t gs = must (eqb (length (slotsFor n t gs)) (n * length gs)) 14
 
+unfoldable pub cellsRoomOk : List ℕ → List (List ℕ) → Check
+cellsRoomOk t rows = must (leb (darts rows) (length (unusedSlots t))) 14
+
 -- 16: "cursor 2 (undo); cursor = end (redo)"
 unfoldable pub undoOk : List ℕ → Check
 undoOk j = must (not (eqb (cursor j) 2)) 16
@@ -208,6 +243,15 @@ unfoldable pub insertChecks : ℕ → List ℕ → List ℕ → List ℕ → Lis
 insertChecks n t m j =
     dimOk n ∷ tableOk t ∷ marksOk t m ∷ journalOk j
     ∷ (mapChecks n t ++ (blockOk n t ∷ (wallChecks n t m ++ (newRoomOk n t (ones m) ∷ []))))
+
+-- of a read, where g is what the text gives: "18 stands after 5, the others after it in order, then 14, 15"
+unfoldable pub gridChecks : List ℕ → Option Grid → List Check
+gridChecks t g =
+    emptyOk t ∷ formOk g ∷ typesOk (typesIn g) ∷ verticesOk (rowsIn g) ∷ sharingOk (rowsIn g) ∷ orderOk (rowsIn g)
+    ∷ cellsRoomOk t (rowsIn g) ∷ []
+
+unfoldable pub vtkChecks : ℕ → List ℕ → List ℕ → Option Grid → List Check
+vtkChecks n t j g = solidOk n ∷ tableOk t ∷ journalOk j ∷ (mapChecks n t ++ gridChecks t g)
 
 -- of undo and redo, of which `there` says that there is a record
 unfoldable pub stepChecks : ℕ → List ℕ → List ℕ → Check → List Check

@@ -1,5 +1,6 @@
 -- To unfold `everything` is to unfold each definition that a call cites, file by file: for proofs that compute.
 use Rattle.model.specs.Lists.{tabulateFrom, tabulate, count, onesFrom, indexOf, leastFrom, least, allFrom, allBelow, allOf}
+use Rattle.model.specs.Lists.{anyOf, howMany, equal}
 use Rattle.model.specs.Table.{slots, link, live, walk, unusedSlots, retable, relinkAt, relink}
 use Rattle.model.specs.Map.{returns, crossed, keepsAt, keepsRule, breakingLink, keepsRules, breaksRule, leastBreaking, isMap}
 use Rattle.model.specs.Reach.{flood, steps, closure, linksFrom, links, inSet}
@@ -19,18 +20,26 @@ use Rattle.model.specs.Split.{crosses, newDartLink, splitLink, splitBy, 
 use Rattle.model.specs.Wall.{turnsOn, turnFrom, turnEnd, endsFree, next, drawn, closedAt, enclosed, sewnWall, bothFree, nextOver}
 use Rattle.model.specs.Wall.{nextApart, turnsWell, wallTable, wallReached, connected}
 use Rattle.model.specs.Insert.{layerLink, laidLink, laid, insertTable}
+use Rattle.model.specs.Text.{begins, isDigit, digits, number}
+use Rattle.model.specs.Vtk.{isBlank, ended, wordsFrom, words, behindLine, behindTitle, behindWords, counted, numbers, rowsOf}
+use Rattle.model.specs.Vtk.{pointsOf, cellsOf, typesOf, sectionsOf, eights, fits, gridOf, rowsIn, typesIn}
+use Rattle.model.specs.Faces.{listedAt, onward, sites, pick, round, faceDarts, facesFrom, faces, allFaces, among, sameFour}
+use Rattle.model.specs.Faces.{turned, reads, sameOrder, repeats, sharing, agree, darts, roundAt, meets, partner, ownLink}
+use Rattle.model.specs.Faces.{readLink, vtkTable}
 use Rattle.model.specs.Checks.{must, mustAt, andThen, inOrder, dimOk, tableOk, marksOk, journalOk, ruleNumber, ruleOk, mapChecks}
 use Rattle.model.specs.Checks.{indexOk, maskOk, dartOk, blockOk, apartOk, freeOk, sewnOk, pairingOk, crossingOk, addRoomOk}
 use Rattle.model.specs.Checks.{newRoomOk, undoOk, redoOk, checkChecks, orbitChecks, sheetChecks, addChecks}
 use Rattle.model.specs.Checks.{queueOk, pickChecks, listOk, sidesChecks, sewChecks, listChecks, unsewChecks, layerChecks}
 use Rattle.model.specs.Checks.{splitChecks, stepChecks}
 use Rattle.model.specs.Checks.{drawnOk, enclosedOk, sewnWallOk, turnsOk, connectedOk, wallChecks, insertChecks}
+use Rattle.model.specs.Checks.{solidOk, emptyOk, formOk, typesOk, verticesOk, sharingOk, orderOk, cellsRoomOk, gridChecks}
+use Rattle.model.specs.Checks.{vtkChecks}
 use Rattle.model.specs.Calls.{refused, commit, checkCall, orbitCall, sheetCall, addCall, sewCall, unsewCall}
-use Rattle.model.specs.Calls.{pickCall, pickTaken, removeCall, splitCall, insertCall, items, sewItems, sewListCall}
-use Rattle.model.specs.Calls.{stepOutcome, undoCall, redoCall}
+use Rattle.model.specs.Calls.{pickCall, pickTaken, removeCall, splitCall, insertCall, vtkCall, items, sewItems}
+use Rattle.model.specs.Calls.{sewListCall, stepOutcome, undoCall, redoCall}
 
 unfoldable pub openLists : Unit {0}
-unfolding tabulateFrom tabulate count onesFrom indexOf leastFrom least allFrom allBelow allOf
+unfolding tabulateFrom tabulate count onesFrom indexOf leastFrom least allFrom allBelow allOf anyOf howMany equal
 openLists = tt
 
 unfoldable pub openTable : Unit {0}
@@ -89,6 +98,26 @@ unfoldable pub openInsert : Unit {0}
 unfolding wallTable wallReached connected layerLink laidLink laid insertTable
 openInsert = tt
 
+unfoldable pub openText : Unit {0}
+unfolding begins isDigit digits number
+openText = tt
+
+unfoldable pub openVtk : Unit {0}
+unfolding isBlank ended wordsFrom words behindLine behindTitle behindWords counted numbers rowsOf pointsOf cellsOf typesOf sectionsOf
+openVtk = tt
+
+unfoldable pub openGrid : Unit {0}
+unfolding eights fits gridOf rowsIn typesIn
+openGrid = tt
+
+unfoldable pub openFaces : Unit {0}
+unfolding listedAt onward sites pick round faceDarts facesFrom faces allFaces among sameFour turned reads sameOrder repeats sharing agree
+openFaces = tt
+
+unfoldable pub openFacesMore : Unit {0}
+unfolding darts roundAt meets partner ownLink readLink vtkTable
+openFacesMore = tt
+
 unfoldable pub openChecks : Unit {0}
 unfolding must mustAt andThen inOrder dimOk tableOk marksOk journalOk ruleNumber ruleOk mapChecks indexOk maskOk dartOk blockOk apartOk freeOk
 openChecks = tt
@@ -105,12 +134,16 @@ unfoldable pub openWallChecks : Unit {0}
 unfolding drawnOk enclosedOk sewnWallOk turnsOk connectedOk wallChecks insertChecks
 openWallChecks = tt
 
+unfoldable pub openVtkChecks : Unit {0}
+unfolding solidOk emptyOk formOk typesOk verticesOk sharingOk orderOk cellsRoomOk gridChecks vtkChecks
+openVtkChecks = tt
+
 unfoldable pub openCalls : Unit {0}
 unfolding refused commit checkCall orbitCall sheetCall addCall sewCall unsewCall removeCall splitCall stepOutcome undoCall
 openCalls = tt
 
 unfoldable pub openCallsMore : Unit {0}
-unfolding pickCall pickTaken insertCall items sewItems sewListCall redoCall
+unfolding pickCall pickTaken insertCall vtkCall items sewItems sewListCall redoCall
 openCallsMore = tt
 
 unfoldable pub openMaps : Unit {0}
@@ -121,10 +154,14 @@ unfoldable pub openOperations : Unit {0}
 unfolding openJournal openOrbit openSheet openAdd openNumbering openSew openRemove openSplit openWall openInsert
 openOperations = tt
 
+unfoldable pub openTexts : Unit {0}
+unfolding openText openVtk openGrid openFaces openFacesMore
+openTexts = tt
+
 unfoldable pub openAnswers : Unit {0}
-unfolding openChecks openChecksMore openChecksMost openWallChecks openCalls openCallsMore
+unfolding openChecks openChecksMore openChecksMost openWallChecks openVtkChecks openCalls openCallsMore
 openAnswers = tt
 
 unfoldable pub everything : Unit {0}
-unfolding openMaps openOperations openAnswers
+unfolding openMaps openOperations openTexts openAnswers
 everything = tt

@@ -14,12 +14,16 @@ pub mod NewDarts
 pub mod Split
 pub mod Wall
 pub mod Insert
+pub mod Text
+pub mod Vtk
+pub mod Faces
 pub mod Checks
 pub mod Calls
 pub mod Runs
 pub mod Meaning
 pub mod Everything
 pub mod Worked
-pub mod Text
+pub mod WorkedVtk
 pub mod Session
+pub mod Import
 pub mod WorkedSession

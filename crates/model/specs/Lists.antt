@@ -47,10 +47,18 @@ allFrom (suc k) a p = elim (p a) [ true ↦ allFrom k (suc a) p | false ↦ fals
 unfoldable pub allBelow : ℕ → (ℕ → Bool) → Bool
 allBelow k p = allFrom k 0 p
 
--- each number of the list passes
-unfoldable pub allOf : (ℕ → Bool) → List ℕ → Bool
+-- each of the list passes; one of it does
+unfoldable pub allOf : {A : Type 0} → (A → Bool) → List A → Bool
 allOf p [] = true
 allOf p (x ∷ xs) = elim (p x) [ true ↦ allOf p xs | false ↦ false ]
+
+unfoldable pub anyOf : {A : Type 0} → (A → Bool) → List A → Bool
+anyOf p [] = false
+anyOf p (x ∷ xs) = elim (p x) [ true ↦ true | false ↦ anyOf p xs ]
+
+-- how many of 0, .., k - 1 pass
+unfoldable pub howMany : ℕ → (ℕ → Bool) → ℕ
+howMany k p = count 1 (tabulate k (λ x. elim (p x) [ true ↦ 1 | false ↦ 0 ]))
 
 -- the two lists have the same entries, in the same order
 unfoldable pub equal : List ℕ → List ℕ → Bool

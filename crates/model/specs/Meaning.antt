@@ -11,6 +11,7 @@ pub mod Places
 pub mod Sheets
 pub mod Splits
 pub mod Walls
+pub mod Vtk
 pub mod Ends
 pub mod Records
 pub mod Numbers

@@ -1,6 +1,6 @@
 -- Demand 3: runs of calls over one table and one journal, and the operations that stand after them.
--- "An accepted add, sew, unsew, remove or split .. is an operation in demand 3, and no other is"; of 02 insert is one too, and each
--- item of a list of sews.
+-- "An accepted add, sew, unsew, remove or split .. is an operation in demand 3, and no other is"; of 02 insert and the reading of a
+-- VTK text are each one too, and each item of a list of sews.
 use Prim.Native.Nat.{ℕ, zero, suc, _*_, _-_}
 use mathlib.Core.List.{List, [], _∷_, _++_}
 use lib.ListN.{replicate}
@@ -10,19 +10,21 @@ use Rattle.model.specs.Sew.{sewTable, unsewTable}
 use Rattle.model.specs.Remove.{removeTable}
 use Rattle.model.specs.Split.{splitTable}
 use Rattle.model.specs.Insert.{insertTable}
+use Rattle.model.specs.Vtk.{gridOf, rowsIn}
+use Rattle.model.specs.Faces.{vtkTable}
 use Rattle.model.specs.Checks.{pass, refuse, inOrder, listChecks}
 use Rattle.model.specs.Calls.{Outcome, checkCall, orbitCall, sheetCall, addCall, sewCall, unsewCall, removeCall, splitCall}
-use Rattle.model.specs.Calls.{pickCall, insertCall, Item, items, sewListCall, undoCall, redoCall}
+use Rattle.model.specs.Calls.{pickCall, insertCall, vtkCall, Item, items, sewListCall, undoCall, redoCall}
 
 -- ---- calls as data
 
--- an operation: sew (i, d, e); unsew (i, d); insert (the wall's marks), which it reads and leaves
+-- an operation: sew (i, d, e); unsew (i, d); insert (the wall's marks), which it reads and leaves; vtk (the bytes of the text)
 pub data Op : Type 0 where
   add : Op
   sew : ℕ → ℕ → ℕ → Op
   unsew : ℕ → ℕ → Op
   remove split : ℕ → Op
-  insert : List ℕ → Op
+  insert vtk : List ℕ → Op
 
 -- orbit (mask, d); pick (the queue, d); an operation with its tag
 pub data Call : Type 0 where
@@ -68,6 +70,9 @@ doCall n o (Call.op tag (Op.split d)) = splitCall n (o .table) (o .marks) (o .jo
 doCall n o (Call.op tag (Op.insert w)) =
     let r = insertCall n (o .table) w (o .journal) tag in
     keeping r (o .marks) (r .journal)
+doCall n o (Call.op tag (Op.vtk text)) =
+    let r = vtkCall n (o .table) (o .journal) tag text in
+    keeping r (o .marks) (r .journal)
 
 -- ---- operations
 
@@ -79,6 +84,7 @@ effect n t (Op.unsew i d) = unsewTable n t i d
 effect n t (Op.remove d) = removeTable n t d
 effect n t (Op.split d) = splitTable n t d
 effect n t (Op.insert w) = insertTable n t w
+effect n t (Op.vtk text) = vtkTable t (rowsIn (gridOf text))
 
 -- an operation and the tag that it was called with
 pub record Tagged : Type 0 where

@@ -92,11 +92,15 @@ printed (iDue n o p) v = []
 printed (dDue n o p i) v = []
 printed (eDue n o p i d) v = answered (doCall n o (callOf p sessionTag i d v))
 
--- "`dart=` and `to=` with its four links, parted by commas"
+-- "`to=` with its four links, parted by commas"
+unfoldable pub toLine : List ℕ → ℕ → List ℕ
+toLine t d =
+    bytes "to=" ++ decimal (link t 0 d) ++ bytes "," ++ decimal (link t 1 d) ++ bytes "," ++ decimal (link t 2 d)
+    ++ bytes "," ++ said [] (link t 3 d)
+
+-- "`dart=` and `to=`"
 unfoldable pub dartLines : List ℕ → ℕ → List ℕ
-dartLines t d =
-    said (bytes "dart=") d ++ bytes "to=" ++ decimal (link t 0 d) ++ bytes "," ++ decimal (link t 1 d) ++ bytes ","
-    ++ decimal (link t 2 d) ++ bytes "," ++ said [] (link t 3 d)
+dartLines t d = said (bytes "dart=") d ++ toLine t d
 
 -- the live slots among a, a + 1, .. (k of them): "by rising dart"
 unfoldable pub dartsFrom : ℕ → ℕ → List ℕ → List ℕ

@@ -8,10 +8,12 @@ use lib.ListN.{length, take}
 use Rattle.model.specs.Lists.{equal}
 use Rattle.model.specs.Table.{liveCount}
 use Rattle.model.specs.Text.{bytes, begins, isDigit, digits, number, upTo, lastDigits, decimal, said}
+use Rattle.model.specs.Calls.{refused}
 use Rattle.model.specs.Runs.{doCall, keeping, begin}
 use Rattle.model.specs.Session.{Due, dimDue, slotsDue, opDue, iDue, dDue, eDue}
-use Rattle.model.specs.Session.{names, calls, callOf, placeFrom, behind, reads, left, taken, answered, printed, dartLines}
+use Rattle.model.specs.Session.{names, calls, callOf, placeFrom, behind, reads, left, taken, answered, printed, toLine, dartLines}
 use Rattle.model.specs.Session.{dartsFrom, ending, bad, closing, talk, session}
+use Rattle.model.specs.Import.{toLines, mapLines, told}
 use Rattle.model.specs.Everything.{everything}
 
 -- an input, and what is printed for it
@@ -89,7 +91,7 @@ unfolding begins isDigit digits number upTo lastDigits decimal said
 openText = tt
 
 unfoldable openLines : Unit {0}
-unfolding names calls callOf placeFrom behind reads left taken answered printed dartLines dartsFrom ending bad closing
+unfolding names calls callOf placeFrom behind reads left taken answered printed toLine dartLines dartsFrom ending bad closing
 openLines = tt
 
 pub all-printed : failing talks ≡ []
@@ -121,3 +123,12 @@ pub links-printed :
     dartLines (7 ∷ 7 ∷ 7 ∷ 7 ∷ 0 ∷ 9 ∷ 10 ∷ 4294967295 ∷ []) 1 ≡ bytes "dart=1\nto=0,9,10,4294967295\n"
 unfolding everything openText openLines
 links-printed = refl
+
+-- what import prints of a table's first slots, and of a refusal
+pub map-printed : mapLines 3 2 (1 ∷ 0 ∷ 0 ∷ 4 ∷ 10 ∷ 1 ∷ 1 ∷ 99 ∷ 7 ∷ 7 ∷ 7 ∷ 7 ∷ []) ≡ bytes "dim=3\nslots=2\nto=1,0,0,4\nto=10,1,1,99\n"
+unfolding everything openText openLines toLines mapLines
+map-printed = refl
+
+pub refusal-told : told (refused 19 0 0 [] [] []) ≡ bytes "no=19\nat=0\nn=0\n"
+unfolding everything openText openLines told
+refusal-told = refl

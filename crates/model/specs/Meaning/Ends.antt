@@ -18,11 +18,14 @@ use Rattle.model.specs.Remove.{countMarked, removeTable}
 use Rattle.model.specs.NewDarts.{slotsFor}
 use Rattle.model.specs.Split.{splitTable}
 use Rattle.model.specs.Insert.{insertTable}
+use Rattle.model.specs.Vtk.{gridOf, rowsIn}
+use Rattle.model.specs.Faces.{darts, vtkTable}
 use Rattle.model.specs.Journal.{cursor, end, changesFrom, recordOf, recordLength, written, changesAt, tagAt, put, unbroken}
 use Rattle.model.specs.Checks.{Check, pass, refuse, must, inOrder, ruleNumber}
-use Rattle.model.specs.Checks.{dimOk, tableOk, marksOk, queueOk, journalOk, pairingOk, undoOk, redoOk}
+use Rattle.model.specs.Checks.{dimOk, solidOk, tableOk, marksOk, queueOk, journalOk, pairingOk, undoOk, redoOk}
 use Rattle.model.specs.Checks.{checkChecks, orbitChecks, sheetChecks, pickChecks}
-use Rattle.model.specs.Checks.{addChecks, sidesChecks, sewChecks, unsewChecks, layerChecks, splitChecks, insertChecks, stepChecks}
+use Rattle.model.specs.Checks.{addChecks, sidesChecks, sewChecks, unsewChecks, layerChecks, splitChecks, insertChecks, vtkChecks}
+use Rattle.model.specs.Checks.{stepChecks}
 use Rattle.model.specs.Calls.{Outcome, refused}
 use Rattle.model.specs.Runs.{Op, Call, doCall, effect}
 use Rattle.model.specs.Meaning.Lists.{member}
@@ -68,6 +71,9 @@ checksOf n t m j (Call.op tag (Op.split d)) =
     let s = sheet n t d in
     layerChecks n t m j d ++ (splitChecks n t s (ones s) ++ (recordOk tag t (splitTable n t d) j ∷ []))
 checksOf n t m j (Call.op tag (Op.insert w)) = insertChecks n t w j ++ (recordOk tag t (insertTable n t w) j ∷ [])
+checksOf n t m j (Call.op tag (Op.vtk text)) =
+    let g = gridOf text in
+    vtkChecks n t j g ++ (recordOk tag t (vtkTable t (rowsIn g)) j ∷ [])
 checksOf n t m j Call.undo = stepChecks n t j (undoOk j) ++ (stepOk false n t j (undoStart j) (undoCount j) ∷ [])
 checksOf n t m j Call.redo = stepChecks n t j (redoOk j) ++ (stepOk true n t j (cursor j) (redoCount j) ∷ [])
 
@@ -90,10 +96,11 @@ firstChecks n o (Call.op tag (Op.split d)) =
     dimOk n ∷ tableOk (o .table) ∷ marksOk (o .table) (o .marks) ∷ journalOk (o .journal) ∷ []
 firstChecks n o (Call.op tag (Op.insert w)) =
     dimOk n ∷ tableOk (o .table) ∷ marksOk (o .table) w ∷ journalOk (o .journal) ∷ []
+firstChecks n o (Call.op tag (Op.vtk text)) = solidOk n ∷ tableOk (o .table) ∷ journalOk (o .journal) ∷ []
 firstChecks n o Call.undo = dimOk n ∷ tableOk (o .table) ∷ journalOk (o .journal) ∷ []
 firstChecks n o Call.redo = dimOk n ∷ tableOk (o .table) ∷ journalOk (o .journal) ∷ []
 
--- the numbers of a call's checks: the column "Calls" of 01's table, and 02's R-3, R-5 and R-13. sew has 7 twice, for d and for e
+-- the numbers of a call's checks: the column "Calls" of 01's table, and 02's R-1, R-3, R-5 and R-13. sew has 7 twice, for d and for e
 abbrev pub opNumbers : Op → List ℕ
 opNumbers Op.add = 1 ∷ 2 ∷ 4 ∷ 5 ∷ 24 ∷ 25 ∷ 26 ∷ 14 ∷ 15 ∷ []
 opNumbers (Op.sew i d e) = 1 ∷ 2 ∷ 4 ∷ 5 ∷ 24 ∷ 25 ∷ 26 ∷ 6 ∷ 7 ∷ 7 ∷ 9 ∷ 10 ∷ 12 ∷ 15 ∷ []
@@ -101,6 +108,7 @@ opNumbers (Op.unsew i d) = 1 ∷ 2 ∷ 4 ∷ 5 ∷ 24 ∷ 25 ∷ 26 ∷ 6 ∷ 7 
 opNumbers (Op.remove d) = 1 ∷ 2 ∷ 3 ∷ 4 ∷ 5 ∷ 24 ∷ 25 ∷ 26 ∷ 7 ∷ 8 ∷ 15 ∷ []
 opNumbers (Op.split d) = 1 ∷ 2 ∷ 3 ∷ 4 ∷ 5 ∷ 24 ∷ 25 ∷ 26 ∷ 7 ∷ 8 ∷ 13 ∷ 14 ∷ 15 ∷ []
 opNumbers (Op.insert w) = 1 ∷ 2 ∷ 3 ∷ 4 ∷ 5 ∷ 24 ∷ 25 ∷ 26 ∷ 8 ∷ 28 ∷ 29 ∷ 30 ∷ 31 ∷ 32 ∷ 14 ∷ 15 ∷ []
+opNumbers (Op.vtk text) = 1 ∷ 2 ∷ 4 ∷ 5 ∷ 24 ∷ 25 ∷ 26 ∷ 18 ∷ 19 ∷ 20 ∷ 21 ∷ 22 ∷ 23 ∷ 14 ∷ 15 ∷ []
 
 abbrev pub numbers : Call → List ℕ
 numbers Call.check = 1 ∷ 2 ∷ 5 ∷ 24 ∷ 25 ∷ 26 ∷ []
@@ -120,6 +128,7 @@ Passed n t m j (Op.remove d) = inOrder (layerChecks n t m j d) ≡ pass
 Passed n t m j (Op.split d) =
     (inOrder (layerChecks n t m j d) ≡ pass) × (inOrder (splitChecks n t (sheet n t d) (ones (sheet n t d))) ≡ pass)
 Passed n t m j (Op.insert w) = inOrder (insertChecks n t w j) ≡ pass
+Passed n t m j (Op.vtk text) = inOrder (vtkChecks n t j (gridOf text)) ≡ pass
 
 -- ---- a refusal by the number k
 
@@ -159,6 +168,7 @@ refusalMarks n o (Call.op tag (Op.unsew i d)) k = o .marks
 refusalMarks n o (Call.op tag (Op.remove d)) k = layerMarks n o d k
 refusalMarks n o (Call.op tag (Op.split d)) k = layerMarks n o d k
 refusalMarks n o (Call.op tag (Op.insert w)) k = o .marks
+refusalMarks n o (Call.op tag (Op.vtk text)) k = o .marks
 refusalMarks n o Call.undo k = o .marks
 refusalMarks n o Call.redo k = o .marks
 
@@ -225,6 +235,9 @@ doneOf n t m j (Call.op tag (Op.split d)) =
     changing t j tag (splitTable n t d) (getD (slotsFor n t (ones s)) 0 0) (n * length (ones s)) (sheetMarks n t s)
 doneOf n t m j (Call.op tag (Op.insert w)) =
     changing t j tag (insertTable n t w) (getD (slotsFor n t (ones w)) 0 0) (n * length (ones w)) m
+doneOf n t m j (Call.op tag (Op.vtk text)) =
+    let rows = rowsIn (gridOf text) in
+    changing t j tag (vtkTable t rows) 0 (darts rows) m
 doneOf n t m j Call.undo = stepping false t m j (undoStart j) (undoCount j) (undoStart j)
 doneOf n t m j Call.redo = stepping true t m j (cursor j) (redoCount j) (cursor j + recordLength (redoCount j))
 

@@ -1,5 +1,5 @@
 -- "Numbers a call gives back": 01's table, with the numbers of 02, as rows, a number and when it is given, and for each call
--- its rows in the order of the numbers. A call gives the number of the first row that is given, or 0 (`First`).
+-- its rows in the order of its checks. A call gives the number of the first row that is given, or 0 (`First`).
 use Prim.Native.Nat.{ℕ, _+_, _*_, _-_, _%_, _^_, _≤_, _<_}
 use mathlib.Core.Path.{_≡_}
 use mathlib.Core.Logic.{_⊎_, _≢_}
@@ -17,6 +17,8 @@ use Rattle.model.specs.Remove.{removeTable}
 use Rattle.model.specs.Split.{splitTable}
 use Rattle.model.specs.Wall.{wallReached}
 use Rattle.model.specs.Insert.{insertTable}
+use Rattle.model.specs.Vtk.{Grid, gridOf, rowsIn, typesIn}
+use Rattle.model.specs.Faces.{darts, vtkTable}
 use Rattle.model.specs.Journal.{cursor, end, changesFrom, recordOf, changesAt, put}
 use Rattle.model.specs.Checks.{ruleNumber}
 use Rattle.model.specs.Runs.{Op, Call}
@@ -26,6 +28,7 @@ use Rattle.model.specs.Meaning.Pairings.{Pairing}
 use Rattle.model.specs.Meaning.Records.{Broken}
 use Rattle.model.specs.Meaning.Sets.{Marked}
 use Rattle.model.specs.Meaning.Walls.{BadMark, Leaves, Needed}
+use Rattle.model.specs.Meaning.Vtk.{OfForm, OtherType, Repeated, ThreeCells, OtherCycle}
 
 pub record NumberRow : Type 1 where
   pub number : ℕ
@@ -41,6 +44,10 @@ First (r ∷ rs) z = (r .given × (z ≡ r .number)) ⊎ ((r .given → ⊥) × 
 -- "n not 2 or 3"
 abbrev pub dimRow : ℕ → NumberRow
 dimRow n = record { number = 1; given = (n ≢ 2) × (n ≢ 3) }
+
+-- of a read "n = 2 is refused by 1"
+abbrev pub solidRow : ℕ → NumberRow
+solidRow n = record { number = 1; given = n ≢ 3 }
 
 -- "table length no multiple of 4, or above 262,144"
 abbrev pub tableRow : List ℕ → NumberRow
@@ -72,6 +79,30 @@ ruleRow n t r = record { number = ruleNumber r; given = (d : ℕ) × (i : ℕ) �
 
 abbrev pub mapRows : ℕ → List ℕ → List NumberRow
 mapRows n t = ruleRow n t links-live ∷ ruleRow n t links-return ∷ ruleRow n t pairs-commute ∷ ruleRow n t stays-flat ∷ []
+
+-- "table not empty"
+abbrev pub emptyRow : List ℕ → NumberRow
+emptyRow t = record { number = 18; given = (d : ℕ) × (d < slots t) × (live t d ≡ true) }
+
+-- "text not of the form"
+abbrev pub formRow : List ℕ → NumberRow
+formRow text = record { number = 19; given = (g : Grid) → OfForm text g → ⊥ }
+
+-- "other cell type"
+abbrev pub typesRow : List ℕ → NumberRow
+typesRow types = record { number = 20; given = OtherType types }
+
+-- "vertex repeated in a cell"
+abbrev pub verticesRow : List (List ℕ) → NumberRow
+verticesRow rows = record { number = 21; given = Repeated rows }
+
+-- "three cells with the same four vertices in a face"
+abbrev pub sharingRow : List (List ℕ) → NumberRow
+sharingRow rows = record { number = 22; given = ThreeCells rows }
+
+-- "same four vertices in another order"
+abbrev pub orderRow : List (List ℕ) → NumberRow
+orderRow rows = record { number = 23; given = OtherCycle rows }
 
 -- "i above n, or mask above 2^(n+1) - 1"
 abbrev pub indexRow : ℕ → ℕ → NumberRow
@@ -177,6 +208,10 @@ numberRows n t m j (Call.op tag (Op.insert w)) =
     dimRow n ∷ tableRow t ∷ marksRow t w ∷ journalRow j ∷ (mapRows n t ++ (blockRow n t ∷ drawnRow t w ∷ enclosedRow n t w
     ∷ sewnWallRow n t w ∷ turnsRow n t w ∷ connectedRow n t w ∷ roomRow t (n * length (ones w))
     ∷ recordRow tag t (insertTable n t w) j ∷ []))
+numberRows n t m j (Call.op tag (Op.vtk text)) =
+    let rows = rowsIn (gridOf text) in
+    solidRow n ∷ tableRow t ∷ journalRow j ∷ (mapRows n t ++ (emptyRow t ∷ formRow text ∷ typesRow (typesIn (gridOf text))
+    ∷ verticesRow rows ∷ sharingRow rows ∷ orderRow rows ∷ roomRow t (darts rows) ∷ recordRow tag t (vtkTable t rows) j ∷ []))
 numberRows n t m j Call.undo =
     dimRow n ∷ tableRow t ∷ journalRow j
     ∷ (mapRows n t ++ (undoRow j ∷ stepRow false n t j (undoStart j) (undoCount j) ∷ []))

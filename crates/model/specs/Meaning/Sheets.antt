@@ -1,10 +1,10 @@
 -- Sheets: the dart that one begins with, its cells, where it crosses itself, and how many darts of a cell it holds.
 use Prim.Native.Nat.{ℕ, _≤_}
 use mathlib.Core.Path.{_≡_}
-use mathlib.Core.Bool.{Bool, true, false, _&&_}
+use mathlib.Core.Bool.{true, false, _&&_}
 use mathlib.Core.List.{List, [], _∷_, List·Memᴰ as In}
 use lib.Dec.{eqb}
-use Rattle.model.specs.Lists.{count, tabulate}
+use Rattle.model.specs.Lists.{howMany}
 use Rattle.model.specs.Table.{slots, link, walk, live}
 use Rattle.model.specs.Reach.{inSet}
 use Rattle.model.specs.Cell.{cellOf}
@@ -43,10 +43,6 @@ abbrev pub Crossing : List ℕ → List ℕ → Type 0
 Crossing t s = (g : ℕ) × Marked s g × Marked s (link t 1 g)
 
 -- ---- counting
-
--- how many of 0, .., k - 1 pass
-unfoldable pub howMany : ℕ → (ℕ → Bool) → ℕ
-howMany k p = count 1 (tabulate k (λ x. elim (p x) [ true ↦ 1 | false ↦ 0 ]))
 
 -- how many darts the set s and the cell of x have in common
 unfoldable pub shared : ℕ → List ℕ → List ℕ → ℕ → ℕ
