@@ -7,7 +7,7 @@ use mathlib.Core.Path.{_≡_, sym, ap, _∙_}
 use mathlib.Core.Logic.{_↔_}
 use mathlib.Core.List.{List, [], _∷_}
 use lib.ListN.{getD}
-use Rattle.model.specs.Lists.{indexOf, count}
+use Rattle.model.specs.Lists.{indexOf, count, howMany}
 use Rattle.model.specs.Table.{slots}
 use Rattle.model.specs.Sheet.{sheet}
 use Rattle.model.specs.Remove.{marked, removeTable}
@@ -15,7 +15,7 @@ use Rattle.model.specs.Checks.{mapChecks, sheetChecks}
 use Rattle.model.specs.Calls.{Outcome, sheetCall, removeCall}
 use Rattle.model.specs.Runs.{Op, Call, doCall, keeping, effect}
 use Rattle.model.specs.Meaning.Ends.{lent, numbers, checksOf, doneOf}
-use Rattle.model.specs.Meaning.Sheets.{BlockDart, marksOf, howMany}
+use Rattle.model.specs.Meaning.Sheets.{BlockDart, marksOf}
 use Rattle.theorems.proofs.Layers.Counts.{howMany-same}
 use Rattle.theorems.proofs.Layers.Marks.{marks-one, sheet-layer}
 use Rattle.theorems.proofs.Layers.Remove.{layer-slots, remove-removes}

@@ -8,3 +8,4 @@ pub mod Layers
 pub mod Insert
 pub mod Calls
 pub mod History
+pub mod Vtk

@@ -6,6 +6,7 @@ use mathlib.Core.Logic.{_⊎_, inl, inr, _≢_}
 use mathlib.Core.Bool.{Bool, true, false, not, _||_}
 use mathlib.Core.List.{List, [], _∷_, _++_, List·Memᴰ as In, Memᴰ·cast as in-cast}
 use mathlib.Core.List.{List·Memᴰ·head as here, List·Memᴰ·tail as there}
+use mathlib.Core.Option.{Option, none, some}
 use native.Mathlib.Omega.{arith}
 use lib.ListN.{length, getD, take, drop}
 use borrow.Author.Tests.{ne-eqb, not-true}
@@ -17,7 +18,9 @@ use Rattle.model.specs.Checks.{blockOk, apartOk, freeOk, listOk, listChecks}
 use Rattle.model.specs.Checks.{drawnOk, enclosedOk, sewnWallOk, turnsOk, connectedOk}
 use Rattle.model.specs.Checks.{sewnOk, pairingOk, crossingOk, addRoomOk, newRoomOk, undoOk, redoOk}
 use Rattle.model.specs.Checks.{checkChecks, orbitChecks, sheetChecks, pickChecks, addChecks, sidesChecks, unsewChecks}
-use Rattle.model.specs.Checks.{layerChecks, splitChecks, wallChecks, insertChecks, stepChecks}
+use Rattle.model.specs.Checks.{layerChecks, splitChecks, wallChecks, insertChecks, gridChecks, vtkChecks, stepChecks}
+use Rattle.model.specs.Checks.{solidOk, emptyOk, formOk, typesOk, verticesOk, sharingOk, orderOk, cellsRoomOk}
+use Rattle.model.specs.Vtk.{Grid, gridOf}
 use Rattle.model.specs.Calls.{Outcome}
 use Rattle.model.specs.Runs.{Op, Call}
 use Rattle.model.specs.Meaning.Lists.{member}
@@ -223,6 +226,11 @@ module _ {n : ℕ} {t j : List ℕ} where
       refused-map : ruleOk n t r ≢ pass → isMap n t ≡ false
       refused-map h = test (isMap n t) (λ e. absurd (h (map-keeps n t e r))) (λ e. e)
 
+  form-19 : (g : Option Grid) → Numbered n t j 19 (formOk g)
+  unfolding formOk must member indexOf
+  form-19 none = plain false 19 refl
+  form-19 (some g) = λ k p q e. not-pass (sym e)
+
   -- a refusal has one of the numbers, and says what that number says
   pub refusal-says : {zs : List ℕ} (cs : List Check) → Numbers n t j zs cs → (k p q : ℕ) → inOrder cs ≡ refuse k p q
       → In k zs × Says n t j k p q
@@ -258,7 +266,7 @@ module _ (n : ℕ) (o : Outcome) where
   list-numbers l = plain _ 1 refl then plain _ 2 refl then journal-4 then map-then (plain _ 38 refl then last)
 
   pub call-numbers : (c : Call) → Has (numbers c) (checks n o c)
-  unfolding checksOf mapChecks checkChecks orbitChecks sheetChecks pickChecks addChecks sidesChecks unsewChecks layerChecks splitChecks wallChecks insertChecks stepChecks dimOk tableOk marksOk queueOk indexOk maskOk dartOk drawnOk enclosedOk sewnWallOk turnsOk connectedOk apartOk freeOk sewnOk pairingOk crossingOk addRoomOk newRoomOk undoOk redoOk recordOk stepOk member indexOf
+  unfolding checksOf mapChecks checkChecks orbitChecks sheetChecks pickChecks addChecks sidesChecks unsewChecks layerChecks splitChecks wallChecks insertChecks gridChecks vtkChecks stepChecks dimOk solidOk tableOk marksOk queueOk indexOk maskOk dartOk drawnOk enclosedOk sewnWallOk turnsOk connectedOk emptyOk typesOk verticesOk sharingOk orderOk cellsRoomOk apartOk freeOk sewnOk pairingOk crossingOk addRoomOk newRoomOk undoOk redoOk recordOk stepOk member indexOf
   call-numbers Call.check = plain _ 1 refl then plain _ 2 refl then map-then last
   call-numbers (Call.orbit mask d) =
       plain _ 1 refl then plain _ 2 refl then plain _ 3 refl then map-then (plain _ 6 refl then plain _ 7 refl then last)
@@ -283,6 +291,10 @@ module _ (n : ℕ) (o : Outcome) where
   call-numbers (Call.op tag (Op.insert w)) =
       plain _ 1 refl then plain _ 2 refl then plain _ 3 refl then journal-4 then map-then (block-8 then plain _ 28 refl
       then plain _ 29 refl then plain _ 30 refl then plain _ 31 refl then plain _ 32 refl then plain _ 14 refl
+      then plain _ 15 refl then last)
+  call-numbers (Call.op tag (Op.vtk text)) =
+      plain _ 1 refl then plain _ 2 refl then journal-4 then map-then (plain _ 18 refl then form-19 (gridOf text)
+      then plain _ 20 refl then plain _ 21 refl then plain _ 22 refl then plain _ 23 refl then plain _ 14 refl
       then plain _ 15 refl then last)
   call-numbers Call.undo =
       plain _ 1 refl then plain _ 2 refl then journal-4 then map-then (plain _ 16 refl then plain _ 17 refl then last)

@@ -9,11 +9,12 @@ use mathlib.Core.List.{List·Memᴰ·head as here, List·Memᴰ·tail as there, 
 use Rattle.model.specs.Lists.{ones, indexOf}
 use Rattle.model.specs.Journal.{changesFrom, recordOf, written}
 use Rattle.model.specs.Sheet.{sheet, sheetMarks}
+use Rattle.model.specs.Vtk.{gridOf}
 use Rattle.model.specs.Checks.{Check, pass, refuse, must, andThen, inOrder, pairingOk}
 use Rattle.model.specs.Checks.{mapChecks, addChecks, sidesChecks, sewChecks, unsewChecks, layerChecks, splitChecks}
-use Rattle.model.specs.Checks.{insertChecks}
+use Rattle.model.specs.Checks.{insertChecks, vtkChecks}
 use Rattle.model.specs.Calls.{Outcome, refused, commit, checkCall, orbitCall, sheetCall, addCall, sewCall, unsewCall}
-use Rattle.model.specs.Calls.{pickCall, removeCall, splitCall, insertCall, stepOutcome, undoCall, redoCall}
+use Rattle.model.specs.Calls.{pickCall, removeCall, splitCall, insertCall, vtkCall, stepOutcome, undoCall, redoCall}
 use Rattle.model.specs.Runs.{Op, Call, doCall, keeping, effect}
 use Rattle.model.specs.Meaning.Lists.{member}
 use Rattle.model.specs.Meaning.Ends.{recordOk, stepOk, checksOf, checks, numbers, lateNumbers, layerMarks, refusalMarks, refusedBy}
@@ -138,6 +139,10 @@ module _ (n : ℕ) (o : Outcome) where
   unfolding doCall insertCall commit checksOf recordOk doneOf refusalMarks keeping
   insert-ends tag w = behind-unmarked _ _ 15 _ _ _ _ _
 
+  vtk-ends : (tag : ℕ) (text : List ℕ) → Ends n o (Call.op tag (Op.vtk text))
+  unfolding doCall vtkCall commit checksOf recordOk doneOf refusalMarks keeping
+  vtk-ends tag text = behind-unmarked _ _ 15 _ _ _ _ _
+
   -- remove and split: a refusal by 13, 14 or 15 leaves the sheet's marks ..
   abbrev leaving : ℕ → ℕ → ℕ → List ℕ → Outcome
   leaving k p q marks = refused k p q t marks j
@@ -184,6 +189,7 @@ module _ (n : ℕ) (o : Outcome) where
   call-ends (Call.op tag (Op.remove d)) = remove-ends tag d
   call-ends (Call.op tag (Op.split d)) = split-ends tag d
   call-ends (Call.op tag (Op.insert w)) = insert-ends tag w
+  call-ends (Call.op tag (Op.vtk text)) = vtk-ends tag text
   call-ends Call.undo = undo-ends
   call-ends Call.redo = redo-ends
 
@@ -216,6 +222,7 @@ module _ (n : ℕ) (o : Outcome) where
   done-number (Call.op tag (Op.remove d)) = refl
   done-number (Call.op tag (Op.split d)) = refl
   done-number (Call.op tag (Op.insert w)) = refl
+  done-number (Call.op tag (Op.vtk text)) = refl
   done-number Call.undo = refl
   done-number Call.redo = refl
 
@@ -248,6 +255,7 @@ module _ (n : ℕ) (o : Outcome) where
       let s = passed-append (splitChecks n t (sheet n t d) (ones (sheet n t d))) _ (r .1) in
       ((r .0, s .0), passed-at _ (s .1) 0)
   op-passed tag (Op.insert w) h = let r = passed-append (insertChecks n t w j) _ h in (r .0, passed-at _ (r .1) 0)
+  op-passed tag (Op.vtk text) h = let r = passed-append (vtkChecks n t j (gridOf text)) _ h in (r .0, passed-at _ (r .1) 0)
 
   done-op : (tag : ℕ) (p : Op) → (done n o (Call.op tag p) .table ≡ effect n t p)
       × (done n o (Call.op tag p) .journal ≡ written j (recordOf tag (changesFrom 0 t (effect n t p))))
@@ -258,6 +266,7 @@ module _ (n : ℕ) (o : Outcome) where
   done-op tag (Op.remove d) = (refl, refl)
   done-op tag (Op.split d) = (refl, refl)
   done-op tag (Op.insert w) = (refl, refl)
+  done-op tag (Op.vtk text) = (refl, refl)
 
   -- an accepted operation has passed its checks, and leaves its effect and the record of the changes
   pub op-accepted : (tag : ℕ) (p : Op) → doCall n o (Call.op tag p) .number ≡ 0

@@ -1,10 +1,11 @@
 -- When each check fails, in the words of 01's table and of 02: `dim-fails` (1) to `step-fails` (17), `drawn-fails` (28) to
--- `connected-fails` (32), `queue-fails` (37), `list-fails` (38).
+-- `connected-fails` (32), `queue-fails` (37), `list-fails` (38), `empty-fails` (18) to `order-fails` (23).
 use Prim.Native.Nat.{ℕ, _+_, _*_, _-_, _%_, _^_, _≤_, _<_}
 use mathlib.Core.Path.{_≡_, refl}
 use mathlib.Core.Logic.{_⊎_, _≢_, _↔_, Iff·rfl, Iff·trans, Iff·and}
 use mathlib.Core.Bool.{Bool, true, false}
 use mathlib.Core.List.{List}
+use mathlib.Core.Option.{Option, none, some}
 use native.Mathlib.Omega.{arith}
 use lib.ListN.{length, take, length-take}
 use lib.Dec.{eqb}
@@ -18,9 +19,12 @@ use Rattle.model.specs.Add.{addSlots}
 use Rattle.model.specs.Sew.{side}
 use Rattle.model.specs.Wall.{wallReached}
 use Rattle.model.specs.NewDarts.{slotsFor}
+use Rattle.model.specs.Vtk.{Grid, gridOf}
+use Rattle.model.specs.Faces.{darts}
 use Rattle.model.specs.Journal.{cursor, end, changesFrom, recordOf, changesAt, put, unbroken}
 use Rattle.model.specs.Checks.{pass, must, mustAt, dimOk, tableOk, marksOk, journalOk, ruleNumber, ruleOk, indexOk, maskOk}
 use Rattle.model.specs.Checks.{dartOk, blockOk, apartOk, freeOk, sewnOk, pairingOk, crossingOk, addRoomOk, newRoomOk}
+use Rattle.model.specs.Checks.{solidOk, emptyOk, formOk, typesOk, verticesOk, sharingOk, orderOk, cellsRoomOk}
 use Rattle.model.specs.Checks.{queueOk, listOk, undoOk, redoOk, drawnOk, enclosedOk, sewnWallOk, turnsOk, connectedOk}
 use Rattle.model.specs.Meaning.Ends.{recordOk, stepOk}
 use Rattle.model.specs.Meaning.Maps.{Dim, BreaksFirst, MapTable, Block}
@@ -29,6 +33,7 @@ use Rattle.model.specs.Meaning.Pairings.{Pairing}
 use Rattle.model.specs.Meaning.Sets.{Marked}
 use Rattle.model.specs.Meaning.Sheets.{Crossing}
 use Rattle.model.specs.Meaning.Walls.{BadMark, Leaves, Needed, Drawn}
+use Rattle.model.specs.Meaning.Vtk.{OfForm, OtherType, Repeated, ThreeCells, OtherCycle}
 use Rattle.theorems.proofs.Lists.Scan.{clash, or-false}
 use Rattle.theorems.proofs.Maps.Rules.{map-of, of-map}
 use Rattle.theorems.proofs.Maps.Broken.{broken-first, of-broken}
@@ -36,6 +41,8 @@ use Rattle.theorems.proofs.Cells.Exact.{block-exactly}
 use Rattle.theorems.proofs.Sewing.Pairing.{paired-exactly}
 use Rattle.theorems.proofs.Layers.Sheet.{crosses-some}
 use Rattle.theorems.proofs.Insert.Fails.{drawn-false, enclosed-false, sewn-wall-false, turns-false, connected-false}
+use Rattle.theorems.proofs.Vtk.Form.{form-none}
+use Rattle.theorems.proofs.Vtk.Fails.{empty-false, types-false, vertices-false, sharing-false, order-false}
 use Rattle.theorems.proofs.History.Broken.{unbroken-exactly}
 use Rattle.theorems.proofs.Calls.Tests.{not-fails, and-fails, or-fails, leb-fails, ltb-fails, eqb-fails, eqb-holds}
 use Rattle.theorems.proofs.Calls.Tests.{test-fails, one-of}
@@ -57,6 +64,10 @@ must-fails b k f = rw (must-at-0 b k) (mustAt-fails b k 0 0 f)
 pub dim-fails : (n : ℕ) → (dimOk n ≢ pass) ↔ ((n ≢ 2) × (n ≢ 3))
 unfolding dimOk
 dim-fails n = must-fails _ 1 (Iff·trans (or-fails (eqb n 2) (eqb n 3)) (Iff·and (eqb-fails n 2) (eqb-fails n 3)))
+
+pub solid-fails : (n : ℕ) → (solidOk n ≢ pass) ↔ (n ≢ 3)
+unfolding solidOk
+solid-fails n = must-fails _ 1 (eqb-fails n 3)
 
 pub table-fails : (t : List ℕ) → (tableOk t ≢ pass) ↔ ((length t % 4 ≢ 0) ⊎ (262144 < length t))
 unfolding tableOk
@@ -153,6 +164,10 @@ pub new-room-fails : (n : ℕ) (t gs : List ℕ) → (newRoomOk n t gs ≢ pass)
 unfolding newRoomOk slotsFor
 new-room-fails n t gs = must-fails _ 14 (Iff·trans (eqb-fails _ _) (take-short (n * length gs) (unusedSlots t)))
 
+pub cells-room-fails : (t : List ℕ) (rows : List (List ℕ)) → (cellsRoomOk t rows ≢ pass) ↔ (length (unusedSlots t) < darts rows)
+unfolding cellsRoomOk
+cells-room-fails t rows = must-fails _ 14 (leb-fails _ _)
+
 pub record-fails : (tag : ℕ) (t u j : List ℕ)
     → (recordOk tag t u j ≢ pass) ↔ (length j - cursor j < length (recordOf tag (changesFrom 0 t u)))
 unfolding recordOk
@@ -172,6 +187,37 @@ step-fails redo n t j a k dim =
     let u = put redo (changesAt j a k) t in
     must-fails _ 17 (Iff·trans (and-fails (unbroken redo t j a k) (isMap n u))
     (one-of (unbroken-exactly redo t j a k) (test-fails (isMap n u) (map-of n u (dim .1), of-map n u))))
+
+-- ---- 18 to 23, of a table and of what a text gives
+
+pub empty-fails : (t : List ℕ) → (emptyOk t ≢ pass) ↔ ((d : ℕ) × (d < slots t) × (live t d ≡ true))
+unfolding emptyOk
+empty-fails t = must-fails _ 18 (empty-false t)
+
+form-none-fails : (g : Option Grid) → (formOk g ≢ pass) ↔ (g ≡ none)
+unfolding formOk
+form-none-fails none = (λ h. refl, λ e h. not-pass h)
+form-none-fails (some g) = (λ h. absurd (h refl), λ e. absurd (let z : _≡_ {A = ℕ} 0 1 = cc in omega arith))
+
+pub form-fails : (text : List ℕ) → (formOk (gridOf text) ≢ pass) ↔ ((g : Grid) → OfForm text g → ⊥)
+form-fails text = Iff·trans (form-none-fails (gridOf text)) (form-none text)
+
+pub types-fails : (types : List ℕ) → (typesOk types ≢ pass) ↔ OtherType types
+unfolding typesOk
+types-fails types = must-fails _ 20 (types-false types)
+
+module _ (rows : List (List ℕ)) where
+  pub vertices-fails : (verticesOk rows ≢ pass) ↔ Repeated rows
+  unfolding verticesOk
+  vertices-fails = must-fails _ 21 (vertices-false rows)
+
+  pub sharing-fails : (sharingOk rows ≢ pass) ↔ ThreeCells rows
+  unfolding sharingOk
+  sharing-fails = must-fails _ 22 (sharing-false rows)
+
+  pub order-fails : (orderOk rows ≢ pass) ↔ OtherCycle rows
+  unfolding orderOk
+  order-fails = must-fails _ 23 (order-false rows)
 
 -- ---- 28 to 32, of the wall with the marks m
 

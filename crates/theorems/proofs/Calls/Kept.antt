@@ -1,4 +1,5 @@
--- What an accepted call makes of a map is a map; what add, remove, split and insert make of a block map is a block map.
+-- What an accepted call makes of a map is a map; what add, remove, split and insert make of a block map is a block map, and so is what
+-- the cells of a text make.
 use Prim.Native.Nat.{ℕ, _≤_}
 use mathlib.Core.Path.{_≡_, sym, ap, _∙_, subst}
 use mathlib.Core.Bool.{true, false}
@@ -11,8 +12,10 @@ use Rattle.model.specs.Sheet.{sheet}
 use Rattle.model.specs.Add.{addSlots, addTable}
 use Rattle.model.specs.Sew.{isPaired, sewTable, unsewTable}
 use Rattle.model.specs.Split.{splitTable}
+use Rattle.model.specs.Vtk.{gridOf, rowsIn}
+use Rattle.model.specs.Faces.{vtkTable}
 use Rattle.model.specs.Checks.{stepChecks, undoOk, redoOk}
-use Rattle.model.specs.Calls.{Outcome, addCall, sewCall, unsewCall, removeCall, splitCall, insertCall}
+use Rattle.model.specs.Calls.{Outcome, addCall, sewCall, unsewCall, removeCall, splitCall, insertCall, vtkCall}
 use Rattle.model.specs.Calls.{undoCall, redoCall}
 use Rattle.model.specs.Runs.{Op, Call, doCall, keeping, effect}
 use Rattle.model.specs.Meaning.Ends.{lent, checksOf, doneOf}
@@ -35,6 +38,8 @@ use Rattle.theorems.proofs.Calls.Checks.{passed-at, passed-append}
 use Rattle.theorems.proofs.Calls.Pass.{step-pass, SidesPassed, unsew-side, sides-sewable}
 use Rattle.theorems.proofs.Calls.Pass.{add-passed, unsew-passed, sew-passed, layer-passed, split-passed, insert-passed}
 use Rattle.theorems.proofs.Calls.Ends.{call-passed, call-done, op-effect}
+use Rattle.theorems.proofs.Vtk.Passed.{vtk-passed}
+use Rattle.theorems.proofs.Vtk.Table.{read-map-test, read-block-test}
 
 -- ---- add
 
@@ -123,6 +128,16 @@ unfolding doCall keeping effect
 insert-call n t m j tag h =
     let r = op-effect n (lent t m j) tag (Op.insert m) h in
     rw (r .1) (block-map n _ (insert-keeps (insert-passed n t j m (r .0))))
+
+-- ---- the cells of a text
+
+pub vtk-call : (n : ℕ) (t j : List ℕ) (tag : ℕ) (text : List ℕ) → vtkCall n t j tag text .number ≡ 0
+    → BlockMap n (vtkCall n t j tag text .table)
+unfolding doCall keeping effect
+vtk-call n t j tag text h =
+    let r = op-effect n (lent t [] j) tag (Op.vtk text) h in
+    let (solid, R) = vtk-passed n t j text (r .0) in
+    rw (r .1) (subst (λ (k : ℕ). BlockMap k (vtkTable t (rowsIn (gridOf text)))) (sym solid) (read-map-test R, read-block-test R))
 
 -- ---- undo, redo: what is put back is a map, or it is refused
 

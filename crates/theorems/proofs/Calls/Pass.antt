@@ -19,7 +19,7 @@ use Rattle.model.specs.Sew.{side, isPaired}
 use Rattle.model.specs.NewDarts.{slotsFor}
 use Rattle.model.specs.Split.{crosses}
 use Rattle.model.specs.Checks.{Check, pass, must, mustAt, inOrder}
-use Rattle.model.specs.Checks.{dimOk, tableOk, marksOk, journalOk, ruleOk, mapChecks, indexOk, dartOk, blockOk}
+use Rattle.model.specs.Checks.{dimOk, solidOk, tableOk, marksOk, journalOk, ruleOk, mapChecks, indexOk, dartOk, blockOk}
 use Rattle.model.specs.Checks.{drawnOk, enclosedOk, sewnWallOk, turnsOk, connectedOk, apartOk, freeOk}
 use Rattle.model.specs.Checks.{sewnOk, pairingOk, crossingOk, addRoomOk, newRoomOk}
 use Rattle.model.specs.Checks.{addChecks, sidesChecks, sewChecks, unsewChecks, layerChecks, splitChecks}
@@ -55,6 +55,10 @@ unfolding dimOk
 dim-pass n h =
     ⊎-elim (λ e. let q = eqb-true n 2 e in (omega arith, omega arith)) (λ e. let q = eqb-true n 3 e in (omega arith, omega arith))
     (or-holds (eqb n 2) (eqb n 3) .0 (must-pass _ 1 h))
+
+pub solid-pass : (n : ℕ) → solidOk n ≡ pass → n ≡ 3
+unfolding solidOk
+solid-pass n h = eqb-true n 3 (must-pass _ 1 h)
 
 pub table-pass : (t : List ℕ) → tableOk t ≡ pass → (length t ≡ 4 * slots t) × (slots t ≤ 65536)
 unfolding tableOk slots

@@ -1,6 +1,7 @@
 -- When a number is given, by the checks before it. `given-exactly`: of any call, by a check that has its number alone.
 -- `sew-12-exactly`: no pairing exists. `split-13-exactly`: some g in S has g.1 in S. `undo-17-exactly`, `redo-17-exactly`: record
--- broken, or result no map. `insert-28-exactly` to `insert-32-exactly`: what is wrong with the wall.
+-- broken, or result no map. `insert-28-exactly` to `insert-32-exactly`: what is wrong with the wall. `vtk-18-exactly` to `vtk-23-exactly`: what
+-- is wrong with the table or the text.
 use Prim.Native.Nat.{ℕ, _<_}
 use mathlib.Core.Path.{_≡_, refl, sym, ap, _∙_}
 use mathlib.Core.Logic.{_⊎_, _≢_, _↔_, ⊎-elim}
@@ -9,13 +10,14 @@ use mathlib.Core.List.{List, [], _∷_, _++_, List·Memᴰ·eq-of-singleton as s
 use native.Mathlib.Omega.{arith}
 use lib.ListN.{length, take, drop}
 use Rattle.model.specs.Lists.{indexOf}
-use Rattle.model.specs.Table.{slots, link}
+use Rattle.model.specs.Table.{slots, link, live}
 use Rattle.model.specs.Sheet.{sheet}
 use Rattle.model.specs.Wall.{wallReached}
+use Rattle.model.specs.Vtk.{Grid, gridOf, rowsIn, typesIn}
 use Rattle.model.specs.Journal.{cursor}
 use Rattle.model.specs.Checks.{Check, pass, refuse, andThen, inOrder, undoOk, redoOk}
-use Rattle.model.specs.Checks.{mapChecks, sidesChecks, layerChecks, splitChecks, wallChecks, insertChecks, stepChecks}
-use Rattle.model.specs.Calls.{Outcome, refused, sewCall, splitCall, insertCall, undoCall, redoCall}
+use Rattle.model.specs.Checks.{mapChecks, sidesChecks, layerChecks, splitChecks, wallChecks, insertChecks, gridChecks, vtkChecks, stepChecks}
+use Rattle.model.specs.Calls.{Outcome, refused, sewCall, splitCall, insertCall, vtkCall, undoCall, redoCall}
 use Rattle.model.specs.Runs.{Op, Call, doCall, keeping}
 use Rattle.model.specs.Meaning.Lists.{member}
 use Rattle.model.specs.Meaning.Ends.{lent, checksOf, checks, opNumbers, numbers, undoCount, undoStart, redoCount}
@@ -23,11 +25,13 @@ use Rattle.model.specs.Meaning.Numbers.{StepFails}
 use Rattle.model.specs.Meaning.Pairings.{Pairing}
 use Rattle.model.specs.Meaning.Sets.{Marked}
 use Rattle.model.specs.Meaning.Walls.{BadMark, Leaves, Needed}
+use Rattle.model.specs.Meaning.Vtk.{OfForm, OtherType, Repeated, ThreeCells, OtherCycle}
 use Rattle.theorems.proofs.Calls.Checks.{passed-at, append-passed, append-refused, passed-or-refused, same-refusal}
 use Rattle.theorems.proofs.Calls.Checks.{Numbers, not-in, numbers-before, numbers-behind, refusal-says, call-numbers}
 use Rattle.theorems.proofs.Calls.Pass.{dim-pass, sides-passed, wall-drawn}
 use Rattle.theorems.proofs.Calls.Fails.{pairing-fails, crossing-fails, step-fails}
 use Rattle.theorems.proofs.Calls.Fails.{drawn-fails, enclosed-fails, sewn-wall-fails, turns-fails, connected-fails}
+use Rattle.theorems.proofs.Calls.Fails.{empty-fails, form-fails, types-fails, vertices-fails, sharing-fails, order-fails}
 use Rattle.theorems.proofs.Calls.Ends.{call-ends, call-refused}
 
 -- ---- one check among others
@@ -180,3 +184,52 @@ module _ (n : ℕ) (t m j : List ℕ) (tag : ℕ) where
   insert-32-exactly =
       given-exactly n (lent t [] j) (Call.op tag (Op.insert m)) 32 (λ q. omega arith) (before 32) _ _ refl refl refl refl
       (λ h. connected-fails n t m)
+
+-- ---- 18 to 23
+
+module _ (n : ℕ) (t j : List ℕ) (tag : ℕ) (text : List ℕ) where
+  -- the checks of a read before the one with the number z
+  abbrev before-read : ℕ → List Check
+  before-read z = take (indexOf z (opNumbers (Op.vtk text))) (vtkChecks n t j (gridOf text))
+
+  pub vtk-18-exactly : (vtkCall n t j tag text .number ≡ 18)
+      ↔ ((inOrder (before-read 18) ≡ pass) × ((d : ℕ) × (d < slots t) × (live t d ≡ true)))
+  unfolding doCall keeping checksOf vtkChecks gridChecks mapChecks member indexOf
+  vtk-18-exactly =
+      given-exactly n (lent t [] j) (Call.op tag (Op.vtk text)) 18 (λ q. omega arith) (before-read 18) _ _ refl refl refl refl
+      (λ h. empty-fails t)
+
+  pub vtk-19-exactly : (vtkCall n t j tag text .number ≡ 19)
+      ↔ ((inOrder (before-read 19) ≡ pass) × ((g : Grid) → OfForm text g → ⊥))
+  unfolding doCall keeping checksOf vtkChecks gridChecks mapChecks member indexOf
+  vtk-19-exactly =
+      given-exactly n (lent t [] j) (Call.op tag (Op.vtk text)) 19 (λ q. omega arith) (before-read 19) _ _ refl refl refl refl
+      (λ h. form-fails text)
+
+  pub vtk-20-exactly : (vtkCall n t j tag text .number ≡ 20)
+      ↔ ((inOrder (before-read 20) ≡ pass) × OtherType (typesIn (gridOf text)))
+  unfolding doCall keeping checksOf vtkChecks gridChecks mapChecks member indexOf
+  vtk-20-exactly =
+      given-exactly n (lent t [] j) (Call.op tag (Op.vtk text)) 20 (λ q. omega arith) (before-read 20) _ _ refl refl refl refl
+      (λ h. types-fails (typesIn (gridOf text)))
+
+  pub vtk-21-exactly : (vtkCall n t j tag text .number ≡ 21)
+      ↔ ((inOrder (before-read 21) ≡ pass) × Repeated (rowsIn (gridOf text)))
+  unfolding doCall keeping checksOf vtkChecks gridChecks mapChecks member indexOf
+  vtk-21-exactly =
+      given-exactly n (lent t [] j) (Call.op tag (Op.vtk text)) 21 (λ q. omega arith) (before-read 21) _ _ refl refl refl refl
+      (λ h. vertices-fails (rowsIn (gridOf text)))
+
+  pub vtk-22-exactly : (vtkCall n t j tag text .number ≡ 22)
+      ↔ ((inOrder (before-read 22) ≡ pass) × ThreeCells (rowsIn (gridOf text)))
+  unfolding doCall keeping checksOf vtkChecks gridChecks mapChecks member indexOf
+  vtk-22-exactly =
+      given-exactly n (lent t [] j) (Call.op tag (Op.vtk text)) 22 (λ q. omega arith) (before-read 22) _ _ refl refl refl refl
+      (λ h. sharing-fails (rowsIn (gridOf text)))
+
+  pub vtk-23-exactly : (vtkCall n t j tag text .number ≡ 23)
+      ↔ ((inOrder (before-read 23) ≡ pass) × OtherCycle (rowsIn (gridOf text)))
+  unfolding doCall keeping checksOf vtkChecks gridChecks mapChecks member indexOf
+  vtk-23-exactly =
+      given-exactly n (lent t [] j) (Call.op tag (Op.vtk text)) 23 (λ q. omega arith) (before-read 23) _ _ refl refl refl refl
+      (λ h. order-fails (rowsIn (gridOf text)))

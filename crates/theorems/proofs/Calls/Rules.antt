@@ -13,7 +13,7 @@ use Rattle.model.specs.Map.{MapRule, links-live, links-return, pairs-commute, s
 use Rattle.model.specs.Map.{leastBreaking, isMap}
 use Rattle.model.specs.Checks.{Check, pass, refuse, mustAt, andThen, inOrder, dimOk, ruleNumber, ruleOk, mapChecks}
 use Rattle.model.specs.Checks.{checkChecks, orbitChecks, sheetChecks, pickChecks, addChecks, sidesChecks, unsewChecks}
-use Rattle.model.specs.Checks.{layerChecks, insertChecks, stepChecks}
+use Rattle.model.specs.Checks.{layerChecks, insertChecks, vtkChecks, stepChecks}
 use Rattle.model.specs.Calls.{Outcome, refused}
 use Rattle.model.specs.Runs.{Op, Call, doCall}
 use Rattle.model.specs.Meaning.Lists.{member}
@@ -24,7 +24,7 @@ use Rattle.theorems.proofs.Maps.Rules.{map-of, of-map}
 use Rattle.theorems.proofs.Maps.Broken.{number-one, some-broken, Tested, of-broken}
 use Rattle.theorems.proofs.Calls.Checks.{passed-at, append-passed, append-refused, passed-or-refused}
 use Rattle.theorems.proofs.Calls.Checks.{not-in, noRules, rule-not-in, rule-not-0, numbers-before, refusal-says, call-numbers}
-use Rattle.theorems.proofs.Calls.Pass.{passed-keeps, dim-pass}
+use Rattle.theorems.proofs.Calls.Pass.{passed-keeps, dim-pass, solid-pass}
 use Rattle.theorems.proofs.Calls.Ends.{call-ends, call-says, call-refused}
 
 -- ---- the checks of a map
@@ -88,27 +88,32 @@ module _ (n : ℕ) (o : Outcome) where
   record Begins (c : Call) : Type 0 where
     behind : List Check
     is : checks n o c ≡ firstChecks n o c ++ (mapChecks n t ++ behind)
-    dim : getD (firstChecks n o c) 0 pass ≡ dimOk n
+    dim : getD (firstChecks n o c) 0 pass ≡ pass → n ≤ 3
     clear : noRules (take (length (firstChecks n o c)) (numbers c)) ≡ true
 
+  -- the first of them says that n is 2 or 3, of a read that n is 3
+  abbrev below : dimOk n ≡ pass → n ≤ 3
+  below h = dim-pass n h .1
+
   begins : (c : Call) → Begins c
-  unfolding checksOf mapChecks checkChecks orbitChecks sheetChecks pickChecks addChecks sidesChecks unsewChecks layerChecks insertChecks stepChecks member indexOf
-  begins Call.check = record { behind = _; is = refl; dim = refl; clear = refl }
-  begins (Call.orbit mask d) = record { behind = _; is = refl; dim = refl; clear = refl }
-  begins (Call.sheet d) = record { behind = _; is = refl; dim = refl; clear = refl }
-  begins (Call.pick w d) = record { behind = _; is = refl; dim = refl; clear = refl }
-  begins (Call.op tag Op.add) = record { behind = _; is = refl; dim = refl; clear = refl }
-  begins (Call.op tag (Op.sew i d e)) = record { behind = _; is = refl; dim = refl; clear = refl }
-  begins (Call.op tag (Op.unsew i d)) = record { behind = _; is = refl; dim = refl; clear = refl }
-  begins (Call.op tag (Op.remove d)) = record { behind = _; is = refl; dim = refl; clear = refl }
-  begins (Call.op tag (Op.split d)) = record { behind = _; is = refl; dim = refl; clear = refl }
-  begins (Call.op tag (Op.insert w)) = record { behind = _; is = refl; dim = refl; clear = refl }
-  begins Call.undo = record { behind = _; is = refl; dim = refl; clear = refl }
-  begins Call.redo = record { behind = _; is = refl; dim = refl; clear = refl }
+  unfolding checksOf mapChecks checkChecks orbitChecks sheetChecks pickChecks addChecks sidesChecks unsewChecks layerChecks insertChecks vtkChecks stepChecks member indexOf
+  begins Call.check = record { behind = _; is = refl; dim = below; clear = refl }
+  begins (Call.orbit mask d) = record { behind = _; is = refl; dim = below; clear = refl }
+  begins (Call.sheet d) = record { behind = _; is = refl; dim = below; clear = refl }
+  begins (Call.pick w d) = record { behind = _; is = refl; dim = below; clear = refl }
+  begins (Call.op tag Op.add) = record { behind = _; is = refl; dim = below; clear = refl }
+  begins (Call.op tag (Op.sew i d e)) = record { behind = _; is = refl; dim = below; clear = refl }
+  begins (Call.op tag (Op.unsew i d)) = record { behind = _; is = refl; dim = below; clear = refl }
+  begins (Call.op tag (Op.remove d)) = record { behind = _; is = refl; dim = below; clear = refl }
+  begins (Call.op tag (Op.split d)) = record { behind = _; is = refl; dim = below; clear = refl }
+  begins (Call.op tag (Op.insert w)) = record { behind = _; is = refl; dim = below; clear = refl }
+  begins (Call.op tag (Op.vtk text)) = record { behind = _; is = refl; dim = λ h. let e = solid-pass n h in omega arith; clear = refl }
+  begins Call.undo = record { behind = _; is = refl; dim = below; clear = refl }
+  begins Call.redo = record { behind = _; is = refl; dim = below; clear = refl }
 
   module _ (c : Call) where
     first-dim : inOrder (firstChecks n o c) ≡ pass → n ≤ 3
-    first-dim h = dim-pass n (sym (begins c .dim) ∙ passed-at (firstChecks n o c) h 0) .1
+    first-dim h = begins c .dim (passed-at (firstChecks n o c) h 0)
 
     answers : {r : MapRule} {d i : ℕ} → inOrder (firstChecks n o c) ≡ pass → BreaksFirst n t r d i → Answers n o c r d i
     unfolding refused

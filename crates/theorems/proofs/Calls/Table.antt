@@ -12,7 +12,9 @@ use Rattle.model.specs.Map.{MapRule, links-live, links-return, pairs-commute, s
 use Rattle.model.specs.Sheet.{sheet}
 use Rattle.model.specs.Checks.{Check, pass, refuse, andThen, inOrder, dimOk, tableOk, marksOk, journalOk, ruleNumber, ruleOk}
 use Rattle.model.specs.Checks.{mapChecks, checkChecks, orbitChecks, sheetChecks, pickChecks, addChecks, sidesChecks, unsewChecks}
-use Rattle.model.specs.Checks.{listChecks, layerChecks, splitChecks, wallChecks, insertChecks, stepChecks}
+use Rattle.model.specs.Checks.{listChecks, layerChecks, splitChecks, wallChecks, insertChecks, gridChecks, vtkChecks, stepChecks}
+use Rattle.model.specs.Checks.{solidOk}
+use Rattle.model.specs.Vtk.{gridOf, rowsIn, typesIn}
 use Rattle.model.specs.Calls.{Outcome, refused, sewListCall}
 use Rattle.model.specs.Runs.{Op, Call, doCall}
 use Rattle.model.specs.Meaning.Ends.{stepOk, lent, checksOf, checks, opNumbers, numbers, refusalPlace, refusalCount}
@@ -23,11 +25,13 @@ use Rattle.model.specs.Meaning.SewLists.{listRows, RefusedFirst}
 use Rattle.theorems.proofs.Maps.Broken.{each-earlier}
 use Rattle.theorems.proofs.Calls.Checks.{not-pass, passed-at, passed-number, passed-append, append-passed, Numbered, Numbers}
 use Rattle.theorems.proofs.Calls.Checks.{_then_, list-numbers, call-numbers, refusal-says}
-use Rattle.theorems.proofs.Calls.Pass.{dim-pass, rules-pass, table-of, sides-passed, wall-drawn}
+use Rattle.theorems.proofs.Calls.Pass.{dim-pass, solid-pass, rules-pass, table-of, sides-passed, wall-drawn}
 use Rattle.theorems.proofs.Calls.Fails.{dim-fails, table-fails, marks-fails, journal-fails, rule-fails, index-fails, mask-fails}
 use Rattle.theorems.proofs.Calls.Fails.{dart-fails, block-fails, apart-fails, free-fails, sewn-fails, pairing-fails}
 use Rattle.theorems.proofs.Calls.Fails.{crossing-fails, add-room-fails, new-room-fails, record-fails, undo-fails, redo-fails}
 use Rattle.theorems.proofs.Calls.Fails.{queue-fails, list-fails, step-fails, drawn-fails, enclosed-fails, sewn-wall-fails, turns-fails, connected-fails}
+use Rattle.theorems.proofs.Calls.Fails.{solid-fails, empty-fails, form-fails, types-fails, vertices-fails, sharing-fails, order-fails}
+use Rattle.theorems.proofs.Calls.Fails.{cells-room-fails}
 use Rattle.theorems.proofs.Calls.Ends.{call-ends, done-number}
 
 -- two numbers of the first row that is given are one
@@ -109,40 +113,46 @@ module _ (n : ℕ) (o : Outcome) where
   abbrev MeetsRows : Call → Type 1
   MeetsRows c = Meets [] (numberRows n t m j c) (checks n o c)
 
-  -- n is 2 or 3, where the first check has passed
+  -- n is 2 or 3, where the check 1 has passed
   dim-before : (before : List Check) → inOrder (dimOk n ∷ before) ≡ pass → Dim n
   dim-before before h = dim-pass n (passed-at (dimOk n ∷ before) h 0)
+
+  solid-dim : solidOk n ≡ pass → Dim n
+  solid-dim h = let e = solid-pass n h in (omega arith, omega arith)
 
   step-row : (redo : Bool) (a k : ℕ) (before : List Check) → inOrder (dimOk n ∷ before) ≡ pass
       → (stepOk redo n t j a k ≢ pass) ↔ stepRow redo n t j a k .given
   step-row redo a k before h = step-fails redo n t j a k (dim-before before h)
 
-  -- the rows of a map, behind the check 1 and others
+  -- the rows of a map, behind the check 1, which is `first`, and others
   abbrev with-rule : List Check → MapRule → List Check
   with-rule before r = before ++ (ruleOk n t r ∷ [])
 
   abbrev with-rules : List Check → List Check
   with-rules before = with-rule (with-rule (with-rule (with-rule before links-live) links-return) pairs-commute) stays-flat
 
-  then-map : (others : List Check) {rs : List NumberRow} {cs : List Check} → Meets (with-rules (dimOk n ∷ others)) rs cs
-      → Meets (dimOk n ∷ others) (mapRows n t ++ rs) (mapChecks n t ++ cs)
+  map-behind : (first : Check) → (first ≡ pass → Dim n) → (others : List Check) {rs : List NumberRow} {cs : List Check}
+      → Meets (with-rules (first ∷ others)) rs cs → Meets (first ∷ others) (mapRows n t ++ rs) (mapChecks n t ++ cs)
   unfolding mapChecks ruleNumber
-  then-map others w =
-      (λ h. rule-fails n t links-live (dim-before others h)
+  map-behind first dim others w =
+      (λ h. rule-fails n t links-live (dim-first others h)
       (earlier links-live (λ l. absurd (omega arith)) (λ l. absurd (omega arith)) (λ l. absurd (omega arith))))
-      next-passed (λ h. rule-fails n t links-return (dim-before _ h) (earlier links-return (λ _. last-passed before-1 _ h .1)
+      next-passed (λ h. rule-fails n t links-return (dim-first _ h) (earlier links-return (λ _. last-passed before-1 _ h .1)
       (λ l. absurd (omega arith)) (λ l. absurd (omega arith))))
       next-passed (λ h. let p = last-passed before-2 _ h in
-      rule-fails n t pairs-commute (dim-before _ h) (earlier pairs-commute (λ _. last-passed before-1 _ (p .0) .1) (λ _. p .1)
+      rule-fails n t pairs-commute (dim-first _ h) (earlier pairs-commute (λ _. last-passed before-1 _ (p .0) .1) (λ _. p .1)
       (λ l. absurd (omega arith))))
       next-passed (λ h. let p = last-passed before-3 _ h in
       let q = last-passed before-2 _ (p .0) in
-      rule-fails n t stays-flat (dim-before _ h)
+      rule-fails n t stays-flat (dim-first _ h)
       (earlier stays-flat (λ _. last-passed before-1 _ (q .0) .1) (λ _. q .1) (λ _. p .1)))
       next-passed w
     where
+      dim-first : (before : List Check) → inOrder (first ∷ before) ≡ pass → Dim n
+      dim-first before h = dim (passed-at (first ∷ before) h 0)
+
       before-1 : List Check
-      before-1 = dimOk n ∷ others
+      before-1 = first ∷ others
 
       before-2 : List Check
       before-2 = with-rule before-1 links-live
@@ -156,6 +166,10 @@ module _ (n : ℕ) (o : Outcome) where
       earlier : (r : MapRule) → (5 < ruleNumber r → Passes links-live) → (24 < ruleNumber r → Passes links-return)
           → (25 < ruleNumber r → Passes pairs-commute) → (q : MapRule) → ruleNumber q < ruleNumber r → Passes q
       earlier = each-earlier Passes
+
+  then-map : (others : List Check) {rs : List NumberRow} {cs : List Check} → Meets (with-rules (dimOk n ∷ others)) rs cs
+      → Meets (dimOk n ∷ others) (mapRows n t ++ rs) (mapChecks n t ++ cs)
+  then-map others w = map-behind (dimOk n) (dim-pass n) others w
 
   -- the first rows of the calls with marks, with a journal, and with both
   with-marks : {rs : List NumberRow} {cs : List Check} → Meets (with-rules (dimOk n ∷ tableOk t ∷ marksOk t m ∷ [])) rs cs
@@ -179,7 +193,7 @@ module _ (n : ℕ) (o : Outcome) where
       next-passed w)
 
   meets : (c : Call) → MeetsRows c
-  unfolding checksOf mapChecks checkChecks orbitChecks sheetChecks pickChecks addChecks sidesChecks unsewChecks splitChecks wallChecks insertChecks stepChecks indexOf
+  unfolding checksOf mapChecks checkChecks orbitChecks sheetChecks pickChecks addChecks sidesChecks unsewChecks splitChecks wallChecks insertChecks gridChecks vtkChecks stepChecks indexOf
   meets Call.check = dim-fails n next table-fails t next then-map _ no-more
   meets (Call.orbit mask d) = with-marks (mask-fails n mask next dart-fails t d next no-more)
   meets (Call.sheet d) = with-marks (dart-fails t d
@@ -207,6 +221,12 @@ module _ (n : ℕ) (o : Outcome) where
       next-passed drawn-fails t w next enclosed-fails n t w next sewn-wall-fails n t w
       next (λ h. turns-fails n t w (wall-drawn n t j w _ h))
       next-passed connected-fails n t w next new-room-fails n t (ones w) next record-fails tag t _ j next no-more)
+  meets (Call.op tag (Op.vtk text)) =
+      let g = gridOf text in
+      let rows = rowsIn g in
+      solid-fails n next table-fails t next journal-fails j next map-behind (solidOk n) solid-dim _ (empty-fails t next form-fails text
+      next types-fails (typesIn g) next vertices-fails rows next sharing-fails rows next order-fails rows next cells-room-fails t rows
+      next record-fails tag t _ j next no-more)
   meets Call.undo = with-journal (undo-fails j next step-row false _ _ _ next-passed no-more)
   meets Call.redo = with-journal (redo-fails j next step-row true _ _ _ next-passed no-more)
 
@@ -222,6 +242,7 @@ module _ (n : ℕ) (o : Outcome) where
   rows-numbers (Call.op tag (Op.remove d)) = refl
   rows-numbers (Call.op tag (Op.split d)) = refl
   rows-numbers (Call.op tag (Op.insert w)) = refl
+  rows-numbers (Call.op tag (Op.vtk text)) = refl
   rows-numbers Call.undo = refl
   rows-numbers Call.redo = refl
 

@@ -10,7 +10,7 @@ use lib.Seq.{length-take-le, getD-append-add, getD-take, getD-drop, getD-set-sam
 use Rattle.model.specs.Lists.{indexOf}
 use Rattle.model.specs.Journal.{cursor, end, recordLength, written, tagAt}
 use Rattle.model.specs.Checks.{pass, journalOk, inOrder, addChecks, sidesChecks, unsewChecks, layerChecks}
-use Rattle.model.specs.Checks.{insertChecks, stepChecks}
+use Rattle.model.specs.Checks.{insertChecks, vtkChecks, stepChecks}
 use Rattle.model.specs.Calls.{Outcome}
 use Rattle.model.specs.Runs.{Op, Call, doCall}
 use Rattle.model.specs.Meaning.Ends.{checks, opNumbers, numbers, undoStart, done, recordMade, Recorded, CursorMoved, checksOf, doneOf}
@@ -96,7 +96,7 @@ module _ (j r : List ℕ) (rule : JournalRule j) (room : length r ≤ length j -
 -- the check 4 has passed
 op-journal : (n : ℕ) (o : Outcome) (tag : ℕ) (p : Op) → inOrder (checks n o (Call.op tag p)) ≡ pass
     → journalOk (o .journal) ≡ pass
-unfolding checksOf indexOf addChecks sidesChecks unsewChecks layerChecks insertChecks
+unfolding checksOf indexOf addChecks sidesChecks unsewChecks layerChecks insertChecks vtkChecks
 op-journal n o tag p h = journal p (passed-number (opNumbers p) (checks n o (Call.op tag p)) h 4)
   where
     journal : (p : Op) → getD (checks n o (Call.op tag p)) (indexOf 4 (opNumbers p)) pass ≡ pass
@@ -107,6 +107,7 @@ op-journal n o tag p h = journal p (passed-number (opNumbers p) (checks n o (Cal
     journal (Op.remove d) q = q
     journal (Op.split d) q = q
     journal (Op.insert w) q = q
+    journal (Op.vtk text) q = q
 
 module _ (n : ℕ) (o : Outcome) (tag : ℕ) (p : Op) (accepted : doCall n o (Call.op tag p) .number ≡ 0) where
   pub op-written : doCall n o (Call.op tag p) .journal ≡ written (o .journal) (recordMade n o tag p)

@@ -1,5 +1,5 @@
 -- Counts are sizes. Of sew, unsew, undo and redo: the entries that changed, one at least (`sew-count`, ..). Of orbit and
--- sheet: the darts of the set. Of add, remove, split and insert: the darts of the new cell, of the removed cells, the new darts.
+-- sheet: the darts of the set. Of add, remove, split, insert and a read text: the darts of the new cell, of the removed cells, the new darts.
 -- `op-changes-some`: an accepted operation changes an entry.
 use Prim.Native.Nat.{ℕ, zero, suc, _+_, _*_, _<_}
 use mathlib.Core.Path.{_≡_, refl, sym, ap, _∙_}
@@ -12,6 +12,8 @@ use Rattle.model.specs.Cell.{cellSize, isBlock}
 use Rattle.model.specs.Orbit.{orbit}
 use Rattle.model.specs.Sheet.{sheet}
 use Rattle.model.specs.Remove.{countMarked}
+use Rattle.model.specs.Vtk.{gridOf, rowsIn}
+use Rattle.model.specs.Faces.{darts}
 use Rattle.model.specs.Journal.{changesFrom, changesAt, readChanges, put, unbroken}
 use Rattle.model.specs.Checks.{stepChecks, undoOk, redoOk}
 use Rattle.model.specs.Calls.{Outcome}
@@ -134,3 +136,9 @@ module _ (n : ℕ) (o : Outcome) where
       → doCall n o (Call.op tag (Op.insert w)) .count ≡ n * count 1 w
   unfolding doneOf
   insert-count tag w h = rw (call-done n o (Call.op tag (Op.insert w)) h) (ap (λ (k : ℕ). n * k) (length-ones w 0))
+
+  -- "count: darts added" (02, R-1): 48 for each cell of the text
+  pub vtk-count : (tag : ℕ) (text : List ℕ) → doCall n o (Call.op tag (Op.vtk text)) .number ≡ 0
+      → doCall n o (Call.op tag (Op.vtk text)) .count ≡ 48 * length (rowsIn (gridOf text))
+  unfolding doneOf darts
+  vtk-count tag text h = ap (λ (r : Outcome). r .count) (call-done n o (Call.op tag (Op.vtk text)) h)

@@ -48,6 +48,7 @@ call-alike n o r (Call.op tag (Op.unsew i x)) a b d = rw (a, b, d)
 call-alike n o r (Call.op tag (Op.remove x)) a b d = rw (a, b, d)
 call-alike n o r (Call.op tag (Op.split x)) a b d = rw (a, b, d)
 call-alike n o r (Call.op tag (Op.insert w)) a b d = rw (a, b, d)
+call-alike n o r (Call.op tag (Op.vtk text)) a b d = rw (a, b, d)
 
 module _ (n : ℕ) where
   step-alike : {s r : State} (c : Step) → Alike s r → Alike (stepped n s c) (stepped n r c)

@@ -19,6 +19,7 @@ use Rattle.model.specs.Sew.{side, partners, sewn, sewTable, unsewn, unsewTable}
 use Rattle.model.specs.Remove.{removed, removeTable}
 use Rattle.model.specs.Split.{splitBy, splitTable}
 use Rattle.model.specs.Insert.{laid, insertTable}
+use Rattle.model.specs.Faces.{vtkTable}
 use Rattle.model.specs.Calls.{Outcome}
 use Rattle.model.specs.Runs.{Op, Call, doCall, keeping, effect}
 use Rattle.model.specs.Meaning.Ends.{Passed}
@@ -40,14 +41,16 @@ use Rattle.theorems.proofs.Layers.Remove.{remove-removes}
 use Rattle.theorems.proofs.Layers.NewDarts.{new-in}
 use Rattle.theorems.proofs.Layers.Splitting.{splits-splitting, spread, split-dart-link}
 use Rattle.theorems.proofs.Insert.Inserted.{insert-differs}
+use Rattle.theorems.proofs.Vtk.Table.{read-differs}
+use Rattle.theorems.proofs.Vtk.Passed.{vtk-passed, vtk-some}
 use Rattle.theorems.proofs.Calls.Pass.{add-passed, unsew-passed, sew-passed, layer-passed, split-passed, insert-passed}
 use Rattle.theorems.proofs.Calls.Pass.{unsew-side, sides-sewable}
-use Rattle.theorems.proofs.Calls.Kept.{add-call, sew-call, unsew-call, remove-call, split-call, insert-call}
+use Rattle.theorems.proofs.Calls.Kept.{add-call, sew-call, unsew-call, remove-call, split-call, insert-call, vtk-call}
 
 -- ---- the table keeps its length
 
 pub effect-length : (n : ℕ) (t : List ℕ) (p : Op) → length (effect n t p) ≡ length t
-unfolding effect addTable unsewTable removeTable splitTable sewTable insertTable added unsewn relink removed splitBy laid retable
+unfolding effect addTable unsewTable removeTable splitTable sewTable insertTable vtkTable added unsewn relink removed splitBy laid retable
 effect-length n t Op.add = length-tab _ (length t)
 effect-length n t (Op.sew i d e) = go (partners n t i d e) (partners n t i e d)
   where
@@ -60,6 +63,7 @@ effect-length n t (Op.unsew i d) = length-tab _ (length t)
 effect-length n t (Op.remove d) = length-tab _ (length t)
 effect-length n t (Op.split d) = length-tab _ (length t)
 effect-length n t (Op.insert w) = length-tab _ (length t)
+effect-length n t (Op.vtk text) = length-tab _ (length t)
 
 -- ---- an accepted operation changes the table
 
@@ -123,6 +127,7 @@ op-changes n t m j (Op.split d) a =
     differs t _ 0 d (λ q. clash (rule-at (mapTable B) d l .goes 0 (omega arith))
     (ap (live t) (q ∙ split-dart-link given d i) ∙ given .vacant .dead _ (new-in (spread given) 0 d (positive n (B .dim)) i)))
 op-changes n t m j (Op.insert w) a = insert-differs (insert-passed n t j w a)
+op-changes n t m j (Op.vtk text) a = read-differs (vtk-passed n t j text a .1) (vtk-some n t j text a)
 
 -- ---- an accepted operation leaves a map
 
@@ -135,3 +140,4 @@ op-map n o tag (Op.unsew i d) h = unsew-call n (o .table) (o .journal) tag i d h
 op-map n o tag (Op.remove d) h = remove-call n (o .table) (o .marks) (o .journal) tag d h .0
 op-map n o tag (Op.split d) h = split-call n (o .table) (o .marks) (o .journal) tag d h .0
 op-map n o tag (Op.insert w) h = insert-call n (o .table) w (o .journal) tag h .0
+op-map n o tag (Op.vtk text) h = vtk-call n (o .table) (o .journal) tag text h .0

@@ -9,12 +9,11 @@ use native.Mathlib.Omega.{arith}
 use lib.ListN.{length, getD}
 use lib.Dec.{eqb}
 use borrow.Author.Tests.{eq-eqb, ne-eqb, not-true, not-false}
-use Rattle.model.specs.Lists.{tabulate, tabulateFrom, count, allBelow}
+use Rattle.model.specs.Lists.{tabulate, tabulateFrom, count, allBelow, howMany}
 use Rattle.model.specs.Table.{unused, slots, link}
 use Rattle.model.specs.Journal.{changesFrom}
 use Rattle.model.specs.Meaning.Lists.{Distinct}
 use Rattle.model.specs.Meaning.Sets.{Marked}
-use Rattle.model.specs.Meaning.Sheets.{howMany}
 use Rattle.theorems.proofs.Lists.Scan.{test, clash, below-at, below-not, length-tab, getD-tab}
 use Rattle.theorems.proofs.Sets.Closure.{marked-in}
 use Rattle.theorems.proofs.Sets.Pigeon.{cover, distinct-le}

@@ -9,12 +9,12 @@ use native.Mathlib.Omega.{arith}
 use lib.ListN.{length, getD}
 use lib.Dec.{eqb}
 use borrow.Author.Tests.{eq-eqb, ne-eqb}
-use Rattle.model.specs.Lists.{count}
+use Rattle.model.specs.Lists.{count, howMany}
 use Rattle.model.specs.Table.{slots, link, live, liveCount}
 use Rattle.model.specs.Journal.{changesFrom}
 use Rattle.model.specs.Remove.{cellMark, marked, countMarked, removeTable}
 use Rattle.model.specs.Meaning.Maps.{Dim}
-use Rattle.model.specs.Meaning.Sheets.{BlockDart, marksOf, howMany}
+use Rattle.model.specs.Meaning.Sheets.{BlockDart, marksOf}
 use Rattle.model.specs.Meaning.Walks.{Layer, Removes, borders}
 use Rattle.theorems.proofs.Lists.Scan.{test, if-eq, clash}
 use Rattle.theorems.proofs.Maps.Dim.{two-cases}

@@ -46,7 +46,7 @@ getD-index (y ∷ l) x d i =
     let rec = getD-index l x d in
     if-eq x y (λ e. rw (index-here x y l e) (sym e)) (λ e. rw (index-there x y l e) (rec (in-later i e)))
 
-pub getD-in : (l : List ℕ) (k d : ℕ) → k < length l → In (getD l k d) l
+pub getD-in : {A : Type 0} (l : List A) (k : ℕ) (d : A) → k < length l → In (getD l k d) l
 getD-in [] k d h = absurd (omega arith)
 getD-in (y ∷ l) zero d h = here refl
 getD-in (y ∷ l) (suc k) d h = there (getD-in l k d (omega arith))
@@ -165,42 +165,47 @@ vacant-frees t k = record {
         let v = getD-tab mark (slots t) x 0 (below x h) in
         test (live t x) (λ e. let z : mark x ≡ 0 = rw (e, mark) in absurd (omega arith)) (λ e. e)
 
--- ---- a test of each number of a list
+-- ---- a test of each entry of a list
 
-module _ (p : ℕ → Bool) where
-  each-step : (y : ℕ) (l : List ℕ) → p y ≡ true → allOf p (y ∷ l) ≡ allOf p l
+module _ {A : Type 0} (p : A → Bool) where
+  each-step : (y : A) (l : List A) → p y ≡ true → allOf p (y ∷ l) ≡ allOf p l
   unfolding allOf
   each-step y l e = rw (e, allOf)
 
-  each-stop : (y : ℕ) (l : List ℕ) → p y ≡ false → allOf p (y ∷ l) ≡ false
+  each-stop : (y : A) (l : List A) → p y ≡ false → allOf p (y ∷ l) ≡ false
   unfolding allOf
   each-stop y l e = rw (e, allOf)
 
-  pub each-at : (l : List ℕ) → allOf p l ≡ true → (x : ℕ) → In x l → p x ≡ true
+  pub each-at : (l : List A) → allOf p l ≡ true → (x : A) → In x l → p x ≡ true
   each-at [] h x i = absurd (not-nil i)
   each-at (y ∷ l) h x i =
       let rec = each-at l in
       let first : p y ≡ true = test (p y) (λ e. e) (λ e. absurd (clash h (each-stop y l e))) in
       ⊎-elim (λ q. ap p q ∙ first) (rec (sym (each-step y l first) ∙ h) x) (in-cons i)
 
-  pub each-of : (l : List ℕ) → ((x : ℕ) → In x l → p x ≡ true) → allOf p l ≡ true
+  pub each-of : (l : List A) → ((x : A) → In x l → p x ≡ true) → allOf p l ≡ true
   unfolding allOf
   each-of [] h = refl
   each-of (y ∷ l) h = each-step y l (h y (here refl)) ∙ each-of l (λ x i. h x (there i))
 
   -- where not all pass, one does not
-  each-not : (l : List ℕ) → allOf p l ≡ false → (x : ℕ) × In x l × (p x ≡ false)
+  each-not : (l : List A) → allOf p l ≡ false → (x : A) × In x l × (p x ≡ false)
   unfolding allOf
   each-not [] h = absurd (clash refl h)
   each-not (y ∷ l) h =
       let rec = each-not l in
       test (p y) (λ e. let (x, i, f) = rec (sym (each-step y l e) ∙ h) in (x, there i, f)) (λ e. (y, here refl, e))
 
+  pub each-fail : (l : List A) → (allOf p l ≡ false) ↔ ((x : A) × In x l × (p x ≡ false))
+  each-fail l = (each-not l, λ (x, i, e). test (allOf p l) (λ h. absurd (clash (each-at l h x i) e)) (λ h. h))
+
+-- .. of each marked number
+module _ (p : ℕ → Bool) where
   pub marked-pass : (m : List ℕ) → (allOf p (ones m) ≡ true) ↔ ((x : ℕ) → Marked m x → p x ≡ true)
-  marked-pass m = (λ h x k. each-at (ones m) h x (ones-in m x k), λ h. each-of (ones m) (λ x i. h x (ones-of m x i)))
+  marked-pass m = (λ h x k. each-at p (ones m) h x (ones-in m x k), λ h. each-of p (ones m) (λ x i. h x (ones-of m x i)))
 
   pub marked-fail : (m : List ℕ) → (allOf p (ones m) ≡ false) ↔ ((x : ℕ) × Marked m x × (p x ≡ false))
   marked-fail m = (
-    λ h. let (x, i, e) = each-not (ones m) h in (x, ones-of m x i, e),
-    λ (x, k, e). test (allOf p (ones m)) (λ h. absurd (clash (marked-pass m .0 h x k) e)) (λ h. h),
+    λ h. let (x, i, e) = each-fail p (ones m) .0 h in (x, ones-of m x i, e),
+    λ (x, k, e). each-fail p (ones m) .1 (x, ones-in m x k, e),
   )

@@ -18,7 +18,7 @@ use Rattle.theorems.proofs.Maps.Tables.{live-below}
 -- ---- tables as long as each other
 
 module _ (t : List ℕ) (whole : length t ≡ 4 * slots t) (u : List ℕ) (long : length u ≡ length t) where
-  long-slots : slots u ≡ slots t
+  pub long-slots : slots u ≡ slots t
   unfolding slots
   long-slots = ap (λ (k : ℕ). k / 4) long
 

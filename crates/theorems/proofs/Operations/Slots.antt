@@ -10,14 +10,13 @@ use mathlib.Core.List.{Memᴰ·append-left as in-left, Memᴰ·append-right as i
 use native.Mathlib.Omega.{arith}
 use lib.ListN.{length, getD, take, drop, take-append-drop, length-append, List·getD-eq-default}
 use borrow.Author.Tests.{eq-eqb, ne-eqb}
-use Rattle.model.specs.Lists.{tabulate, count, onesFrom}
+use Rattle.model.specs.Lists.{tabulate, count, onesFrom, howMany}
 use Rattle.model.specs.Table.{slots, link, live, unusedSlots, liveCount}
 use Rattle.model.specs.Journal.{changesFrom}
 use Rattle.model.specs.Meaning.Lists.{member, Distinct, none, Rising, end, next}
 use Rattle.model.specs.Meaning.Slots.{Vacant, Lowest, LowestUnused}
 use Rattle.model.specs.Meaning.Maps.{MapTable}
 use Rattle.model.specs.Meaning.Sets.{Bits}
-use Rattle.model.specs.Meaning.Sheets.{howMany}
 use Rattle.theorems.proofs.Lists.Scan.{test, if-eq, if-lt, clash, length-tab, getD-tab}
 use Rattle.theorems.proofs.Lists.Ones.{vacant-frees, getD-in, ones-in}
 use Rattle.theorems.proofs.Lists.Ones.{in-or, member-in, in-member}

@@ -1,0 +1,16 @@
+pub mod Sites
+pub mod Table
+pub mod Counts
+pub mod Faces
+pub mod Words
+pub mod Form
+pub mod Passed
+pub mod Call
+pub mod Order
+pub mod Added
+pub mod Opposite
+pub mod Three
+pub mod Other
+pub mod Fails
+pub mod Corners
+pub mod Streaming
