@@ -8,7 +8,7 @@ ghost use Rattle.drafts.specs.Drafts.{drafted};
 ghost use Rattle.drafts.specs.Passes.{Pass, OneLink, FourLinks, ToLink, ToSlot, Drafted, SomeDraft};
 
 // Writes a triple at the word w, behind those of a draft.
-fn write_triple(journal: &mut [u32], w: usize, entry: u32, old: u32, new: u32)
+pub fn write_triple(journal: &mut [u32], w: usize, entry: u32, old: u32, new: u32)
     requires { ⌜ w + 4 ≤ length (now journal) ⌝ }
     ensures { λ _.
         ⌜ ((j : List ℕ) (cs : List Change) → now (journal .entry) ≡ drafted j cs → w ≡ cursor j + (3 * length cs + 2)

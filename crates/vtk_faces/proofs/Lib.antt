@@ -1,0 +1,14 @@
+pub mod Places
+pub mod Hashes
+pub mod Compared
+pub mod Held
+pub mod Chains
+pub mod Judging
+pub mod Steps
+pub mod Blocks
+pub mod Verdicts
+pub mod Twice
+pub mod Later
+pub mod Resting
+pub mod Same
+pub mod Taken

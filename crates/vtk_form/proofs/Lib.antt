@@ -1,0 +1,11 @@
+pub mod Lines
+pub mod Keys
+pub mod Gone
+pub mod Named
+pub mod Keeping
+pub mod Skipping
+pub mod Typing
+pub mod Told
+pub mod Beside
+pub mod Sections
+pub mod Assembly

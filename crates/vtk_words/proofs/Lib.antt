@@ -1,0 +1,4 @@
+pub mod Passing
+pub mod Numbering
+pub mod Counting
+pub mod Told
