@@ -1,11 +1,11 @@
 -- What an opening's answer says of the first checks of a call, as the model lists them: `opened-table` for check,
 -- `opened-marks` for orbit, `opened-journal` for add, sew, sew_list, undo and redo, `opened-side` for unsew, `opened-sheet` for sheet,
--- `opened-layer` for remove and split, `opened-wall` for insert.
+-- `opened-layer` for remove and split, `opened-wall` for insert, `opened-solid` for read_vtk.
 use Prim.Native.Nat.{ℕ}
 use mathlib.Core.Path.{_≡_, subst}
 use mathlib.Core.Bool.{Bool, true}
 use mathlib.Core.List.{List, [], _∷_, _++_}
-use Rattle.model.specs.Checks.{Check, andThen, inOrder, must, dimOk, tableOk, marksOk, journalOk, mapChecks, indexOk, dartOk, blockOk}
+use Rattle.model.specs.Checks.{Check, andThen, inOrder, must, dimOk, solidOk, tableOk, marksOk, journalOk, mapChecks, indexOk, dartOk, blockOk}
 use Rattle.model.specs.Checks.{sheetChecks, layerChecks}
 use Rattle.answers.specs.declared.Answer.{Answer}
 use Rattle.answers.specs.Openings.{Settles, openingChecks, sideChecks}
@@ -45,6 +45,12 @@ module _ {r : Answer} (n : ℕ) (t : List ℕ) where
         → Settles r (inOrder (dimOk n ∷ tableOk t ∷ journalOk j ∷ mapChecks n t))
     unfolding openingChecks inOrder andThen must
     opened-journal s = same (rw four) s
+
+    -- 1 passes, with n = 2 refused too
+    pub opened-solid : n ≡ 3 → Settles r (inOrder (openingChecks true journal n t))
+        → Settles r (inOrder (solidOk n ∷ tableOk t ∷ journalOk j ∷ mapChecks n t))
+    unfolding openingChecks inOrder andThen must dimOk solidOk
+    opened-solid three s = same (rw (four, three)) s
 
     pub opened-side : (i d : ℕ) → Settles r (inOrder (sideChecks journal n t i d))
         → Settles r (inOrder (dimOk n ∷ tableOk t ∷ journalOk j ∷ (mapChecks n t ++ (indexOk n i ∷ dartOk t d ∷ []))))

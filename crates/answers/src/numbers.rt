@@ -63,6 +63,34 @@ pub const WRONG_LIST_LENGTH: Answer = Answer {
     count: 0,
 };
 
+// 18: "table not empty"
+pub const NOT_EMPTY: Answer = Answer {
+    number: 18,
+    place: 0,
+    count: 0,
+};
+
+// 19: "text not of the form"
+pub const WRONG_FORM: Answer = Answer {
+    number: 19,
+    place: 0,
+    count: 0,
+};
+
+// 20: "other cell type"
+pub const OTHER_TYPE: Answer = Answer {
+    number: 20,
+    place: 0,
+    count: 0,
+};
+
+// 21: "vertex repeated in a cell"
+pub const VERTEX_REPEATED: Answer = Answer {
+    number: 21,
+    place: 0,
+    count: 0,
+};
+
 // 6: "i above n, or mask above 2^(n+1) - 1"
 pub const OUT_OF_RANGE: Answer = Answer {
     number: 6,

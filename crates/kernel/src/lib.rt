@@ -5,6 +5,7 @@ pub use call_insert::insert;
 pub use call_orbit::orbit;
 pub use call_pick::Picked;
 pub use call_pick::pick;
+pub use call_read_vtk::read_vtk;
 pub use call_remove::remove;
 pub use call_sew::sew;
 pub use call_sew::sew_list;

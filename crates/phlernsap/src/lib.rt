@@ -5,7 +5,7 @@ ghost use mathlib.Core.Path.{_≡_};
 ghost use mathlib.Core.Logic.{_≢_};
 ghost use mathlib.Core.List.{[]};
 ghost use Rattle.model.specs.Calls.{checkCall, orbitCall, sheetCall, pickCall, pickTaken, addCall, sewCall, unsewCall};
-ghost use Rattle.model.specs.Calls.{removeCall, splitCall, sewListCall, insertCall, undoCall, redoCall};
+ghost use Rattle.model.specs.Calls.{removeCall, splitCall, sewListCall, insertCall, vtkCall, undoCall, redoCall};
 ghost use Rattle.phlernsap.specs.Given.{given};
 
 // Stores place and count, and returns the number.
@@ -199,6 +199,22 @@ pub extern "C" fn phl_insert(
         ≡ insertCall n (now (table .entry)) (now (marks .entry)) (now (journal .entry)) tag ⌝ }
 {
     give(kernel::insert(n, table, marks, journal, tag), place, count)
+}
+
+#[no_mangle]
+pub extern "C" fn phl_read_vtk(
+    n: u32,
+    table: &mut [u32],
+    journal: &mut [u32],
+    tag: u32,
+    text: &[u8],
+    place: &mut u32,
+    count: &mut u32,
+) -> u32
+    ensures { λ r. ⌜ given r (now (place .exit)) (now (count .exit)) (now (table .exit)) [] (now (journal .exit))
+        ≡ vtkCall n (now (table .entry)) (now (journal .entry)) tag (now (text .entry)) ⌝ }
+{
+    give(kernel::read_vtk(n, table, journal, tag, text), place, count)
 }
 
 #[no_mangle]

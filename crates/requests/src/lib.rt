@@ -36,8 +36,9 @@ pub fn request(
     }
 }
 
-// The same of all calls: behind those of the session, insert along the wall that the marks draw, sew_list of a list, and pick over a
-// queue. How many darts pick took off is stored, for every other call 0; the queue stays as it is lent, but where pick is accepted.
+// The same of all calls: behind those of the session, insert along the wall that the marks draw, sew_list of a list, pick over a
+// queue, and read_vtk of a text. How many darts pick took off is stored, for every other call 0; the queue stays as it is lent, but
+// where pick is accepted.
 pub fn any_request(
     n: u32,
     table: &mut [u32],
@@ -51,10 +52,11 @@ pub fn any_request(
     list: &[u32],
     queue: &mut [u32],
     taken: &mut u32,
+    text: &[u8],
 ) -> Answer
     ensures { λ r. ⌜ outcome r (now (table .exit)) (now (marks .exit)) (now (journal .exit))
         ≡ anyOutcome n (lentTo (now (table .entry)) (now (marks .entry)) (now (journal .entry))) op tag i d e (now (list .entry))
-        (now (queue .entry)) ⌝ }
+        (now (queue .entry)) (now (text .entry)) ⌝ }
     ensures { λ _. ⌜ now (taken .exit) ≡ anyTaken n (now (table .entry)) (now (marks .entry)) op d (now (queue .entry)) ⌝ }
     ensures { λ r. ⌜ ((op ≢ 12) ⊎ (r .number ≢ 0) → now (queue .exit) ≡ now (queue .entry)) ⌝ }
 {
@@ -67,6 +69,7 @@ pub fn any_request(
             *taken = picked.taken;
             picked.answer
         }
+        13 => kernel::read_vtk(n, table, journal, tag, text),
         _ => request(n, table, marks, journal, op, tag, i, d, e),
     }
 }

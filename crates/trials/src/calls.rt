@@ -16,11 +16,12 @@ pub fn call(
     drawn: &mut [u8],
     journal: &mut [u32],
     list: &[u32],
+    text: &[u8],
 ) {
     let at = word_of(row);
     let kept = stage::word(journal, at);
     stage::put(journal, at, row.c);
-    lend(s, asked(row), table, drawn, journal, list);
+    lend(s, asked(row), table, drawn, journal, list, text);
     stage::put(journal, at, kept);
 }
 
@@ -40,10 +41,11 @@ fn asked(row: Row) -> Row {
     }
     Row {
         kind: if row.kind >= lines::UNDO_WITH {
-            row.kind - 5
+            row.kind - 6
         } else {
             row.kind
         },
+        text: row.text,
         a: row.b,
         b: row.c,
         c: 0,
@@ -58,17 +60,25 @@ fn lend(
     drawn: &mut [u8],
     journal: &mut [u32],
     list: &[u32],
+    text: &[u8],
 ) {
     if row.kind == lines::INSERT {
-        lend_some(s, row, table, drawn, journal, list);
+        lend_some(s, row, table, drawn, journal, list, text);
     } else {
-        lend_nines(s, row, table, journal, list);
+        lend_nines(s, row, table, journal, list, text);
     }
 }
 
-fn lend_nines(s: Stage, row: Row, table: &mut [u32], journal: &mut [u32], list: &[u32]) {
+fn lend_nines(
+    s: Stage,
+    row: Row,
+    table: &mut [u32],
+    journal: &mut [u32],
+    list: &[u32],
+    text: &[u8],
+) {
     let mut marks = [9u8; 65537];
-    lend_some(s, row, table, &mut marks, journal, list);
+    lend_some(s, row, table, &mut marks, journal, list, text);
 }
 
 // The first of these marks are lent.
@@ -79,9 +89,10 @@ fn lend_some(
     marks: &mut [u8],
     journal: &mut [u32],
     list: &[u32],
+    text: &[u8],
 ) {
     let slots = few(marks, s.marks);
-    lend_queue(s, row, table, &mut marks[..slots], journal, list);
+    lend_queue(s, row, table, &mut marks[..slots], journal, list, text);
 }
 
 // Each call is lent a queue of equal words, which only pick takes.
@@ -92,17 +103,18 @@ fn lend_queue(
     marks: &mut [u8],
     journal: &mut [u32],
     list: &[u32],
+    text: &[u8],
 ) {
     let word = s.queue_word;
     let mut queue = [word; 65537];
-    ask(s, row, table, marks, journal, list, &mut queue);
+    ask(s, row, table, marks, journal, list, &mut queue, text);
 }
 
-// So many marks; if there are not so many, a question mark and none.
-fn few(marks: &[u8], most: usize) -> usize
-    ensures { λ r. ⌜ (r ≤ length (now (marks .entry))) × (r ≡ length (take r (now (marks .entry)))) ⌝ }
+// So many bytes; if there are not so many, a question mark and none.
+pub fn few(bytes: &[u8], most: usize) -> usize
+    ensures { λ r. ⌜ (r ≤ length (now (bytes .entry))) × (r ≡ length (take r (now (bytes .entry)))) ⌝ }
 {
-    if most <= marks.len() {
+    if most <= bytes.len() {
         return most;
     }
     shows::unknown();
@@ -117,6 +129,7 @@ fn ask(
     journal: &mut [u32],
     list: &[u32],
     queue: &mut [u32],
+    text: &[u8],
 ) {
     let words = crate::few(queue, s.queue);
     let mut taken: u32 = 0;
@@ -133,6 +146,7 @@ fn ask(
         list,
         &mut queue[..words],
         &mut taken,
+        text,
     );
     shows::answer(a.number, a.place, a.count);
     if row.kind == lines::PICK {

@@ -19,56 +19,61 @@ pub const SEW_LIST: u32 = 11;
 
 pub const PICK: u32 = 12;
 
+pub const READ_VTK: u32 = 13;
+
 // undo and redo, with a word of the journal and a value for it
-pub const UNDO_WITH: u32 = 13;
+pub const UNDO_WITH: u32 = 14;
 
-pub const LINKS: u32 = 15;
+pub const LINKS: u32 = 16;
 
-pub const TABLE: u32 = 16;
+pub const TABLE: u32 = 17;
 
-pub const WORDS: u32 = 17;
+pub const WORDS: u32 = 18;
 
-pub const PUT: u32 = 18;
+pub const PUT: u32 = 19;
 
-pub const WRITE: u32 = 19;
+pub const WRITE: u32 = 20;
 
-pub const FILL: u32 = 20;
+pub const FILL: u32 = 21;
 
-pub const MARK: u32 = 21;
+pub const MARK: u32 = 22;
 
-pub const ITEM: u32 = 22;
+pub const ITEM: u32 = 23;
 
-pub const WORD: u32 = 23;
+pub const WORD: u32 = 24;
 
-pub const QUEUE: u32 = 24;
+pub const QUEUE: u32 = 25;
 
-pub const TILE: u32 = 25;
+pub const TILE: u32 = 26;
 
-pub const SCENE: u32 = 26;
+pub const SCENE: u32 = 27;
 
-pub const LEND: u32 = 27;
+pub const LEND: u32 = 28;
 
-pub const DIM: u32 = 28;
+pub const DIM: u32 = 29;
 
-pub const TAG: u32 = 29;
+pub const TAG: u32 = 30;
 
-pub const UNKNOWN: u32 = 30;
+pub const UNKNOWN: u32 = 31;
 
-pub const REMARK: u32 = 31;
+pub const REMARK: u32 = 32;
 
-// No line, but the script's end.
-pub const END: u32 = 32;
+// A line of the text, and no line, but the script's end.
+pub const TEXT: u32 = 33;
+
+pub const END: u32 = 34;
 
 // The first words, each with the digit of how many numbers there are.
 fn names(k: usize) -> u8 {
     let all =
-        b"check0 orbit2 sheet1 add0 sew3 unsew2 remove1 split1 undo0 redo0 insert0 sewlist0 pick1 undo2 redo2 links1 table0 words2 put3 write2 fill3 mark3 item3 word1 queue2 tile2 scene3 lend3 dim1 tag1 ";
-    if k < 193 { all[k] } else { b' ' }
+        b"check0 orbit2 sheet1 add0 sew3 unsew2 remove1 split1 undo0 redo0 insert0 sewlist0 pick1 readvtk0 undo2 redo2 links1 table0 words2 put3 write2 fill3 mark3 item3 word1 queue2 tile2 scene3 lend3 dim1 tag1 ";
+    if k < 202 { all[k] } else { b' ' }
 }
 
-// What a line does, and the last three of its numbers.
+// What a line does, and the last three of its numbers; and how long the text is behind it.
 pub struct Row {
     pub kind: u32,
+    pub text: usize,
     pub a: u32,
     pub b: u32,
     pub c: u32,
@@ -88,16 +93,18 @@ fn byte() -> u8 {
     piece[0]
 }
 
-// A line has at most 999 bytes.
-pub fn heard() -> Row {
+// A line has at most 999 bytes. Behind a > they are put behind the text, of which `length` bytes are there, with a LF.
+pub fn heard(text: &mut [u8], length: usize) -> Row {
     let mut word = Word { on: true, name: 0 };
     let mut found = NONE;
+    let mut at = length;
     let mut x = byte();
     let mut left: u32 = 999;
     while left > 0 {
         if x == 0 || x == b'\n' {
             left = 0;
         } else {
+            at = with_text(word.name, x, text, at);
             word = with_letter(word, x);
             found = with_byte(found, x);
             x = byte();
@@ -106,20 +113,39 @@ pub fn heard() -> Row {
     }
     Row {
         kind: kind(x, word.name, found.count),
+        text: with_text(word.name, b'\n', text, at),
         a: found.a,
         b: found.b,
         c: found.c,
     }
 }
 
+// A byte of a line of the text, if there is room.
+fn with_text(name: u64, x: u8, text: &mut [u8], at: usize) -> usize {
+    if name == TEXT_SIGN {
+        if at < text.len() {
+            text[at] = x;
+            return at + 1;
+        }
+    }
+    at
+}
+
 // ---- what it does
+
+// A # and a > as words: a line that begins with one has no other name.
+const REMARK_SIGN: u64 = 35;
+
+const TEXT_SIGN: u64 = 62;
 
 // An empty line and one that begins with a # are remarks.
 fn kind(x: u8, name: u64, count: u8) -> u32 {
     if x == 0 {
         END
-    } else if name == 0 || name == 35 {
+    } else if name == 0 || name == REMARK_SIGN {
         REMARK
+    } else if name == TEXT_SIGN {
+        TEXT
     } else {
         place(spelled(name, count))
     }
@@ -143,9 +169,11 @@ struct Word {
     name: u64,
 }
 
-// The first word ends before a blank. A # alone is 35, and so is every word that begins with it.
+// The first word ends before a blank, and behind a sign.
 fn with_letter(word: Word, x: u8) -> Word {
-    if word.on && (word.name == 0 || word.name != 35 && x != b' ') {
+    if word.on
+        && (word.name == 0 || word.name != REMARK_SIGN && word.name != TEXT_SIGN && x != b' ')
+    {
         Word {
             on: true,
             name: spelled(word.name, x),
@@ -171,7 +199,7 @@ fn place(name: u64) -> u32 {
         name: 0,
         found: UNKNOWN,
     };
-    for k in 0..193 {
+    for k in 0..202 {
         search = further(search, name, names(k));
     }
     search.found

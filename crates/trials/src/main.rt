@@ -12,22 +12,29 @@ mod lines;
 mod shows;
 mod stage;
 
-// The largest table of 01 has 262,144 words. The marks are those that `mark` lines draw, and the list is that of `item` and
-// `word` lines.
+// The largest table of 01 has 262,144 words. The marks are those that `mark` lines draw, the list is that of `item` and `word` lines, and
+// the text that of the lines that begin with a >.
 fn main() {
     let mut table = [0u32; 262148];
     let mut marks = [0u8; 65537];
     let mut journal = [0u32; 443000];
     let mut list = [0u32; 96];
-    play(&mut table, &mut marks, &mut journal, &mut list);
+    let mut text = [0u8; 4096];
+    play(&mut table, &mut marks, &mut journal, &mut list, &mut text);
 }
 
 // As many lines as a script may have; behind its end there is nothing to do.
-fn play(table: &mut [u32], marks: &mut [u8], journal: &mut [u32], list: &mut [u32]) {
+fn play(
+    table: &mut [u32],
+    marks: &mut [u8],
+    journal: &mut [u32],
+    list: &mut [u32],
+    text: &mut [u8],
+) {
     let mut s = stage::EMPTY;
     let mut left: u32 = 65536;
     while left > 0 {
-        s = turn(s, table, marks, journal, list);
+        s = turn(s, table, marks, journal, list, text);
         left -= 1;
     }
 }
@@ -38,16 +45,18 @@ fn turn(
     marks: &mut [u8],
     journal: &mut [u32],
     list: &mut [u32],
+    text: &mut [u8],
 ) -> Stage {
-    let row = lines::heard();
+    let row = lines::heard(text, s.text);
     let mut now = stage::next(s, row);
-    lend(now, row, table, marks, journal, list);
+    lend(now, row, table, marks, journal, list, text);
     now.list = stage::listed(now.list, row, list);
+    now.text = stage::told(row);
     shows::line_end(row.kind);
     now
 }
 
-// The beginnings of table, journal and list are lent.
+// The beginnings of table, journal, list and text are lent.
 fn lend(
     s: Stage,
     row: Row,
@@ -55,10 +64,12 @@ fn lend(
     marks: &mut [u8],
     journal: &mut [u32],
     list: &[u32],
+    text: &[u8],
 ) {
     let entries = few(table, s.entries);
     let words = few(journal, s.words);
     let items = few(list, s.list);
+    let bytes = calls::few(text, row.text);
     act(
         s,
         row,
@@ -66,6 +77,7 @@ fn lend(
         marks,
         &mut journal[..words],
         &list[..items],
+        &text[..bytes],
     );
 }
 
@@ -80,9 +92,17 @@ fn few(words: &[u32], most: usize) -> usize
     0
 }
 
-fn act(s: Stage, row: Row, table: &mut [u32], marks: &mut [u8], journal: &mut [u32], list: &[u32]) {
+fn act(
+    s: Stage,
+    row: Row,
+    table: &mut [u32],
+    marks: &mut [u8],
+    journal: &mut [u32],
+    list: &[u32],
+    text: &[u8],
+) {
     if row.kind < lines::LINKS {
-        calls::call(s, row, table, marks, journal, list);
+        calls::call(s, row, table, marks, journal, list, text);
     } else {
         stage::set_table(row, table);
         stage::set_marks(row, table.len() / 4, marks);

@@ -1,5 +1,5 @@
 // The stage: the dimension that calls are given, how much of the buffers is lent to them, the tag of operations, how many words the
-// list and the queue have, and what each word of the queue is.
+// list and the queue and how many bytes the text has, and what each word of the queue is.
 use crate::lines;
 use crate::lines::Row;
 use crate::shows;
@@ -14,6 +14,7 @@ pub struct Stage {
     pub list: usize,
     pub queue: usize,
     pub queue_word: u32,
+    pub text: usize,
 }
 
 pub const EMPTY: Stage = Stage {
@@ -25,6 +26,7 @@ pub const EMPTY: Stage = Stage {
     list: 0,
     queue: 0,
     queue_word: 9,
+    text: 0,
 };
 
 // The stage for a line and those behind it.
@@ -66,6 +68,7 @@ fn scene(row: Row) -> Stage {
         list: 0,
         queue: row.b as usize,
         queue_word: 9,
+        text: 0,
     }
 }
 
@@ -96,6 +99,17 @@ fn with_word(words: usize, word: u32, list: &mut [u32]) -> usize {
     }
     shows::unknown();
     words
+}
+
+// ---- what it does to the text
+
+// How many bytes it has for the lines behind: behind a scene and readvtk none.
+pub fn told(row: Row) -> usize {
+    let kind = row.kind;
+    match kind {
+        lines::SCENE | lines::READ_VTK => 0,
+        _ => row.text,
+    }
 }
 
 // ---- what a line does to the words and marks that are lent

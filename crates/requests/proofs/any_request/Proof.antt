@@ -1,4 +1,4 @@
--- `requests::any_request` meets its contract: insert, sew_list, pick, or a request of the session.
+-- `requests::any_request` meets its contract: insert, sew_list, pick, read_vtk, or a request of the session.
 use mathlib.Core.Path.{refl}
 use mathlib.Core.Logic.{⊎-elim}
 use borrow.Author.Needs.{needs}
@@ -17,6 +17,9 @@ sew-list-requires c κs = search needs
 
 pick-requires : tie.Need-pick-requires
 pick-requires c κs = search needs
+
+read-vtk-requires : tie.Need-read-vtk-requires
+read-vtk-requires c κs = search needs
 
 request-requires : tie.Need-request-requires
 request-requires c κs = search needs
@@ -75,16 +78,30 @@ same-length-9 c = search needs
 same-length-10 : tie.Need-same-length-10
 same-length-10 c = search needs
 
+returns-4 : tie.Need-returns-4
+unfolding doCall anyOutcome anyTaken
+returns-4 c =
+    let asked = c .before .before .before .before in
+    let thirteen = asked .before .before .before .match .keys4 in
+    (rw thirteen (keeps-marks _ _ _ _ (asked .read-vtk .ensures)), (rw thirteen, λ h. refl))
+
 same-length-11 : tie.Need-same-length-11
 same-length-11 c = search needs
 
-returns-4 : tie.Need-returns-4
+same-length-12 : tie.Need-same-length-12
+same-length-12 c = search needs
+
+same-length-13 : tie.Need-same-length-13
+same-length-13 c = search needs
+
+returns-5 : tie.Need-returns-5
 unfolding anyOutcome anyTaken
-returns-4 c =
+returns-5 c =
     let asked = c .before .before .before .before .before .before in
     let past = asked .before .before .before .before .match .rest in
-    let no-pick = ne-eqb _ 12 (past .1) in (
-      rw (ne-eqb _ 10 (past .0 .0 .1), ne-eqb _ 11 (past .0 .1), no-pick, anyOutcome) (asked .request .ensures),
+    let no-pick = ne-eqb _ 12 (past .0 .1) in (
+      rw (ne-eqb _ 10 (past .0 .0 .0 .1), ne-eqb _ 11 (past .0 .0 .1), no-pick, ne-eqb _ 13 (past .1), anyOutcome)
+          (asked .request .ensures),
       (rw (no-pick, anyTaken), λ h. refl),
     )
 
@@ -95,6 +112,7 @@ any-request-spec =
     insert-requires
     sew-list-requires
     pick-requires
+    read-vtk-requires
     request-requires
     same-length
     same-length-2
@@ -109,5 +127,8 @@ any-request-spec =
     returns-3
     same-length-9
     same-length-10
+    returns-4
     same-length-11
-    returns-4)
+    same-length-12
+    same-length-13
+    returns-5)

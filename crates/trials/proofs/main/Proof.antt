@@ -18,6 +18,9 @@ slice-aggregate-play-3 c = sym (length-replicate {A = ℕ} 443000 0)
 slice-aggregate-play-4 : tie.Need-slice-aggregate-play-4
 slice-aggregate-play-4 c = sym (length-replicate {A = ℕ} 96 0)
 
+slice-aggregate-play-5 : tie.Need-slice-aggregate-play-5
+slice-aggregate-play-5 c = sym (length-replicate {A = ℕ} 4096 0)
+
 play-requires : tie.Need-play-requires
 play-requires c κs = search needs
 
@@ -32,5 +35,6 @@ main-spec =
     slice-aggregate-play-2
     slice-aggregate-play-3
     slice-aggregate-play-4
+    slice-aggregate-play-5
     play-requires
     returns)

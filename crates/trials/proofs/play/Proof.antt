@@ -6,14 +6,15 @@ use Rattle.trials.proofs.play.Statement.{statement}
 use Rattle.trials.proofs.play.Tie as tie
 
 abbrev Inv-loop : tie.InvT-loop
-Inv-loop table₀ marks₀ journal₀ list₀ s₀ left₀ table marks journal list s left =
+Inv-loop table₀ marks₀ journal₀ list₀ text₀ s₀ left₀ table marks journal list text s left =
     (length table ≡ length table₀)
     × (length marks ≡ length marks₀)
     × (length journal ≡ length journal₀)
     × (length list ≡ length list₀)
+    × (length text ≡ length text₀)
 
 abbrev μ-loop : tie.MeasureT-loop
-μ-loop table₀ marks₀ journal₀ list₀ s₀ left₀ table marks journal list s left = left
+μ-loop table₀ marks₀ journal₀ list₀ text₀ s₀ left₀ table marks journal list text s left = left
 
 loop-holds : tie.Need-loop-holds Inv-loop μ-loop
 loop-holds c = search needs
@@ -42,6 +43,9 @@ same-length-3 c = search needs
 same-length-4 : tie.Need-same-length-4 Inv-loop μ-loop
 same-length-4 c = search needs
 
+same-length-5 : tie.Need-same-length-5 Inv-loop μ-loop
+same-length-5 c = search needs
+
 returns : tie.Need-returns Inv-loop μ-loop
 returns c = search needs
 
@@ -60,4 +64,5 @@ play-spec =
     same-length-2
     same-length-3
     same-length-4
+    same-length-5
     returns)

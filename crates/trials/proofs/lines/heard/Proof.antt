@@ -1,13 +1,15 @@
 -- `trials::lines::heard` is safe and ends.
+use mathlib.Core.Path.{_≡_}
+use lib.ListN.{length}
 use borrow.Author.Needs.{needs}
 use Rattle.trials.proofs.lines.heard.Statement.{statement}
 use Rattle.trials.proofs.lines.heard.Tie as tie
 
 abbrev Inv-loop : tie.InvT-loop
-Inv-loop word₀ found₀ x₀ left₀ word found x left = Unit {0}
+Inv-loop text₀ length₀ word₀ found₀ at₀ x₀ left₀ text word found at x left = length text ≡ length text₀
 
 abbrev μ-loop : tie.MeasureT-loop
-μ-loop word₀ found₀ x₀ left₀ word found x left = left
+μ-loop text₀ length₀ word₀ found₀ at₀ x₀ left₀ text word found at x left = left
 
 byte-requires : tie.Need-byte-requires Inv-loop μ-loop
 byte-requires c κs = search needs
@@ -20,6 +22,9 @@ loop-less c = search needs
 
 loop-again : tie.Need-loop-again Inv-loop μ-loop
 loop-again c = search needs
+
+with-text-requires : tie.Need-with-text-requires Inv-loop μ-loop
+with-text-requires c κs = search needs
 
 with-letter-requires : tie.Need-with-letter-requires Inv-loop μ-loop
 with-letter-requires c κs = search needs
@@ -42,6 +47,12 @@ loop-again-2 c = search needs
 kind-requires : tie.Need-kind-requires Inv-loop μ-loop
 kind-requires c κs = search needs
 
+with-text-requires-2 : tie.Need-with-text-requires-2 Inv-loop μ-loop
+with-text-requires-2 c κs = search needs
+
+same-length : tie.Need-same-length Inv-loop μ-loop
+same-length c = search needs
+
 returns : tie.Need-returns Inv-loop μ-loop
 returns c = search needs
 
@@ -55,6 +66,7 @@ heard-spec =
     loop-holds
     loop-less
     loop-again
+    with-text-requires
     with-letter-requires
     with-byte-requires
     byte-requires-2
@@ -62,4 +74,6 @@ heard-spec =
     loop-less-2
     loop-again-2
     kind-requires
+    with-text-requires-2
+    same-length
     returns)

@@ -5,10 +5,10 @@ use Rattle.trials.proofs.lines.place.Statement.{statement}
 use Rattle.trials.proofs.lines.place.Tie as tie
 
 abbrev Inv-loop : tie.InvT-loop
-Inv-loop name search₀ k₀ search k = k ≤ 193
+Inv-loop name search₀ k₀ search k = k ≤ 202
 
 abbrev μ-loop : tie.MeasureT-loop
-μ-loop name search₀ k₀ search k = 193 - k
+μ-loop name search₀ k₀ search k = 202 - k
 
 loop-holds : tie.Need-loop-holds Inv-loop μ-loop
 loop-holds c = search needs

@@ -1,0 +1,4 @@
+pub mod Empty
+pub mod Forms
+pub mod Judging
+pub mod Ends
