@@ -1,27 +1,16 @@
 -- The first slots of a table and of marks, lent as a part and given back.
-use Prim.Native.Nat.{ℕ, _+_, _*_, _<_, _≤_}
-use mathlib.Core.Path.{_≡_, sym, ap, _∙_}
+use Prim.Native.Nat.{ℕ, _*_, _≤_}
+use mathlib.Core.Path.{_≡_, ap, _∙_}
 use mathlib.Core.List.{List, _++_}
 use native.Mathlib.Omega.{arith}
-use native.Mathlib.Numerals.{add-one}
-use lib.ListN.{length, take, drop, set, replicate, length-replicate, replicate-append-replicate}
-use lib.Seq.{take-at, take-all, take-suc-set, length-take-le}
+use lib.ListN.{length, take, drop, replicate, length-replicate}
+use lib.Seq.{take-at, length-take-le}
 use Rattle.model.specs.Table.{slots}
 use Rattle.model.specs.Calls.{Outcome}
 use Rattle.model.specs.Runs.{begin}
 use Rattle.answers.specs.declared.Answer.{Answer}
 use Rattle.answers.specs.Answers.{outcome}
 use Rattle.lines.specs.Held.{lent}
-
-pub filled-more : (words : List ℕ) (x k : ℕ) → k < length words → take k words ≡ replicate k x
-    → take (k + 1) (set words k x) ≡ replicate (k + 1) x
-filled-more words x k h e =
-    rw (← replicate-append-replicate k 1 x) (rw (add-one k, take-suc-set words k x, e))
-
-pub filled-all : (words : List ℕ) (x k : ℕ) (t : List ℕ) → k ≡ length t → length words ≡ length t
-    → take k words ≡ replicate k x
-    → words ≡ replicate (length t) x
-filled-all words x k t e f h = sym (take-all k words (omega arith)) ∙ h ∙ ap (λ n. replicate n x) e
 
 pub part-back : (k : ℕ) (t p : List ℕ) → k ≤ length t → length p ≡ length (take k t) → take k (p ++ drop k t) ≡ p
 part-back k t p h e = take-at p (drop k t) k (e ∙ length-take-le k t h)
@@ -30,11 +19,6 @@ pub filled-part : (k : ℕ) (t p : List ℕ) (x : ℕ) → k ≤ length t → p 
     → take k (p ++ drop k t) ≡ replicate k x
 filled-part k t p x h e =
     part-back k t p h (ap length e ∙ length-replicate _ x) ∙ e ∙ ap (λ n. replicate n x) (length-take-le k t h)
-
-pub journal-fresh : (j words : List ℕ) → words ≡ replicate (length j) 0 → length j ≡ 16384
-    → set (set words 0 2) 1 2 ≡ begin 0 16384 .journal
-unfolding begin
-journal-fresh j words e long = rw (e, long)
 
 pub fresh-lent : (k : ℕ) (t p m q j : List ℕ) → 4 * k ≤ length t → p ≡ replicate (length (take (4 * k) t)) 4294967295
     → k ≤ length m → q ≡ replicate (length (take k m)) 0 → j ≡ begin 0 16384 .journal

@@ -1,7 +1,7 @@
 // The value of a line is taken: the next line is due, and with `e=` a request runs.
 ghost use mathlib.Core.Path.{_≡_};
 ghost use Prim.Native.Nat.{_+_, _*_, _<_, _≤_};
-ghost use lib.ListN.{length, take, replicate};
+ghost use lib.ListN.{length, take};
 ghost use Rattle.model.specs.Runs.{doCall};
 ghost use Rattle.model.specs.Runs.{begin};
 ghost use Rattle.model.specs.Session.{callOf, sessionTag};
@@ -11,47 +11,16 @@ use crate::Key;
 use crate::Session;
 use answers::Answer;
 
-// ---- a table with no live slot, a fresh journal
-
-fn fill_words(words: &mut [u32], x: u32)
-    ensures { λ _. ⌜ now (words .exit) ≡ replicate (length (now (words .entry))) x ⌝ }
-{
-    let mut k = 0;
-    while k < words.len() {
-        words[k] = x;
-        k += 1;
-    }
-}
-
-fn fill_bytes(bytes: &mut [u8], x: u8)
-    ensures { λ _. ⌜ now (bytes .exit) ≡ replicate (length (now (bytes .entry))) x ⌝ }
-{
-    let mut k = 0;
-    while k < bytes.len() {
-        bytes[k] = x;
-        k += 1;
-    }
-}
-
-// "The journal has 16,384 words."
-fn fresh_journal(journal: &mut [u32])
-    requires { ⌜ length (now journal) ≡ 16384 ⌝ }
-    ensures { λ _. ⌜ now (journal .exit) ≡ begin 0 16384 .journal ⌝ }
-{
-    fill_words(journal, 0);
-    journal[0] = 2;
-    journal[1] = 2;
-}
-
+// A table with no live slot, marks that are 0, and a fresh journal: "The journal has 16,384 words."
 fn fresh(slots: usize, table: &mut [u32], marks: &mut [u8], journal: &mut [u32])
     requires { ⌜ (3840 ≤ length (now table)) × (960 ≤ length (now marks)) × (length (now journal) ≡ 16384)
         × (slots ≤ 960) ⌝ }
     ensures { λ _. ⌜ lent slots (now (table .exit)) (now (marks .exit)) (now (journal .exit)) ≡ begin slots 16384 ⌝ }
 {
     let end = 4 * slots;
-    fill_words(&mut table[..end], reading::UNUSED);
-    fill_bytes(&mut marks[..slots], 0);
-    fresh_journal(journal);
+    fresh::fill_words(&mut table[..end], reading::UNUSED);
+    fresh::fill_bytes(&mut marks[..slots], 0);
+    fresh::fresh_journal(journal);
 }
 
 // ---- a request

@@ -1,5 +1,5 @@
 -- The live slots one by one: counted (`live-next`), and with their lines (`darts-next`).
-use Prim.Native.Nat.{ℕ, suc, _+_, _*_, _-_, _<_, _≤_}
+use Prim.Native.Nat.{ℕ, zero, suc, _+_, _*_, _-_, _<_, _≤_}
 use mathlib.Core.Path.{_≡_, refl, ap, _∙_}
 use mathlib.Core.Bool.{true, false}
 use mathlib.Core.List.{List, [], _++_, append-nil, append-assoc}
@@ -8,10 +8,11 @@ use lib.ListN.{length, take, length-append}
 use Rattle.model.specs.Lists.{tabulateFrom, tabulate, count}
 use Rattle.model.specs.Table.{slots, link, live, liveCount}
 use Rattle.model.specs.Text.{bytes, decimal, said}
-use Rattle.model.specs.Session.{dartLines, dartsFrom}
+use Rattle.model.specs.Session.{toLine, dartLines, dartsFrom}
+use Rattle.model.specs.Import.{toLines}
 use Rattle.theorems.proofs.Lists.Scan.{test}
 use Rattle.texts.specs.Texts.{Appended}
-use Rattle.texts.proofs.Writing.{appended-then}
+use Rattle.texts.proofs.Writing.{appended-none, appended-then}
 
 -- 1 at a live slot
 unfoldable pub liveMark : List ℕ → ℕ → ℕ
@@ -69,16 +70,30 @@ pub darts-dead : (t : List ℕ) (d : ℕ) → live t d ≡ false → [] ≡ dart
 unfolding dartsFrom
 darts-dead t d h = rw (h, dartsFrom)
 
--- the parts of a live slot's lines
-pub dart-whole : (t : List ℕ) (d : ℕ) {a b c e f g out : List ℕ} {at p q r s u end : ℕ}
-    → Appended a at (said (bytes "dart=") d) b p
-    → Appended b p (bytes "to=") c q → Appended c q (decimal (link t 0 d) ++ bytes ",") e r
-    → Appended e r (decimal (link t 1 d) ++ bytes ",") f s → Appended f s (decimal (link t 2 d) ++ bytes ",") g u
-    → Appended g u (said [] (link t 3 d)) out end → Appended a at (dartLines t d) out end
-unfolding dartLines
-dart-whole t d h i j k l m =
-    let whole = appended-then (appended-then (appended-then (appended-then (appended-then h i) j) k) l) m in
+-- the parts of a slot's line
+pub to-whole : (t : List ℕ) (d : ℕ) {a b c e f out : List ℕ} {at p q r s end : ℕ}
+    → Appended a at (bytes "to=") b p → Appended b p (decimal (link t 0 d) ++ bytes ",") c q
+    → Appended c q (decimal (link t 1 d) ++ bytes ",") e r → Appended e r (decimal (link t 2 d) ++ bytes ",") f s
+    → Appended f s (said [] (link t 3 d)) out end → Appended a at (toLine t d) out end
+unfolding toLine
+to-whole t d h i j k l =
+    let whole = appended-then (appended-then (appended-then (appended-then h i) j) k) l in
     simp append-assoc (simp append-assoc at whole)
+
+-- ---- lines of slots one after the other
+
+pub lines-none : (out : List ℕ) (at a : ℕ) (t : List ℕ) → Appended out at (toLines 0 a t) out at
+unfolding toLines
+lines-none out at a t = appended-none out at
+
+lines-last : (d a : ℕ) (t : List ℕ) → toLines (suc d) a t ≡ toLines d a t ++ toLine t (a + d)
+unfolding toLines
+lines-last zero a t = let e : a + 0 ≡ a = omega arith in rw (e, append-nil)
+lines-last (suc d) a t = let e : a + suc d ≡ suc a + d = omega arith in rw (e, lines-last d (suc a) t, append-assoc)
+
+pub lines-more : {out next last : List ℕ} {at place r : ℕ} (d a : ℕ) (t : List ℕ) → Appended out at (toLines d a t) next place
+    → Appended next place (toLine t (a + d)) last r → Appended out at (toLines (d + 1) a t) last r
+lines-more d a t h k = let one : d + 1 ≡ suc d = omega arith in rw (one, lines-last d a t) (appended-then h k)
 
 -- ---- the lines of the live slots are written one after the other: the slots before d are done, and `place` is behind them
 

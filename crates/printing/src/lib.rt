@@ -5,8 +5,9 @@ ghost use Prim.Native.Nat.{_+_, _*_, _<_, _≤_};
 ghost use lib.ListN.{length};
 ghost use Rattle.model.specs.Table.{slots, link};
 ghost use Rattle.model.specs.Table.{liveCount};
-ghost use Rattle.model.specs.Text.{bytes, decimal};
-ghost use Rattle.model.specs.Session.{answered, dartLines, dartsFrom, ending};
+ghost use Rattle.model.specs.Text.{bytes, decimal, said};
+ghost use Rattle.model.specs.Session.{answered, toLine, dartLines, dartsFrom, ending};
+ghost use Rattle.model.specs.Import.{toLines};
 ghost use Rattle.answers.specs.Answers.{outcome};
 ghost use Rattle.texts.specs.Texts.{Appended};
 use answers::Answer;
@@ -33,18 +34,27 @@ fn link_comma(out: &mut [u8], at: usize, table: &[u32], i: usize, d: u32) -> usi
     texts::put(out, end, b",")
 }
 
-// "`dart=` and `to=` with its four links, parted by commas"
+// "`to=` with its four links, parted by commas"
+fn to_line(out: &mut [u8], at: usize, table: &[u32], d: u32) -> usize
+    requires { ⌜ at + 96 ≤ length (now out) ⌝ }
+    ensures { λ r. ⌜ (Appended (now (out .entry)) at (toLine (now (table .entry)) d) (now (out .exit)) r)
+        × (r ≤ at + 96) ⌝ }
+{
+    let first = texts::put(out, at, b"to=");
+    let second = link_comma(out, first, table, 0, d);
+    let third = link_comma(out, second, table, 1, d);
+    let last = link_comma(out, third, table, 2, d);
+    texts::say(out, last, b"", reading::link(table, 3, d) as u64)
+}
+
+// "`dart=` and `to=`"
 fn dart_lines(out: &mut [u8], at: usize, table: &[u32], d: u32) -> usize
     requires { ⌜ at + 128 ≤ length (now out) ⌝ }
     ensures { λ r. ⌜ (Appended (now (out .entry)) at (dartLines (now (table .entry)) d) (now (out .exit)) r)
         × (r ≤ at + 128) ⌝ }
 {
     let to = texts::say(out, at, b"dart=", d as u64);
-    let first = texts::put(out, to, b"to=");
-    let second = link_comma(out, first, table, 0, d);
-    let third = link_comma(out, second, table, 1, d);
-    let last = link_comma(out, third, table, 2, d);
-    texts::say(out, last, b"", reading::link(table, 3, d) as u64)
+    to_line(out, to, table, d)
 }
 
 // The lines of d, if it is a live slot.
@@ -99,4 +109,30 @@ pub fn ending(out: &mut [u8], at: usize, table: &[u32]) -> usize
 {
     let first = texts::say(out, at, b"live=", live_count(table) as u64);
     darts(out, first, table)
+}
+
+// ---- a map, as `import` prints it
+
+// "one `to=` line per slot": of k slots from a on.
+pub fn to_lines(out: &mut [u8], at: usize, table: &[u32], a: u32, k: u32) -> usize
+    requires { ⌜ (at + 96 * k ≤ length (now out)) × (a + k < 4294967296) ⌝ }
+    ensures { λ r. ⌜ Appended (now (out .entry)) at (toLines k a (now (table .entry))) (now (out .exit)) r ⌝ }
+{
+    let mut place = at;
+    let mut d = 0;
+    while d < k {
+        place = to_line(out, place, table, a + d);
+        d += 1;
+    }
+    place
+}
+
+// "`dim=`, `slots=`": what stands before the lines of k slots.
+pub fn map_head(out: &mut [u8], at: usize, n: u32, k: u32) -> usize
+    requires { ⌜ at + 64 ≤ length (now out) ⌝ }
+    ensures { λ r. ⌜ (Appended (now (out .entry)) at (said (bytes "dim=") n ++ said (bytes "slots=") k) (now (out .exit)) r)
+        × (r ≤ at + 64) ⌝ }
+{
+    let size = texts::say(out, at, b"dim=", n as u64);
+    texts::say(out, size, b"slots=", k as u64)
 }

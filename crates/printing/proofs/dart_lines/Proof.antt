@@ -1,6 +1,7 @@
 -- `printing::dart_lines` meets its contract: its parts, one behind the other.
 use native.Mathlib.Omega.{arith}
-use Rattle.printing.proofs.Rising.{dart-whole}
+use Rattle.model.specs.Session.{dartLines}
+use Rattle.texts.proofs.Writing.{appended-then}
 use borrow.Author.Needs.{needs}
 use Rattle.printing.proofs.dart_lines.Statement.{statement}
 use Rattle.printing.proofs.dart_lines.Tie as tie
@@ -11,127 +12,21 @@ slice-aggregate-say c = search needs
 say-requires : tie.Need-say-requires
 say-requires c κs = search needs
 
-slice-aggregate-put : tie.Need-slice-aggregate-put
-slice-aggregate-put c = search needs
-
-put-requires : tie.Need-put-requires
-put-requires c κs =
-    let dart = c .before .before .before .before in
+to-line-requires : tie.Need-to-line-requires
+to-line-requires c κs =
+    let dart = c .before .before .before in
     let p = dart .before .before .before .before .before in
     omega (arith, dart .say .ensures .1, dart .say .kept .0, p .pre)
-
-link-comma-requires : tie.Need-link-comma-requires
-link-comma-requires c κs =
-    let to = c .before .before .before in
-    let dart = to .before .before .before .before .before in
-    let p = dart .before .before .before .before .before in
-    (omega (arith, to .put .ensures .ends, to .put .kept .0, dart .say .ensures .1, dart .say .kept .0, p .pre), omega arith)
-
-link-comma-requires-2 : tie.Need-link-comma-requires-2
-link-comma-requires-2 c κs =
-    let first = c .before .before .before in
-    let to = first .before .before .before .before in
-    let dart = to .before .before .before .before .before in
-    let p = dart .before .before .before .before .before in (
-      omega (
-        arith,
-        first .link-comma .ensures .1,
-        first .link-comma .kept .0,
-        to .put .ensures .ends,
-        to .put .kept .0,
-        dart .say .ensures .1,
-        dart .say .kept .0,
-        p .pre,
-      ),
-      omega arith,
-    )
-
-link-comma-requires-3 : tie.Need-link-comma-requires-3
-link-comma-requires-3 c κs =
-    let second = c .before .before .before in
-    let first = second .before .before .before .before in
-    let to = first .before .before .before .before in
-    let dart = to .before .before .before .before .before in
-    let p = dart .before .before .before .before .before in (
-      omega (
-        arith,
-        second .link-comma2 .ensures .1,
-        second .link-comma2 .kept .0,
-        first .link-comma .ensures .1,
-        first .link-comma .kept .0,
-        to .put .ensures .ends,
-        to .put .kept .0,
-        dart .say .ensures .1,
-        dart .say .kept .0,
-        p .pre,
-      ),
-      omega arith,
-    )
-
-slice-aggregate-say-2 : tie.Need-slice-aggregate-say-2
-slice-aggregate-say-2 c = search needs
-
-link-requires : tie.Need-link-requires
-link-requires c κs = search needs
-
-cast-say : tie.Need-cast-say
-cast-say c = search needs
-
-say-requires-2 : tie.Need-say-requires-2
-say-requires-2 c κs =
-    let third = c .before .before .before .before .before in
-    let second = third .before .before .before .before in
-    let first = second .before .before .before .before in
-    let to = first .before .before .before .before in
-    let dart = to .before .before .before .before .before in
-    let p = dart .before .before .before .before .before in
-    omega (
-      arith,
-      third .link-comma3 .ensures .1,
-      third .link-comma3 .kept .0,
-      second .link-comma2 .ensures .1,
-      second .link-comma2 .kept .0,
-      first .link-comma .ensures .1,
-      first .link-comma .kept .0,
-      to .put .ensures .ends,
-      to .put .kept .0,
-      dart .say .ensures .1,
-      dart .say .kept .0,
-      p .pre,
-    )
 
 same-length : tie.Need-same-length
 same-length c = search needs
 
 returns : tie.Need-returns
+unfolding dartLines
 returns c =
-    let third = c .before .before .before .before .before .before .before .before in
-    let second = third .before .before .before .before in
-    let first = second .before .before .before .before in
-    let to = first .before .before .before .before in
-    let dart = to .before .before .before .before .before in
-    let p = dart .before .before .before .before .before in
-    let last = c .before .before in
-    let a = p .args in (
-      dart-whole (a .table .now) (a .d) (dart .say .ensures .0) (to .put .ensures) (first .link-comma .ensures .0)
-          (second .link-comma2 .ensures .0)
-          (third .link-comma3 .ensures .0) (rw (← last .before .link .ensures) (last .say2 .ensures .0)),
-      omega (
-        arith,
-        last .say2 .ensures .1,
-        third .link-comma3 .ensures .1,
-        third .link-comma3 .kept .0,
-        second .link-comma2 .ensures .1,
-        second .link-comma2 .kept .0,
-        first .link-comma .ensures .1,
-        first .link-comma .kept .0,
-        to .put .ensures .ends,
-        to .put .kept .0,
-        dart .say .ensures .1,
-        dart .say .kept .0,
-        p .pre,
-      ),
-    )
+    let to = c .before .before in
+    let dart = to .before .before .before .before in
+    (appended-then (dart .say .ensures .0) (to .to-line .ensures .0), omega (arith, to .to-line .ensures .1, dart .say .ensures .1))
 
 pub dart-lines-spec : {M : Type 1} → statement M
 dart-lines-spec =
@@ -139,14 +34,6 @@ dart-lines-spec =
     (tie.spec
     slice-aggregate-say
     say-requires
-    slice-aggregate-put
-    put-requires
-    link-comma-requires
-    link-comma-requires-2
-    link-comma-requires-3
-    slice-aggregate-say-2
-    link-requires
-    cast-say
-    say-requires-2
+    to-line-requires
     same-length
     returns)

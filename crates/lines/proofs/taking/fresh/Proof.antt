@@ -52,7 +52,7 @@ returns c =
     let p = table .before .before .before .before .before in
     fresh-lent (p .args .slots) (p .args .table .now) _ (p .args .marks .now) _ _ (omega (arith, p .pre .0, p .pre .3))
     (table .fill-words .ensures) (omega (arith, p .pre .1, p .pre .3)) (marks .fill-bytes .ensures)
-    (journal .fresh-journal .ensures)
+    (rw (p .pre .2) at (journal .fresh-journal .ensures))
 
 pub fresh-spec : {M : Type 1} → statement M
 fresh-spec =

@@ -1,11 +1,11 @@
--- `lines::taking::fill_bytes` meets its contract. The loop's invariant: the first `k` are filled.
+-- `fresh::fill_bytes` meets its contract. The loop's invariant: the first `k` are filled.
 use Prim.Native.Nat.{_-_, _≤_}
 use mathlib.Core.Path.{_≡_, refl}
 use native.Mathlib.Omega.{arith}
 use lib.ListN.{length, take, replicate, length-set}
-use Rattle.lines.proofs.Fresh.{filled-more, filled-all}
-use Rattle.lines.proofs.taking.fill_bytes.Statement.{statement}
-use Rattle.lines.proofs.taking.fill_bytes.Tie as tie
+use Rattle.fresh.proofs.Filling.{filled-more, filled-all}
+use Rattle.fresh.proofs.fill_bytes.Statement.{statement}
+use Rattle.fresh.proofs.fill_bytes.Tie as tie
 
 abbrev Inv-loop : tie.InvT-loop
 Inv-loop bytes₀ x k₀ bytes k = (k ≤ length bytes₀) × (length bytes ≡ length bytes₀) × (take k bytes ≡ replicate k x)

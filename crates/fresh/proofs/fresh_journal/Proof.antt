@@ -1,8 +1,8 @@
--- `lines::taking::fresh_journal` meets its contract.
-use Rattle.lines.proofs.Fresh.{journal-fresh}
+-- `fresh::fresh_journal` meets its contract.
+use Rattle.fresh.proofs.Filling.{journal-fresh}
 use borrow.Author.Needs.{needs}
-use Rattle.lines.proofs.taking.fresh_journal.Statement.{statement}
-use Rattle.lines.proofs.taking.fresh_journal.Tie as tie
+use Rattle.fresh.proofs.fresh_journal.Statement.{statement}
+use Rattle.fresh.proofs.fresh_journal.Tie as tie
 
 fill-words-requires : tie.Need-fill-words-requires
 fill-words-requires c κs = search needs
@@ -20,7 +20,7 @@ returns : tie.Need-returns
 returns c =
     let filled = c .before .before in
     let p = filled .before .before .before in
-    journal-fresh (p .args .journal .now) _ (filled .fill-words .ensures) (p .pre)
+    journal-fresh _ _ (filled .fill-words .ensures) (p .pre)
 
 pub fresh-journal-spec : {M : Type 1} → statement M
 fresh-journal-spec =

@@ -1,11 +1,11 @@
--- `lines::taking::fill_words` meets its contract. The loop's invariant: the first `k` are filled.
+-- `fresh::fill_words` meets its contract. The loop's invariant: the first `k` are filled.
 use Prim.Native.Nat.{_-_, _≤_}
 use mathlib.Core.Path.{_≡_, refl}
 use native.Mathlib.Omega.{arith}
 use lib.ListN.{length, take, replicate, length-set}
-use Rattle.lines.proofs.Fresh.{filled-more, filled-all}
-use Rattle.lines.proofs.taking.fill_words.Statement.{statement}
-use Rattle.lines.proofs.taking.fill_words.Tie as tie
+use Rattle.fresh.proofs.Filling.{filled-more, filled-all}
+use Rattle.fresh.proofs.fill_words.Statement.{statement}
+use Rattle.fresh.proofs.fill_words.Tie as tie
 
 abbrev Inv-loop : tie.InvT-loop
 Inv-loop words₀ x k₀ words k = (k ≤ length words₀) × (length words ≡ length words₀) × (take k words ≡ replicate k x)

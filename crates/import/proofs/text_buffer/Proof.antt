@@ -1,0 +1,12 @@
+-- `import::text_buffer` meets its contract: by the law of a repeat's length, and not by counting.
+use Prim.Native.Nat.{ℕ}
+use mathlib.Core.Path.{sym}
+use lib.ListN.{length-replicate}
+use Rattle.import.proofs.text_buffer.Statement.{statement}
+use Rattle.import.proofs.text_buffer.Tie as tie
+
+returns : tie.Need-returns
+returns c = sym (length-replicate {A = ℕ} 2097152 0)
+
+pub text-buffer-spec : {M : Type 1} → statement M
+text-buffer-spec = tie.close (tie.spec returns)
