@@ -7,6 +7,7 @@ $1 == "refusal" {
     next
 }
 $1 == "growth" { key = $2 " " $3; if (!(key in live)) growth[++grows] = key; live[key] = $6; next }
+$1 == "bytes" { bytes[$2 " " $3 " " $4] = $5; next }
 NF == 6 {
     key = $1 " " $2 " " $3
     if (!(key in yard)) { line[++lines] = key; yard[key] = $4; test[key] = $5 }
@@ -22,6 +23,8 @@ END {
         key = line[x]
         ratio = test[key] / yard[key]
         printf "%s %d %d %.2f\n", key, yard[key], test[key], ratio
+        if (key ~ /^vtk-words /) { plain = yard[key] < test[key] ? yard[key] : test[key]; continue }
+        calls++
         sum += log(ratio)
         if (ratio > worst) { worst = ratio; worst_key = key }
     }
@@ -46,6 +49,16 @@ END {
         if (quotient > pick_worst) { pick_worst = quotient; pick_key = key }
         if (key ~ /-random / && quotient > random_worst) { random_worst = quotient; random_key = key }
     }
+    print "# bytes line dim slots number yardstick kernel: of the text that the line reads, and how many million of them in a second"
+    for (x = 1; x <= lines; x++) {
+        key = line[x]
+        if (key in bytes) printf "bytes %s %d %.0f %.0f\n", key, bytes[key], 1000 * bytes[key] / yard[key], 1000 * bytes[key] / test[key]
+    }
+    print "# words line dim slots yardstick kernel: time of reading over that of finding the words of the same text"
+    for (x = 1; x <= lines; x++) {
+        key = line[x]
+        if (key ~ /^vtk-read /) printf "words %s %.2f %.2f\n", key, yard[key] / plain, test[key] / plain
+    }
     print "# refusal call yardstick_ns kernel_ns: n = 9"
     for (x = 1; x <= refusals; x++) printf "refusal %s %.1f %.1f\n", refusal[x], refused[refusal[x]], refused_test[refusal[x]]
     print "# growth call dim yardstick kernel live: time at 65k over time at 8k, over live darts; 1 is linear"
@@ -54,7 +67,7 @@ END {
         printf "growth %s %.2f %.2f %s\n", key, yard[key " 65536"] / yard[key " 8192"] / live[key], \
             test[key " 65536"] / test[key " 8192"] / live[key], live[key]
     }
-    printf "worst ratio %.2f (%s), geometric mean %.2f, of %d measurements\n", worst, worst_key, exp(sum / lines), lines
+    printf "worst ratio %.2f (%s), geometric mean %.2f, of %d measurements\n", worst, worst_key, exp(sum / calls), calls
     if (picks > 0)
         printf "pick over sheet: worst %.3f (%s), geometric mean %.3f, of %d; worst of -random %.3f (%s)\n", \
             pick_worst, pick_key, exp(pick_sum / picks), picks, random_worst, random_key

@@ -9,12 +9,13 @@
 #include "yardstick.h"
 
 enum call {
-    CHECK, ORBIT, SHEET, PICK, ADD, SEW, SEW_LIST, UNSEW, REMOVE, SPLIT, INSERT, UNDO, REDO, CALLS
+    CHECK, ORBIT, SHEET, PICK, ADD, SEW, SEW_LIST, UNSEW, REMOVE, SPLIT, INSERT,
+    READ_VTK, UNDO, REDO, CALLS
 };
 
 static const char *const call_name[CALLS] = {
     "check", "orbit", "sheet", "pick", "add", "sew", "sew_list", "unsew", "remove", "split",
-    "insert", "undo", "redo",
+    "insert", "read_vtk", "undo", "redo",
 };
 
 typedef struct { uint32_t no, place, count; } answer;
@@ -35,6 +36,8 @@ typedef struct {
     uint32_t *queue;
     size_t queue_len;
     uint32_t *taken;
+    const uint8_t *text;
+    size_t text_len;
 } request;
 
 /* Defines NAME, which runs a request on the implementation of that prefix. The place, the count and
@@ -75,6 +78,9 @@ typedef struct {
         case INSERT:                                                                              \
             return PREFIX##insert(q->n, q->table, q->table_len, q->marks, q->marks_len,           \
                                   q->journal, q->journal_len, q->tag, place, count);              \
+        case READ_VTK:                                                                            \
+            return PREFIX##read_vtk(q->n, q->table, q->table_len, q->journal, q->journal_len,     \
+                                    q->tag, q->text, q->text_len, place, count);                  \
         case UNDO:                                                                                \
             return PREFIX##undo(q->n, q->table, q->table_len, q->journal, q->journal_len, place,  \
                                 count);                                                           \

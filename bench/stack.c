@@ -8,6 +8,7 @@
 
 #include "impl.h"
 #include "maps.h"
+#include "meshes.h"
 
 DEFINE_RUN(run_test, phl_)
 
@@ -47,15 +48,34 @@ static size_t taken(void *(*run)(void *), request *q)
     return STACK - untouched;
 }
 
+static void measure_request(request q)
+{
+    request none = q;
+    size_t base = taken(nothing, &none);
+    size_t whole = taken(one_call, &q);
+    printf("stack %s %u %u %zu number %u\n", call_name[q.call], (unsigned)q.n,
+           (unsigned)(q.table_len / 4), whole - base, (unsigned)q.i);
+}
+
 static void measure(enum call call, uint32_t n, uint32_t slots, uint32_t i, uint32_t d, uint32_t e)
 {
     const uint32_t item[3] = {i, d, e};
     request q = {call, n, table, 4 * (size_t)slots, marks, slots, journal, MAX_JOURNAL,
-                 i, 2, d, e, 0, item, 3, queue, slots, &off};
-    request none = q;
-    size_t base = taken(nothing, &none);
-    size_t whole = taken(one_call, &q);
-    printf("stack %s %u %u %zu number %u\n", call_name[call], n, slots, whole - base, q.i);
+                 i, 2, d, e, 0, item, 3, queue, slots, &off, NULL, 0};
+    measure_request(q);
+}
+
+/* Reading the file of a brick. */
+static void measure_text(const uint32_t size[3], uint32_t slots)
+{
+    size_t len;
+    uint8_t *text = vtk_of_brick(size, &len);
+    request q = {READ_VTK, 3, table, 4 * (size_t)slots, marks, slots, journal, MAX_JOURNAL,
+                 0, 0, 0, 0, 0, NULL, 0, NULL, 0, NULL, text, len};
+    map_clear(table, slots);
+    journal[0] = journal[1] = 2;
+    measure_request(q);
+    free(text);
 }
 
 /* A wall where split cut the cells, its new darts being those from `first` on: the last of each n. */
@@ -83,7 +103,7 @@ static void measure_all(uint32_t n, const uint32_t grid[3], uint32_t slots)
     draw_cut(n, first, slots);
     measure(INSERT, n, slots, 0, 0, 0);
     request q = {UNDO, n, table, 4 * (size_t)slots, marks, slots, journal, MAX_JOURNAL,
-                 0, 0, 0, 0, 0, NULL, 0, NULL, 0, NULL};
+                 0, 0, 0, 0, 0, NULL, 0, NULL, 0, NULL, NULL, 0};
     run_test(&q, &place, &count);
     measure(REMOVE, n, slots, 0, 0, 0);
     measure(ADD, n, slots, 0, 0, 0);
@@ -105,5 +125,9 @@ int main(void)
     };
     for (size_t x = 0; x < sizeof maps / sizeof maps[0]; x++)
         measure_all(maps[x].n, maps[x].grid, maps[x].slots);
+    /* as many cells as the table takes, and far more */
+    measure_text((const uint32_t[3]){7, 3, 2}, 2048);
+    measure_text((const uint32_t[3]){13, 15, 7}, MAX_SLOTS);
+    measure_text((const uint32_t[3]){50, 50, 40}, MAX_SLOTS);
     return 0;
 }

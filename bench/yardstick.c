@@ -2,14 +2,17 @@
  * both), in C99, tuned: what a careful engineer gets without proofs.
  *
  * Every call, with a list of sews too, validates its whole input in one pass over the table and
- * takes time linear in slots plus entries written. Nothing is kept between calls but the lent
- * buffers; the static scratch is written by a call before it is read (so: one call at a time).
+ * takes time linear in slots plus entries written, read_vtk also in the bytes of its text. Nothing
+ * is kept between calls but the lent buffers; the static scratch is written by a call before it is
+ * read (so: one call at a time). A text with more cells than a table takes is judged in memory of the
+ * C library; all else is without.
  *
  * Functions marked INLINE take the dimension (or mask, or axis order) as a constant and are
  * compiled once per value. With YARD_AS_PHL the calls are named phl_ instead of yard_.
  */
 #include <stddef.h>
 #include <stdint.h>
+#include <stdlib.h>
 #include <string.h>
 
 #ifdef YARD_AS_PHL
@@ -1384,6 +1387,387 @@ uint32_t YARD(insert)(uint32_t n, uint32_t *table, size_t table_len,
     return give(n == 3 ? insert_in(3, table, slots, marks, journal, journal_len, tag)
                        : insert_in(2, table, slots, marks, journal, journal_len, tag),
                 place, count);
+}
+
+/* ---------------------------------------------------------------- read_vtk: words */
+
+/* What is left of a text. Its words stand between blanks, tabs and LF. */
+typedef struct { const uint8_t *at, *end; } text;
+
+INLINE int parting(uint8_t c)
+{
+    return (c == ' ') | (c == '\t') | (c == '\n');
+}
+
+INLINE void skip_parting(text *t)
+{
+    while (t->at < t->end && parting(*t->at))
+        t->at++;
+}
+
+/* Passes `words` words, with any bytes; 0 if there are fewer. A block of bytes that ends fewer of
+ * them than are left is passed at once. */
+static int pass_words(text *t, uint64_t words)
+{
+    enum { BLOCK = 64 };
+    while (t->end - t->at > BLOCK) {
+        uint8_t ends = 0;
+        for (int k = 0; k < BLOCK; k++)
+            ends += parting(t->at[k]) < parting(t->at[k + 1]);
+        if (ends >= words)
+            break;
+        words -= ends;
+        t->at += BLOCK;
+    }
+    for (; words > 0; words--) {
+        skip_parting(t);
+        if (t->at == t->end)
+            return 0;
+        while (t->at < t->end && !parting(*t->at))
+            t->at++;
+    }
+    return 1;
+}
+
+/* Passes these bytes, if the text begins with them. */
+static int pass_bytes(text *t, const char *bytes)
+{
+    size_t len = strlen(bytes);
+    if ((size_t)(t->end - t->at) < len || memcmp(t->at, bytes, len) != 0)
+        return 0;
+    t->at += len;
+    return 1;
+}
+
+/* Passes the next word, if it is this one. */
+static int pass_word(text *t, const char *word)
+{
+    skip_parting(t);
+    return pass_bytes(t, word) && (t->at == t->end || parting(*t->at));
+}
+
+/* No count or number of a text is as large. */
+#define TOO_LARGE UINT64_C(1000000000000000000)
+
+/* Passes the next word, if it is a plain decimal; the value of a larger one is TOO_LARGE. */
+INLINE int pass_number(text *t, uint64_t *value)
+{
+    const uint8_t *at, *end = t->end;
+    uint64_t v;
+    skip_parting(t);
+    at = t->at;
+    if (at == end || (uint8_t)(*at - '0') > 9)
+        return 0;
+    v = (uint64_t)(*at++ - '0');
+    if (v > 0)
+        for (; at < end && (uint8_t)(*at - '0') <= 9; at++) {
+            v = 10 * v + (uint64_t)(*at - '0');
+            if (v > TOO_LARGE)
+                v = TOO_LARGE;
+        }
+    if (at < end && !parting(*at))
+        return 0;
+    t->at = at;
+    *value = v;
+    return 1;
+}
+
+/* ---------------------------------------------------------------- read_vtk: the form */
+
+#define MOST_CELLS (MAX_SLOTS / 48)      /* that a table has room for */
+
+static uint32_t few_corners[MOST_CELLS][8];
+
+/* The cells of a text: the eight vertices of each, as listed, where each has eight. A text with more
+ * than 2^32 points has above 2^34 bytes; it is not asked for. */
+typedef struct {
+    size_t len;
+    uint32_t (*corners)[8];              /* NULL if some row has not eight numbers */
+    int repeated;                        /* whether one has the same vertex twice */
+} cells;
+
+/* More than a table takes are lent by the C library. */
+static void *lend(void *few, int fits, size_t bytes)
+{
+    void *lent = fits ? few : malloc(bytes);
+    if (!lent)
+        abort();
+    return lent;
+}
+
+static void give_back(void *lent, const void *few)
+{
+    if (lent != few)
+        free(lent);
+}
+
+INLINE int has_repeated(const uint32_t v[8])
+{
+    int same = 0;
+    for (int x = 0; x < 8; x++)
+        for (int y = 0; y < x; y++)
+            same |= v[x] == v[y];
+    return same;
+}
+
+/* Passes a row: its length and so many numbers below `points`. Eight go to v. */
+INLINE int pass_row(text *t, uint64_t points, uint64_t *len, uint32_t v[8])
+{
+    uint64_t number;
+    if (!pass_number(t, len))
+        return 0;
+    for (uint64_t x = 0; x < *len; x++) {
+        if (!pass_number(t, &number) || number >= points)
+            return 0;
+        v[x % 8] = (uint32_t)number;
+    }
+    return 1;
+}
+
+/* Passes the rows. The vertices are kept as long as each row has eight numbers. */
+static int pass_rows(text *t, uint64_t points, uint64_t size, cells *c)
+{
+    uint32_t other[8];
+    uint64_t words = 0, len;
+    for (size_t x = 0; x < c->len; x++) {
+        uint32_t *v = c->corners ? c->corners[x] : other;
+        if (!pass_row(t, points, &len, v))
+            return 0;
+        words += 1 + len;
+        if (c->corners && len == 8)
+            c->repeated |= has_repeated(v);
+        else if (c->corners) {
+            give_back(c->corners, few_corners);
+            c->corners = NULL;
+        }
+    }
+    return words == size;
+}
+
+/* Passes the types. Gives 0, or 19 if a row of type 12 has not eight numbers, or 20. The rows are
+ * gone through again beside them where not all have eight. */
+static uint32_t pass_types(text *t, text rows, const cells *c)
+{
+    int others = 0;
+    uint64_t type, len = 8;
+    for (size_t x = 0; x < c->len; x++) {
+        if (!c->corners && (!pass_number(&rows, &len) || !pass_words(&rows, len)))
+            return 19;
+        if (!pass_number(t, &type) || (type == 12 && len != 8))
+            return 19;
+        others |= type != 12;
+    }
+    skip_parting(t);
+    return t->at != t->end ? 19 : others ? 20 : 0;
+}
+
+/* Reads the text up to 20: the number, and the cells. */
+static uint32_t read_form(text t, cells *c)
+{
+    uint64_t points, len, types, size;
+    *c = (cells){0, NULL, 0};
+    if (!pass_bytes(&t, "# vtk DataFile Version 2.0\n")
+        && !pass_bytes(&t, "# vtk DataFile Version 3.0\n"))
+        return 19;
+    t.at = memchr(t.at, '\n', (size_t)(t.end - t.at));
+    if (!t.at || !pass_word(&t, "ASCII") || !pass_word(&t, "DATASET")
+        || !pass_word(&t, "UNSTRUCTURED_GRID"))
+        return 19;
+    if (!pass_word(&t, "POINTS") || !pass_number(&t, &points) || !pass_words(&t, 1)
+        || !pass_words(&t, 3 * points))
+        return 19;
+    if (!pass_word(&t, "CELLS") || !pass_number(&t, &len) || len == 0 || !pass_number(&t, &size))
+        return 19;
+    /* A row of eight numbers has 18 bytes or more, with those behind its words. */
+    c->len = len;
+    if (len <= (size_t)(t.end - t.at) / 18)
+        c->corners = lend(few_corners, len <= MOST_CELLS, len * sizeof *c->corners);
+    text rows = t;
+    if (!pass_rows(&t, points, size, c) || !pass_word(&t, "CELL_TYPES") || !pass_number(&t, &types)
+        || types != len)
+        return 19;
+    return pass_types(&t, rows, c);
+}
+
+/* ---------------------------------------------------------------- read_vtk: faces */
+
+/* The faces of a cell, -z +z -y +y -x +x: their vertices, as listed in a text, and their darts. From
+ * dart to dart it goes by links 0 and 1 in turn; every second one, the first too, begins an edge. */
+static const uint8_t face_corners[6][4] = {
+    {0, 1, 2, 3}, {4, 5, 6, 7}, {0, 1, 5, 4}, {3, 2, 6, 7}, {0, 3, 7, 4}, {1, 2, 6, 5},
+};
+static const uint8_t face_darts[6][8] = {
+    {0, 1, 17, 19, 3, 2, 18, 16},   {4, 5, 21, 23, 7, 6, 22, 20},
+    {8, 9, 33, 37, 13, 12, 36, 32}, {10, 11, 35, 39, 15, 14, 38, 34},
+    {24, 26, 42, 46, 30, 28, 44, 40}, {25, 27, 43, 47, 31, 29, 45, 41},
+};
+
+/* A face: its vertices, rising; then what is not compared: where its least vertex stands, whether
+ * from there the lower neighbour comes next, which of the rising ones is opposite, and the face with
+ * the same vertices: itself if there is none. */
+typedef struct {
+    uint32_t v[4];
+    uint8_t least, forth, opposite;
+    uint32_t mate;
+} face;
+
+#define MOST_FACES (6 * MOST_CELLS)
+#define MOST_BUCKETS 16384               /* at least two for each face */
+
+static face few_faces[MOST_FACES];
+static uint32_t few_buckets[MOST_BUCKETS];
+
+INLINE face face_of(const uint32_t v[8], const uint8_t at[4], uint32_t itself)
+{
+    uint32_t u[4] = {v[at[0]], v[at[1]], v[at[2]], v[at[3]]};
+    uint8_t least = 0;
+    for (uint8_t x = 1; x < 4; x++)
+        least = u[x] < u[least] ? x : least;
+    uint32_t next = u[(least + 1) & 3], over = u[(least + 2) & 3], last = u[(least + 3) & 3];
+    uint8_t forth = next < last;
+    uint32_t lower = forth ? next : last, upper = forth ? last : next;
+    face f = {{u[least], lower, over, upper}, least, forth, 2, itself};
+    if (over < lower) {
+        f.v[1] = over;
+        f.v[2] = lower;
+        f.opposite = 1;
+    } else if (over > upper) {
+        f.v[2] = upper;
+        f.v[3] = over;
+        f.opposite = 3;
+    }
+    return f;
+}
+
+INLINE uint32_t bucket_of(const face *f, uint32_t mask)
+{
+    uint64_t h = (f->v[0] | (uint64_t)f->v[1] << 32) * UINT64_C(0x9E3779B97F4A7C15);
+    h = (h ^ h >> 29 ^ (f->v[2] | (uint64_t)f->v[3] << 32)) * UINT64_C(0xBF58476D1CE4E5B9);
+    return (uint32_t)(h >> 32) & mask;
+}
+
+/* Finds the mates of all faces: 0, 22 or 23. A bucket holds 1 + a face, or 0. */
+static uint32_t pair_faces(const cells *c, face *faces, uint32_t *buckets, uint32_t mask)
+{
+    int turned = 0;
+    for (size_t x = 0; x < c->len; x++)
+        for (uint32_t k = 0; k < 6; k++) {
+            uint32_t id = (uint32_t)(6 * x + k);
+            face *f = faces + id, *g;
+            *f = face_of(c->corners[x], face_corners[k], id);
+            uint32_t b = bucket_of(f, mask);
+            for (; buckets[b] != 0; b = (b + 1) & mask)
+                if (memcmp(faces[buckets[b] - 1].v, f->v, sizeof f->v) == 0)
+                    break;
+            if (buckets[b] == 0) {
+                buckets[b] = id + 1;
+                continue;
+            }
+            g = faces + (buckets[b] - 1);
+            if (g->mate != buckets[b] - 1)
+                return 22;
+            turned |= g->opposite != f->opposite;
+            g->mate = id;
+            f->mate = buckets[b] - 1;
+        }
+    return turned ? 23 : 0;
+}
+
+/* Sews each face to its mate, vertex to vertex: from the dart at the least vertex, along the edge
+ * towards its lower neighbour, round both. */
+static void sew_faces(uint32_t *restrict table, const face *restrict faces, uint32_t len)
+{
+    for (uint32_t x = 0; x < len; x++) {
+        const face *f = faces + x;
+        uint32_t y = f->mate;
+        if (y == x)
+            continue;
+        const uint8_t *own = face_darts[x % 6], *its = face_darts[y % 6];
+        uint32_t a = 2u * f->least + 7 + f->forth, by = f->forth ? 1 : 7;
+        uint32_t b = 2u * faces[y].least + 7 + faces[y].forth, by_its = faces[y].forth ? 1 : 7;
+        for (uint32_t step = 0; step < 8; step++, a += by, b += by_its)
+            ROW(table, 48 * (x / 6) + own[a & 7])[3] = 48 * (y / 6) + its[b & 7];
+    }
+}
+
+/* ---------------------------------------------------------------- read_vtk */
+
+/* Puts the cells, with their faces sewn, into the first slots. */
+static void put_cells(uint32_t *restrict table, const face *faces, uint32_t len)
+{
+    uint32_t one[192];
+    for (uint32_t k = 0; k < 48; k++)
+        for (int i = 0; i < 4; i++)
+            one[4 * k + (uint32_t)i] = cell_link(3, k, i);
+    for (uint32_t x = 0; x < len; x++)
+        for (uint32_t k = 0; k < 192; k++)
+            table[192 * (size_t)x + k] = 48 * x + one[k];
+    sew_faces(table, faces, 6 * len);
+}
+
+/* The cells of a text are known, and no vertex is repeated. */
+static answer read_cells(uint32_t *table, uint32_t slots, uint32_t *journal, size_t journal_len,
+                         uint32_t tag, const cells *c)
+{
+    int fits = c->len <= MOST_CELLS;
+    size_t many = 16;
+    while (many < 12 * c->len)
+        many *= 2;
+    face *faces = lend(few_faces, fits, 6 * c->len * sizeof *faces);
+    uint32_t *buckets = lend(few_buckets, fits, many * sizeof *buckets);
+    memset(buckets, 0, many * sizeof *buckets);
+    uint32_t no = pair_faces(c, faces, buckets, (uint32_t)(many - 1)), *at = NULL;
+    uint32_t len = (uint32_t)c->len;
+    if (!no && 48 * c->len > slots)
+        no = 14;
+    if (!no && !(at = begin_record(journal, journal_len, tag, 192 * len)))
+        no = 15;
+    if (!no) {
+        put_cells(table, faces, len);
+        for (uint32_t d = 0; d < 48 * len; d++)
+            at = put_new_row(at, table, d);
+    }
+    give_back(faces, few_faces);
+    give_back(buckets, few_buckets);
+    return no ? refuse(no) : accept(0, 48 * len);
+}
+
+/* Whether no slot is live. */
+static int empty(const uint32_t *table, size_t table_len)
+{
+    uint32_t all = NONE;
+    for (size_t x = 0; x < table_len; x++)
+        all &= table[x];
+    return all == NONE;
+}
+
+static answer read_vtk(uint32_t n, uint32_t *table, size_t table_len, uint32_t *journal,
+                       size_t journal_len, uint32_t tag, text t)
+{
+    uint32_t no = n == 2 ? 1 : gate(n, table_len);
+    if (!no && !journal_fits(journal, journal_len))
+        no = 4;
+    if (no)
+        return refuse(no);
+    uint32_t slots = (uint32_t)(table_len / 4);
+    if (!empty(table, table_len))
+        return map_ok(3, table, slots) ? refuse(18) : not_a_map(3, table, slots);
+    cells c;
+    no = read_form(t, &c);
+    if (!no && c.repeated)
+        no = 21;
+    answer a = no ? refuse(no) : read_cells(table, slots, journal, journal_len, tag, &c);
+    if (c.corners)
+        give_back(c.corners, few_corners);
+    return a;
+}
+
+uint32_t YARD(read_vtk)(uint32_t n, uint32_t *table, size_t table_len,
+                        uint32_t *journal, size_t journal_len, uint32_t tag,
+                        const uint8_t *bytes, size_t bytes_len, uint32_t *place, uint32_t *count)
+{
+    text t = {bytes, bytes + bytes_len};
+    return give(read_vtk(n, table, table_len, journal, journal_len, tag, t), place, count);
 }
 
 /* ---------------------------------------------------------------- undo, redo */

@@ -50,6 +50,10 @@ uint32_t yard_insert(uint32_t n, uint32_t *table, size_t table_len,
                     uint32_t *journal, size_t journal_len, uint32_t tag,
                     uint32_t *place, uint32_t *count);
 
+uint32_t yard_read_vtk(uint32_t n, uint32_t *table, size_t table_len,
+                      uint32_t *journal, size_t journal_len, uint32_t tag,
+                      const uint8_t *text, size_t text_len, uint32_t *place, uint32_t *count);
+
 uint32_t yard_undo(uint32_t n, uint32_t *table, size_t table_len,
                   uint32_t *journal, size_t journal_len,
                   uint32_t *place, uint32_t *count);

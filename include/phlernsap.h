@@ -1,9 +1,9 @@
-/* phlernsap.h - a proved topology kernel for hexahedral blocking: thirteen calls over lent buffers.
- * Version 1.3.
+/* phlernsap.h - a proved topology kernel for hexahedral blocking: fourteen calls over lent buffers.
+ * Version 1.4.
  *
  * This file is the manual for programs in C and C++. docs/REFERENCE.md has the same with drawings,
- * examples/c has programs: three_quads.c; grid.c, which builds and cuts 2 x 2 x 2 hexahedra; and
- * insert.c, which puts a layer in along a wall.
+ * examples/c has programs: three_quads.c; grid.c, which builds and cuts 2 x 2 x 2 hexahedra;
+ * insert.c, which puts a layer in along a wall; and read_vtk.c, which reads a blocking from a file.
  *
  *
  * 1. To build
@@ -14,10 +14,28 @@
  * The library is x86-64 code for Linux. Of the C library it takes memcpy and memset, and no more. It
  * allocates nothing, keeps nothing between calls and has no global state: calls on different buffers
  * may run on different threads.
- * A call takes at most 300,000 bytes of stack, insert at most 400,000, and each at most 16,384 on a
- * table of up to 2,048 slots (bench/README.md has the figures measured). Every call reads the whole
- * table, to see that it is a map: its time is linear in the length of the table, whatever it changes.
- * phl_sew_list reads it once for its whole list; each item then takes what its two sides take.
+ * Every call reads the whole table, to see that it is a map: its time is linear in the length of the
+ * table, whatever it changes. phl_sew_list reads it once for its whole list; each item then takes what
+ * its two sides take. phl_read_vtk also reads its text.
+ *
+ * Bytes of stack that a call takes at most, on a table of up to 2,048 slots and on a larger one
+ * (bench/README.md has them for tables of other sizes, as measured):
+ *
+ *                     up to 2,048   above
+ *     phl_check              3112   85080
+ *     phl_orbit              4352  168280
+ *     phl_sheet              5304   87272
+ *     phl_pick               3256   85224
+ *     phl_add                 304     304
+ *     phl_sew                6696  252920
+ *     phl_sew_list           6664  252888
+ *     phl_unsew              2440   84872
+ *     phl_remove             5368   87336
+ *     phl_split             10456  294776
+ *     phl_insert            15092  396020
+ *     phl_read_vtk         158896  158896
+ *     phl_undo                256     256
+ *     phl_redo                256     256
  *
  *
  * 2. Words
@@ -86,6 +104,8 @@
  *            phl_sew_list reads them and never writes them.
  *   queue    queue_len words, one to a slot: queue_len = table_len / 4. phl_pick works in them; what
  *            they hold before does not matter, and after an accepted call they may hold anything.
+ *   text     text_len bytes, of any number and any content: a file as it was read. phl_read_vtk reads
+ *            them and never writes them. No byte 0 need stand behind them.
  *   place, count   where the call stores place and count.
  *   taken    where phl_pick stores how many darts it took off the queue.
  *
@@ -114,8 +134,8 @@
  *
  * 6. Steps, undo and redo
  *
- * phl_add, phl_sew, phl_unsew, phl_remove, phl_split and phl_insert are operations. An accepted one is
- * a step: it writes a record of the k entries that it changed at the journal's cursor,
+ * phl_add, phl_sew, phl_unsew, phl_remove, phl_split, phl_insert and phl_read_vtk are operations. An
+ * accepted one is a step: it writes a record of the k entries that it changed at the journal's cursor,
  * PHL_RECORD_WORDS(k) = 3k+3 words: k, the tag, k triples (entry, old value, new value) by rising
  * entry, k. Cursor and end go behind it, so what was undone before is gone. phl_undo and phl_redo put
  * values back and move the cursor. The tag is any number of the caller's, to name the step by: undo
@@ -130,6 +150,7 @@
  *     phl_remove   4 for each dart removed, the marks 1 and 2, and 1 for each mark 3
  *     phl_split    9 (n = 2) or 13 (n = 3) for each dart of the sheet
  *     phl_insert   9 (n = 2) or 13 (n = 3) for each dart of the wall
+ *     phl_read_vtk 192 for each cell
  *
  * From a map and a fresh journal, whatever calls with the same n follow, the table is what the steps
  * that stand make of the first table; undo is refused (16) exactly if none stands, redo exactly if
@@ -162,10 +183,10 @@ extern "C" {
 
 /* The version: MAJOR changes where a program, a table or a journal of before may not fit any more,
  * MINOR where something is new. 1.1 has phl_insert and its numbers, 1.2 phl_sew_list and 38, 1.3
- * phl_pick and 37. */
+ * phl_pick and 37, 1.4 phl_read_vtk and 18 to 23. */
 #define PHL_VERSION_MAJOR 1
-#define PHL_VERSION_MINOR 3
-#define PHL_VERSION "1.3"
+#define PHL_VERSION_MINOR 4
+#define PHL_VERSION "1.4"
 
 /* Each entry of an unused slot. */
 #define PHL_UNUSED UINT32_C(4294967295)
@@ -189,7 +210,7 @@ extern "C" {
  * breaks it. A map that only these calls write never gives them. */
 enum phl_number {
     PHL_ACCEPTED = 0,
-    PHL_WRONG_DIMENSION = 1,     /* n is not 2 or 3 */
+    PHL_WRONG_DIMENSION = 1,     /* n is not 2 or 3, or for phl_read_vtk not 3 */
     PHL_WRONG_TABLE_LENGTH = 2,  /* table_len is no multiple of 4, or above PHL_MAX_ENTRIES */
     PHL_WRONG_MARKS_LENGTH = 3,  /* marks_len differs from the number of slots */
     PHL_WRONG_QUEUE_LENGTH = 37, /* queue_len differs from the number of slots */
@@ -202,6 +223,15 @@ enum phl_number {
                                     that is not live; count: i */
     PHL_LINK_3_NOT_FREE = 26,    /* n is 2, and link 3 leaves its dart; count: 3 */
     PHL_WRONG_LIST_LENGTH = 38,  /* list_len is no multiple of 3 */
+    PHL_TABLE_NOT_EMPTY = 18,    /* a slot is live */
+    PHL_TEXT_NOT_OF_THE_FORM = 19,
+                                 /* the text is not of the form that phl_read_vtk takes */
+    PHL_OTHER_CELL_TYPE = 20,    /* a cell is of another type than 12, the hexahedron */
+    PHL_VERTEX_REPEATED = 21,    /* a cell has a vertex twice */
+    PHL_THREE_CELLS_AT_A_FACE = 22,
+                                 /* three cells or more have a face with the same four vertices */
+    PHL_OTHER_VERTEX_ORDER = 23, /* two faces have the same four vertices, and not in the same cyclic
+                                    order, read in either sense */
     PHL_OUT_OF_RANGE = 6,        /* i above n, or mask above 2^(n+1) - 1 */
     PHL_NOT_LIVE = 7,            /* d or e is not a live slot */
     PHL_NO_BLOCK_MAP = 8,        /* not a block map; place: the least slot in a wrong cell */
@@ -322,6 +352,43 @@ uint32_t phl_insert(uint32_t n, uint32_t *table, size_t table_len,
                     const uint8_t *marks, size_t marks_len,
                     uint32_t *journal, size_t journal_len, uint32_t tag,
                     uint32_t *place, uint32_t *count);
+
+/* Reads the hexahedra of a VTK legacy file into a table that has no live slot, and sews their faces. n
+ * is 3. Place: 0. Count: darts added, 48 for each cell, in the slots from 0 on: dart k of the c-th
+ * cell of the text, counted from 0, is in slot 48c + k. A cell is as phl_add makes one, with its eight
+ * vertices, as listed, at s = 0, 1, 3, 2, 4, 5, 7, 6. Where two faces have the same four vertices in
+ * the same cyclic order, read in either sense, they are sewn by link 3, vertex to vertex: each dart to
+ * the one at the same vertex and edge. A vertex is the number of a point; two points are two vertices,
+ * wherever they lie. The result is a block map.
+ *
+ * The form of the text:
+ *
+ *     # vtk DataFile Version 3.0      or 2.0: these bytes, and LF
+ *     any title                       any bytes, and LF
+ *     ASCII                           from here on words, between blanks, tabs or LF, as many as one
+ *     DATASET UNSTRUCTURED_GRID       likes. Each other byte is part of a word, CR too
+ *     POINTS p type                   any word for the type, then 3p words, of any kind: the places,
+ *     x y z ..                        which are passed over
+ *     CELLS c size                    c is 1 or more; then c rows, each its length and so many numbers
+ *     8 v v v v v v v v ..            below p. size is the number of words in all rows
+ *     CELL_TYPES c                    the same c; then c types. A row of type 12 has 8 numbers
+ *     12 ..                           nothing but blanks, tabs and LF stands behind the last
+ *
+ * Keywords are in capitals. Counts, lengths, numbers and types are plain decimals: digits, without a
+ * sign and without a leading 0, of any length. What does not fit is 19; a type other than 12 is 20, in
+ * a text that is of the form. 20 to 23 are each looked for in the whole text before the next: a vertex
+ * repeated in the last cell is told before three cells at a face of the first. All of them are told
+ * before 14 and 15, also where the text has more cells than any table takes.
+ *
+ * A file of version 4.2, one with data behind the types, and one with lines and quads among the cells
+ * are refused. To have such a file read: set its first line to version 3.0, end the text before
+ * POINT_DATA or CELL_DATA, and let the mesher write its hexahedra only. Version 5.1 lists cells in
+ * another way.
+ * Numbers: 1 2 4 5 24 25 18 19 20 21 22 23 14 15. */
+uint32_t phl_read_vtk(uint32_t n, uint32_t *table, size_t table_len,
+                      uint32_t *journal, size_t journal_len, uint32_t tag,
+                      const uint8_t *text, size_t text_len,
+                      uint32_t *place, uint32_t *count);
 
 /* Takes back the newest step that stands: puts back the old values of the record before the cursor.
  * Place: the step's tag. Count: entries changed. Numbers: 1 2 4 5 24 25 26 16 17. */

@@ -33,7 +33,7 @@ static const char *const run_name[BOTH] = {"yardstick", "library"};
 
 /* ---------------------------------------------------------------- buffers */
 
-enum { TABLE, MARKS, JOURNAL, LIST, QUEUE, BUFFERS };
+enum { TABLE, MARKS, JOURNAL, LIST, TEXT, QUEUE, BUFFERS };
 
 typedef struct {
     const char *name;
@@ -52,6 +52,8 @@ static buffer buffer_of(const request *q, int which)
         return (buffer){"journal", q->journal, 4 * q->journal_len, 4};
     case LIST:
         return (buffer){"list", (void *)q->list, 4 * q->list_len, 4};
+    case TEXT:
+        return (buffer){"text", (void *)q->text, q->text_len, 1};
     default:
         return (buffer){"queue", q->queue, 4 * q->queue_len, 4};
     }
@@ -80,6 +82,7 @@ static request lent(const request *q, int who, const size_t shift[BUFFERS])
     c.marks = copied(room[who][MARKS], buffer_of(q, MARKS), shift[MARKS]);
     c.journal = copied(room[who][JOURNAL], buffer_of(q, JOURNAL), shift[JOURNAL]);
     c.list = copied(room[who][LIST], buffer_of(q, LIST), shift[LIST]);
+    c.text = copied(room[who][TEXT], buffer_of(q, TEXT), shift[TEXT]);
     c.queue = copied(room[who][QUEUE], buffer_of(q, QUEUE), shift[QUEUE]);
     return c;
 }
@@ -114,6 +117,9 @@ static void tell_call(const request *q)
     }
     if (q->call == PICK)
         printf(", a queue of %zu", q->queue_len);
+    if (q->call == READ_VTK)
+        printf(", a text of %zu bytes, which begins:\n%.*s", q->text_len,
+               (int)(q->text_len < 4000 ? q->text_len : 4000), (const char *)q->text);
     printf("\n");
 }
 
@@ -310,6 +316,8 @@ static answer held(const request *q, const size_t shift[BUFFERS], request *left)
                 fail_text(q, run_name[who], buffer_of(q, which).name, "is written past its ends");
         if (memcmp(q->list, c[who].list, 4 * q->list_len) != 0)
             fail_text(q, run_name[who], "list", "is written");
+        if (memcmp(q->text, c[who].text, q->text_len) != 0)
+            fail_text(q, run_name[who], "text", "is written");
     }
     calls++;
     if (a[YARD].no != a[LIBRARY].no)
@@ -343,7 +351,7 @@ static answer held(const request *q, const size_t shift[BUFFERS], request *left)
 
 /* ---------------------------------------------------------------- rounds */
 
-static int is_operation(enum call call) { return ADD <= call && call <= INSERT; }
+static int is_operation(enum call call) { return ADD <= call && call <= READ_VTK; }
 
 /* The buffers of q become what the call left. */
 static void keep(const request *q, const request *left)
@@ -450,6 +458,7 @@ static void try_null(request q)
     plain.journal = q.journal != NULL ? q.journal : no_word;
     plain.list = no_word;
     plain.queue = no_word;
+    plain.text = no_mark;
     a.no = run_library(&q, &a.place, &a.count);
     b.no = run_yard(&plain, &b.place, &b.count);
     calls++;
@@ -457,19 +466,20 @@ static void try_null(request q)
         fail_text(&plain, "library", "a null pointer", "gives another answer");
     if (q.call == CHECK && (q.n == 2 || q.n == 3) && a.count != 2)
         fail_text(&plain, "both", "no slot", "is no block map");
-    if (q.call >= ADD && (q.n == 2 || q.n == 3) && q.journal_len == 0 && a.no != PHL_WRONG_JOURNAL)
+    if (q.call >= ADD && (q.n == 3 || (q.n == 2 && q.call != READ_VTK)) && q.journal_len == 0
+        && a.no != PHL_WRONG_JOURNAL)
         fail_text(&plain, "both", "a journal of no words", "is taken");
 }
 
-/* Null pointers for no slots, no marks, no list and no queue, and for a journal of no words or not for
- * a fresh one. */
+/* Null pointers for no slots, no marks, no list, no queue and no text, and for a journal of no words or
+ * not for a fresh one. */
 static void try_null_pointers(void)
 {
     static uint32_t fresh[2] = {PHL_FRESH, PHL_FRESH};
     for (int call = 0; call < CALLS; call++) {
         for (uint32_t n = 0; n < 4; n++) {
             request q = {(enum call)call, n, NULL, 0, NULL, 0, NULL, 0, 1, 1, 0, 0, 7, NULL, 0,
-                         NULL, 0, NULL};
+                         NULL, 0, NULL, NULL, 0};
             try_null(q);
             q.journal = fresh;
             q.journal_len = 2;
@@ -480,8 +490,9 @@ static void try_null_pointers(void)
 
 /* ---------------------------------------------------------------- the report */
 
-static const uint32_t order[] = {0,  1,  2,  3,  37, 4,  5,  24, 25, 26, 38, 6,  7,  8,
-                                 28, 29, 30, 31, 32, 9,  10, 11, 12, 13, 14, 15, 16, 17};
+static const uint32_t order[] = {0,  1,  2,  3,  37, 4,  5,  24, 25, 26, 38, 18,
+                                 19, 20, 21, 22, 23, 6,  7,  8,  28, 29, 30, 31,
+                                 32, 9,  10, 11, 12, 13, 14, 15, 16, 17};
 enum { NUMBERS = sizeof order / sizeof *order };
 
 /* A number that should come up, and did so often: 0 if never. */

@@ -12,6 +12,7 @@ uint32_t call_each(void)
     static uint32_t table[ENTRIES], journal[WORDS], queue[SLOTS];
     static uint8_t marks[SLOTS];
     static const uint32_t list[3] = {2, 0, 4};
+    static const uint8_t text[1] = {'#'};
     uint32_t place, count, taken, sum = 0;
     for (int k = 0; k < ENTRIES; k++)
         table[k] = PHL_UNUSED;
@@ -27,6 +28,7 @@ uint32_t call_each(void)
     sum += phl_remove(2, table, ENTRIES, marks, SLOTS, journal, WORDS, TAG, 0, &place, &count);
     sum += phl_split(2, table, ENTRIES, marks, SLOTS, journal, WORDS, TAG, 0, &place, &count);
     sum += phl_insert(2, table, ENTRIES, marks, SLOTS, journal, WORDS, TAG, &place, &count);
+    sum += phl_read_vtk(3, table, ENTRIES, journal, WORDS, TAG, text, 1, &place, &count);
     sum += phl_undo(2, table, ENTRIES, journal, WORDS, &place, &count);
     sum += phl_redo(2, table, ENTRIES, journal, WORDS, &place, &count);
     return sum;
@@ -52,6 +54,12 @@ int kind_of(uint32_t x)
     case PHL_PAIR_NOT_RETURNING:
     case PHL_LINK_3_NOT_FREE:
     case PHL_WRONG_LIST_LENGTH:
+    case PHL_TABLE_NOT_EMPTY:
+    case PHL_TEXT_NOT_OF_THE_FORM:
+    case PHL_OTHER_CELL_TYPE:
+    case PHL_VERTEX_REPEATED:
+    case PHL_THREE_CELLS_AT_A_FACE:
+    case PHL_OTHER_VERTEX_ORDER:
     case PHL_OUT_OF_RANGE:
     case PHL_NOT_LIVE:
     case PHL_NO_BLOCK_MAP:

@@ -7,7 +7,7 @@
 enum { MOST_ITEMS = 40, LIST_ROOM = 3 * MOST_ITEMS + 2 };
 
 static uint32_t table[TABLE_ROOM], journal[JOURNAL_ROOM], list[LIST_ROOM], queue[TABLE_ROOM];
-static uint8_t marks[MARKS_ROOM];
+static uint8_t marks[MARKS_ROOM], text[TEXT_ROOM];
 
 static uint32_t slots_of(const request *q) { return (uint32_t)(q->table_len / 4); }
 
@@ -247,7 +247,7 @@ request scene_new(rng *r, uint32_t about)
     if (one_in(r, 12))
         slots = k * cells;
     request q = {CHECK, n, table, 4 * (size_t)slots, marks, slots, journal, 0, 0, 0, 0, 0, 0,
-                 list, 0, queue, slots, NULL};
+                 list, 0, queue, slots, NULL, text, 0};
     make_table(n, cells, table, slots, r);
     make_fresh_journal(&q, about, r);
     if (about <= 4096 && one_in(r, 8))
@@ -491,6 +491,33 @@ static void fill_queue(const request *q, rng *r)
         queue[k] = kind == 0 ? word : kind == 1 ? k : kind == 2 ? rng_below(r, slots) : any(r);
 }
 
+/* ---------------------------------------------------------------- texts */
+
+static void spoil_text(request *q, rng *r)
+{
+    if (q->text_len + VTK_DAMAGE <= TEXT_ROOM)
+        q->text_len = vtk_damage(text, q->text_len, r);
+}
+
+/* The file of a mesh of about as many cells as the table takes, or of a few. */
+static void draw_text(request *q, rng *r)
+{
+    uint32_t most = slots_of(q) / 48 + rng_below(r, 2);
+    mesh m = mesh_some(most < 1 ? 1 : most, r);
+    vtk_style style = {one_in(r, 2) ? 2 : 3, one_in(r, 2) ? "" : "a title of several words",
+                       one_in(r, 2) ? r : NULL, !one_in(r, 4)};
+    while (one_in(r, 4))
+        mesh_spoil(&m, r);
+    if (one_in(r, 2))
+        mesh_shuffle(&m, r);
+    q->text_len = vtk_room(&m, &style) <= TEXT_ROOM ? vtk_write(&m, &style, text) : 0;
+    mesh_drop(&m);
+    if (one_in(r, 3))
+        do
+            spoil_text(q, r);
+        while (one_in(r, 2));
+}
+
 /* ---------------------------------------------------------------- a call */
 
 void scene_ask(request *q, rng *r)
@@ -499,6 +526,10 @@ void scene_ask(request *q, rng *r)
     q->call = (enum call)rng_below(r, CALLS);
     if (one_in(r, 2) && map_count_live(q->table, slots_of(q)) == 0)
         q->call = ADD;
+    if (q->call == READ_VTK && q->n == 2 && !one_in(r, 8))
+        q->call = (enum call)rng_below(r, READ_VTK);
+    if (one_in(r, 3) && q->n == 3 && map_count_live(q->table, slots_of(q)) == 0)
+        q->call = READ_VTK;
     if (one_in(r, 4) && journal[0] < journal[1])
         q->call = REDO;
     if (one_in(r, 8))
@@ -521,6 +552,8 @@ void scene_ask(request *q, rng *r)
         draw_list(q, r);
     if (q->call == PICK)
         fill_queue(q, r);
+    if (q->call == READ_VTK)
+        draw_text(q, r);
 }
 
 /* ---------------------------------------------------------------- spoiling */
@@ -682,6 +715,8 @@ void scene_spoil(request *q, rng *r)
         spoil_mark(q, r);
     else if (what == 2 && q->call == SEW_LIST)
         spoil_list(q, r);
+    else if (what == 2 && q->call == READ_VTK)
+        spoil_text(q, r);
     else if (what == 2)
         spoil_argument(q, r);
     else if (what == 3)

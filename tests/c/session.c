@@ -96,7 +96,7 @@ int main(void)
 {
     char line[LINE];
     request q = {CHECK, 0, table, 0, marks, 0, journal, WORDS, 0, 0, 0, 0, 0, NULL, 0,
-                 NULL, 0, NULL};
+                 NULL, 0, NULL, NULL, 0};
     q.n = next_number("dim=", NONE);
     q.marks_len = next_number("slots=", MOST_SLOTS);
     q.table_len = 4 * q.marks_len;

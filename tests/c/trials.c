@@ -9,15 +9,15 @@
 
 DEFINE_RUN(run_yard, yard_)
 
-enum { SLOTS = MAX_SLOTS + 1, WORDS = 443000, LIST = 96, LINE = 1000, MOST_NUMBERS = 3 };
+enum { SLOTS = MAX_SLOTS + 1, WORDS = 443000, LIST = 96, TEXT = 4096, LINE = 1000, MOST_NUMBERS = 3 };
 
 static uint32_t table[4 * SLOTS], journal[WORDS], list[LIST], queue[SLOTS], taken;
 static uint32_t queue_word;                /* each word of the queue that is lent */
-static uint8_t marks[SLOTS], drawn[SLOTS];
+static uint8_t marks[SLOTS], drawn[SLOTS], text[TEXT];
 
 /* What the calls are given from here on. */
 static request given = {CHECK, 0, table, 0, marks, 0, journal, 0, 0, 0, 0, 0, 0, list, 0,
-                        queue, 0, &taken};
+                        queue, 0, &taken, text, 0};
 
 /* The numbers of the line, and how many it has. */
 static uint32_t number[MOST_NUMBERS];
@@ -105,6 +105,7 @@ static void play_scene(void)
     given.journal_len = number[2];
     given.tag = 0;
     given.list_len = 0;
+    given.text_len = 0;
     map_clear(table, number[1]);
     memset(drawn, 0, sizeof drawn);
     for (uint32_t k = 0; k < number[2]; k++)
@@ -136,6 +137,24 @@ static void play_list(request q)
     given.list_len = 0;
 }
 
+/* A line behind the text, as far as there is room. */
+static void play_text(const char *line)
+{
+    for (const char *at = line; given.text_len < TEXT; at++) {
+        text[given.text_len++] = (uint8_t)(*at ? *at : '\n');
+        if (*at == 0)
+            return;
+    }
+}
+
+/* Read_vtk, after which the text is empty. */
+static void play_read(request q)
+{
+    q.call = READ_VTK;
+    play_call(q);
+    given.text_len = 0;
+}
+
 /* Whether the line has this first word and so many numbers. */
 static int is(const char *line, const char *word, int count)
 {
@@ -144,12 +163,12 @@ static int is(const char *line, const char *word, int count)
         && (line[len] == 0 || line[len] == ' ');
 }
 
-/* Whether the line is a call, other than sew_list; its arguments go to q. */
+/* Whether the line is a call, other than sew_list and read_vtk; its arguments go to q. */
 static int is_call(const char *line, request *q)
 {
-    static const int arguments[CALLS] = {0, 2, 1, 1, 0, 3, 0, 2, 1, 1, 0, 0, 0};
+    static const int arguments[CALLS] = {0, 2, 1, 1, 0, 3, 0, 2, 1, 1, 0, 0, 0, 0};
     for (int call = 0; call < CALLS; call++) {
-        if (call == SEW_LIST || !is(line, call_name[call], arguments[call]))
+        if (call == SEW_LIST || call == READ_VTK || !is(line, call_name[call], arguments[call]))
             continue;
         q->call = (enum call)call;
         q->i = q->mask = number[0];
@@ -177,7 +196,9 @@ static void play(const char *line)
     uint32_t a = number[0], b = number[1], c = number[2];
     if (line[0] == 0 || line[0] == '#')
         return;
-    if (is_call(line, &q))
+    if (line[0] == '>')
+        play_text(line + 1);
+    else if (is_call(line, &q))
         play_call(q);
     else if (is(line, "undo with", 2))
         play_with(UNDO, a, b);
@@ -191,6 +212,8 @@ static void play(const char *line)
         play_word(a);
     else if (is(line, "sewlist", 0))
         play_list(q);
+    else if (is(line, "readvtk", 0))
+        play_read(q);
     else if (is(line, "scene", 3))
         play_scene();
     else if (is(line, "dim", 1))
