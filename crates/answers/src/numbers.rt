@@ -84,13 +84,6 @@ pub const OTHER_TYPE: Answer = Answer {
     count: 0,
 };
 
-// 21: "vertex repeated in a cell"
-pub const VERTEX_REPEATED: Answer = Answer {
-    number: 21,
-    place: 0,
-    count: 0,
-};
-
 // 6: "i above n, or mask above 2^(n+1) - 1"
 pub const OUT_OF_RANGE: Answer = Answer {
     number: 6,

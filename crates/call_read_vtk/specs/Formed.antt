@@ -8,7 +8,8 @@ use lib.ListN.{length, getD, take}
 use Rattle.model.specs.Vtk.{Grid, gridOf}
 use Rattle.model.specs.Checks.{Check, pass, refuse, inOrder, solidOk, tableOk, journalOk, mapChecks, emptyOk}
 use Rattle.model.specs.Checks.{verticesOk, sharingOk, orderOk, vtkChecks}
-use Rattle.model.specs.Meaning.Vtk.{RowsAt, Held, Mated}
+use Rattle.model.specs.Meaning.Vtk.{RowsAt}
+use Rattle.vtk_faces.specs.Buffers.{Held, Mated}
 use Rattle.vtk_form.specs.Parts.{Keeps}
 
 -- the checks up to 18

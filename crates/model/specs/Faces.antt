@@ -67,7 +67,7 @@ reads r s = equal r s || equal (turned r) s || equal (turned (turned r)) s || eq
 unfoldable pub sameOrder : List ℕ → List ℕ → Bool
 sameOrder r s = reads r s || reads (reverse r) s
 
--- ---- what 20 to 23 ask
+-- ---- what 21 to 23 ask
 
 -- a number stands twice in a list
 unfoldable pub repeats : List ℕ → Bool

@@ -7,7 +7,8 @@ use native.Mathlib.Omega.{arith}
 use lib.ListN.{length, getD, drop}
 use lib.Seq.{getD-take, getD-drop}
 use Rattle.model.specs.Faces.{sites, pick, round, faceDarts}
-use Rattle.model.specs.Meaning.Vtk.{faceAt, Held}
+use Rattle.model.specs.Meaning.Vtk.{faceAt}
+use Rattle.vtk_faces.specs.Buffers.{Held}
 use Rattle.vtk_faces.specs.Faces.{siteAt, heldRow, heldFace}
 use Rattle.vtk_faces.proofs.Places.{site-low}
 

@@ -10,9 +10,10 @@ use lib.ListN.{length, getD, take, drop, length-take, length-drop}
 use lib.Seq.{getD-take, getD-drop}
 use borrow.Author.Tests.{not-true}
 use Rattle.model.specs.Faces.{repeats}
-use Rattle.model.specs.Meaning.Vtk.{Hexahedra, Held}
+use Rattle.model.specs.Meaning.Vtk.{Hexahedra}
 use Rattle.theorems.proofs.Lists.Scan.{test, clash, if-lt}
 use Rattle.theorems.proofs.Vtk.Other.{face-once}
+use Rattle.vtk_faces.specs.Buffers.{Held}
 use Rattle.vtk_rows.specs.Rows.{EightsRead}
 use Rattle.vtk_faces.specs.Faces.{Sited, Once, heldFace}
 use Rattle.vtk_faces.specs.Judged.{Ran}

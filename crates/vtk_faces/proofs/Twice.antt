@@ -13,9 +13,9 @@ use lib.Dec.{eqb}
 use borrow.Author.Tests.{eq-eqb, ne-eqb}
 use Rattle.model.specs.Lists.{allOf, anyOf}
 use Rattle.model.specs.Faces.{among, repeats}
-use Rattle.model.specs.Meaning.Vtk.{Held}
 use Rattle.theorems.proofs.Lists.Scan.{test, clash}
 use Rattle.theorems.proofs.Lists.Ones.{each-at, getD-in}
+use Rattle.vtk_faces.specs.Buffers.{Held}
 use Rattle.vtk_faces.specs.Faces.{heldRow}
 use Rattle.vtk_faces.specs.Repeats.{allOnce}
 

@@ -9,10 +9,11 @@ use native.Mathlib.Omega.{arith}
 use lib.ListN.{length}
 use Rattle.model.specs.Faces.{sameFour, sameOrder}
 use Rattle.model.specs.Checks.{pass, refuse, must, sharingOk, orderOk}
-use Rattle.model.specs.Meaning.Vtk.{faceAt, Three, OtherOrder, Hexahedra, Mated}
+use Rattle.model.specs.Meaning.Vtk.{faceAt, Three, OtherOrder, Hexahedra}
 use Rattle.theorems.proofs.Lists.Scan.{clash, if-eq, if-lt}
 use Rattle.theorems.proofs.Vtk.Three.{passes-three, three-passes}
 use Rattle.theorems.proofs.Vtk.Other.{passes-other, other-passes, face-once}
+use Rattle.vtk_faces.specs.Buffers.{Mated}
 use Rattle.vtk_faces.specs.Faces.{Once, heldFace}
 use Rattle.vtk_faces.specs.Judged.{Mate, State, Ran}
 use Rattle.vtk_faces.specs.Blocks.{CellsIn, Verdict, JudgedCells, Block}

@@ -6,7 +6,8 @@ use mathlib.Core.Logic.{_≢_}
 use mathlib.Core.List.{List}
 use lib.ListN.{length, getD}
 use Rattle.model.specs.Checks.{pass, refuse, sharingOk, orderOk}
-use Rattle.model.specs.Meaning.Vtk.{Hexahedra, Held, Mated}
+use Rattle.model.specs.Meaning.Vtk.{Hexahedra}
+use Rattle.vtk_faces.specs.Buffers.{Held, Mated}
 use Rattle.vtk_faces.specs.Faces.{Sited, Once, heldFace}
 use Rattle.vtk_faces.specs.Chains.{Chains}
 use Rattle.vtk_faces.specs.Judged.{Ran, Number}

@@ -1,4 +1,5 @@
 pub mod Faces
+pub mod Buffers
 pub mod Hashes
 pub mod Chains
 pub mod Judged

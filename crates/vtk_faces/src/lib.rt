@@ -7,7 +7,7 @@ ghost use Prim.Native.Nat.{ℕ, _+_, _*_, _-_, _/_, _≤_, _<_, min, max};
 ghost use lib.ListN.{length, getD, drop};
 ghost use Rattle.model.specs.Lists.{allOf};
 ghost use Rattle.model.specs.Faces.{listedAt, onward, faceDarts, among, sameFour, sameOrder, repeats};
-ghost use Rattle.model.specs.Meaning.Vtk.{Held};
+ghost use Rattle.vtk_faces.specs.Buffers.{Held};
 ghost use Rattle.vtk_faces.specs.Faces.{four, siteAt, Sited, Once, heldRow, heldFace};
 ghost use Rattle.vtk_faces.specs.Hashes.{mixed, hashOf};
 ghost use Rattle.vtk_faces.specs.Chains.{Chains, SomeChains, Found};

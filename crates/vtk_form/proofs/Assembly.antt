@@ -32,10 +32,6 @@ kept-fits : (g h : Grid) → kept g ≡ some h → fits g ≡ true
 unfolding kept
 kept-fits g h e = test (fits g) (λ q. q) (λ q. absurd (none-some refl (let z : none ≡ some h = rw (kept, q) at e in z)))
 
-kept-not : (g : Grid) → fits g ≡ false → kept g ≡ none
-unfolding kept
-kept-not g e = rw (kept, e)
-
 kept-is : (g : Grid) → fits g ≡ true → kept g ≡ some g
 unfolding kept
 kept-is g e = rw (kept, e)

@@ -15,7 +15,7 @@ use Rattle.theorems.proofs.Vtk.Streaming.{points-few}
 use Rattle.vtk_words.proofs.Counting.{none-some, counted-shorter}
 
 -- the keywords up to POINTS
-abbrev pub pointsKeys : List (List ℕ)
+abbrev pointsKeys : List (List ℕ)
 pointsKeys = bytes "ASCII" ∷ bytes "DATASET" ∷ bytes "UNSTRUCTURED_GRID" ∷ bytes "POINTS" ∷ []
 
 module _ (ws : List (List ℕ)) where

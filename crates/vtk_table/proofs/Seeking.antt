@@ -40,7 +40,7 @@ module _ {a b c d : ℕ} {want : Face} where
 
 -- after some turns from the first dart of a face, this is the round of the dart there; none before has the round that is sought
 pub record Seeking (first : ℕ) (start : List ℕ) (want : Face) (here : List ℕ) (turn : ℕ) : Type 0 where
-  pub round-is : (row : List ℕ) → start ≡ round row first → here ≡ round row (faceWalk (2 * turn) first)
+  round-is : (row : List ℕ) → start ≡ round row first → here ≡ round row (faceWalk (2 * turn) first)
   pub none : (row other : List ℕ) (k : ℕ) → start ≡ round row first → four want ≡ round other k → (i : ℕ) → i < 2 * turn
       → round row (faceWalk i first) ≡ round other k → ⊥
 

@@ -10,8 +10,9 @@ use Rattle.model.specs.Table.{unused}
 use Rattle.model.specs.Numbering.{cellLink}
 use Rattle.model.specs.Faces.{faceDarts, vtkTable}
 use Rattle.model.specs.Checks.{pass, orderOk}
-use Rattle.model.specs.Meaning.Vtk.{Held, Mated, Readable}
+use Rattle.model.specs.Meaning.Vtk.{Readable}
 use Rattle.model.specs.Meaning.Numbers.{JournalRule}
+use Rattle.vtk_faces.specs.Buffers.{Held, Mated}
 use Rattle.drafts.specs.Passes.{Room, Pass, FourLinks}
 
 -- j steps round the face of the dart k, by links 0, 1, 0, ..

@@ -6,7 +6,7 @@ use mathlib.Core.Logic.{_⊎_, _≢_, _↔_}
 use mathlib.Core.Bool.{true, false}
 use mathlib.Core.List.{List, [], _∷_, _++_, List·Memᴰ as In}
 use mathlib.Core.Option.{Option, none, some}
-use lib.ListN.{length, getD, take, drop}
+use lib.ListN.{length, getD, drop}
 use lib.Dec.{ltb}
 use Rattle.model.specs.Text.{bytes, newline, number}
 use Rattle.model.specs.Vtk.{_≫_, Grid, version2, version3, words, numbers}
@@ -200,21 +200,6 @@ pub record OtherOrder (rows : List (List ℕ)) : Type 0 where
   pub low : j < 6 * length rows
   pub four : sameFour (faceAt rows i) (faceAt rows j) ≡ true
   pub order : sameOrder (faceAt rows i) (faceAt rows j) ≡ false
-
--- ---- rows and faces in buffers
-
--- the buffer has the rows, eight words to each
-pub record Held (buffer : List ℕ) (rows : List (List ℕ)) : Type 0 where
-  pub long : 8 * length rows ≤ length buffer
-  pub row : (c : ℕ) → c < length rows → take 8 (drop (8 * c) buffer) ≡ getD rows c []
-
--- for each position, one behind another that has the same four vertices, or 0 if none has
-pub record Mated (rows : List (List ℕ)) (mates : List ℕ) : Type 0 where
-  pub long : 6 * length rows < length mates
-  pub alone : (p : ℕ) → p < 6 * length rows → getD mates (p + 1) 0 ≡ 0
-      → (q : ℕ) → q < 6 * length rows → q ≢ p → sameFour (faceAt rows p) (faceAt rows q) ≡ false
-  pub two : (p q : ℕ) → p < 6 * length rows → getD mates (p + 1) 0 ≡ suc q
-      → (q < 6 * length rows) × (q ≢ p) × (sameFour (faceAt rows p) (faceAt rows q) ≡ true)
 
 -- ---- darts that meet
 

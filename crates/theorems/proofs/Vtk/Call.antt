@@ -1,5 +1,4 @@
--- How the call ends. `vtk-read`: what an accepted read gives. `vtk-accepted`: when it is accepted; `vtk-full`: when it is refused by 15;
--- `vtk-refused`: by the checks before.
+-- How the call ends. `vtk-read`: what an accepted read gives. `vtk-accepted`: when it is accepted; `vtk-full`: when it is refused by 15.
 use Prim.Native.Nat.{ℕ, _+_, _*_, _-_, _/_, _%_, _≤_, _<_}
 use mathlib.Core.Path.{_≡_, refl, sym, _∙_}
 use mathlib.Core.Logic.{_≢_, _↔_}
@@ -11,7 +10,7 @@ use Rattle.model.specs.Journal.{cursor, changesFrom, recordOf}
 use Rattle.model.specs.Vtk.{gridOf, rowsIn}
 use Rattle.model.specs.Table.{link}
 use Rattle.model.specs.Faces.{darts, roundAt, vtkTable}
-use Rattle.model.specs.Checks.{pass, refuse, inOrder, orderOk, mapChecks, gridChecks, vtkChecks}
+use Rattle.model.specs.Checks.{pass, inOrder, orderOk, mapChecks, gridChecks, vtkChecks}
 use Rattle.model.specs.Calls.{refused, commit, vtkCall}
 use Rattle.model.specs.Runs.{Op, doCall, keeping, effect}
 use Rattle.model.specs.Meaning.Ends.{lent}
@@ -68,10 +67,6 @@ read-shared {t} {rows} R order d h = (to, from)
 module _ (n : ℕ) (t j : List ℕ) (tag : ℕ) (bs : List ℕ) where
   abbrev cells : List (List ℕ)
   cells = rowsIn (gridOf bs)
-
-  pub vtk-refused : (k p q : ℕ) → inOrder (vtkChecks n t j (gridOf bs)) ≡ refuse k p q → vtkCall n t j tag bs ≡ refused k p q t [] j
-  unfolding vtkCall
-  vtk-refused k p q h = rw (h, vtkCall)
 
   pub vtk-commits : inOrder (vtkChecks n t j (gridOf bs)) ≡ pass
       → vtkCall n t j tag bs ≡ commit t (vtkTable t (rowsIn (gridOf bs))) [] j tag 0 (λ cs. darts (rowsIn (gridOf bs)))

@@ -37,7 +37,7 @@ pub all-unused : (t : List ℕ) → ((d : ℕ) → live t d ≡ false) → unuse
 unfolding unusedSlots tabulate
 all-unused t empty = ones-all (λ d. elim (live t d) [ true ↦ 0 | false ↦ 1 ]) (λ d. rw (empty d)) (slots t) 0
 
-pub none-live : (t : List ℕ) → ((d : ℕ) → live t d ≡ false) → liveCount t ≡ 0
+none-live : (t : List ℕ) → ((d : ℕ) → live t d ≡ false) → liveCount t ≡ 0
 unfolding liveCount howMany
 none-live t empty = ⊎-elim (λ e. e) (λ (x, _, l). absurd (clash l (empty x))) (howMany-none (slots t) (live t))
 

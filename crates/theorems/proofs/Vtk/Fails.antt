@@ -44,7 +44,7 @@ types-false types = Iff·trans (each-fail (λ x. eqb x 12) types)
 -- ---- 21: "vertex repeated in a cell"
 
 -- what is in a list stands at a place of it
-pub in-at : {A : Type 0} (l : List A) (x d : A) → In x l → (k : ℕ) × (k < length l) × (getD l k d ≡ x)
+in-at : {A : Type 0} (l : List A) (x d : A) → In x l → (k : ℕ) × (k < length l) × (getD l k d ≡ x)
 in-at [] x d i = absurd (not-nil i)
 in-at (y ∷ l) x d i = ⊎-elim (λ e. (0, omega arith, sym e))
     (λ j. let (k, h, e) = in-at l x d j in (suc k, omega arith, e)) (in-cons i)

@@ -50,14 +50,14 @@ own-at j c k h =
 parts : (d : ℕ) → 48 * (d / 48) + d % 48 ≡ d
 parts d = omega arith
 
-pub own-comes : (j d : ℕ) → j < 4 → ownLink j (ownLink j d) ≡ d
+own-comes : (j d : ℕ) → j < 4 → ownLink j (ownLink j d) ≡ d
 unfolding ownLink
 own-comes j d b =
     let low : d % 48 < 48 = omega arith in
     own-at j (d / 48) (cellLink 3 j (d % 48)) (link-low j (d % 48) b low)
     ∙ ap (λ (k : ℕ). 48 * (d / 48) + k) (link-comes j (d % 48) b low) ∙ parts d
 
-pub own-cross : (i j d : ℕ) → i + 2 ≤ j → j ≤ 3 → ownLink j (ownLink i (ownLink j (ownLink i d))) ≡ d
+own-cross : (i j d : ℕ) → i + 2 ≤ j → j ≤ 3 → ownLink j (ownLink i (ownLink j (ownLink i d))) ≡ d
 own-cross i j d far top =
     let c = d / 48 in
     let k = d % 48 in
@@ -73,7 +73,7 @@ own-cross i j d far top =
     ap (λ (x : ℕ). ownLink j (ownLink i (ownLink j (ownLink i x)))) (sym (parts d))
     ∙ rw (own-at i c k h, own-at j c k₁ h₁, own-at i c k₂ h₂, own-at j c k₃ h₃, link-cross i j k far top h) (parts d)
 
-pub own-low : (rows : List (List ℕ)) (j d : ℕ) → j < 4 → d < darts rows → ownLink j d < darts rows
+own-low : (rows : List (List ℕ)) (j d : ℕ) → j < 4 → d < darts rows → ownLink j d < darts rows
 unfolding ownLink darts
 own-low rows j d b h = let l = link-low j (d % 48) b (rest-low j d b) in omega arith
 
