@@ -1,6 +1,6 @@
 -- The words of a text, byte by byte.
 use Prim.Native.Nat.{ℕ, suc, _+_, _-_, _<_, _≤_}
-use mathlib.Core.Path.{_≡_, refl, _∙_}
+use mathlib.Core.Path.{_≡_, refl, sym, ap, _∙_}
 use mathlib.Core.Bool.{true, false}
 use mathlib.Core.List.{List, [], _∷_, _++_}
 use mathlib.Core.Option.{none, some}
@@ -11,7 +11,7 @@ use lib.Seq.{drop-cons, take-suc, getD-drop, length-take-le}
 use Rattle.model.specs.Lists.{equal}
 use Rattle.model.specs.Vtk.{isBlank, ended, wordsFrom, words, behindWords}
 use Rattle.theorems.proofs.Lists.Scan.{test}
-use Rattle.vtk_words.specs.Words.{WordStart, WordEnd}
+use Rattle.vtk_words.specs.Words.{WordStart, WordEnd, endsBetween, WordEnds}
 
 no-bytes : (xs : List ℕ) → length xs ≡ 0 → (w : List ℕ) → wordsFrom w xs ≡ ended w (words xs)
 unfolding words wordsFrom ended
@@ -76,6 +76,59 @@ first-of text at start end s e low =
     let high = e .high in
     let long = length-take-le (end - start) (drop start text) (simp length-drop (omega arith)) in
     s .same ∙ e .is ∙ ended-first _ _ (omega arith)
+
+-- ---- the words that end in a stretch of bytes
+
+-- what is begun of the first word changes none behind it
+begun-behind : (k x y : ℕ) (v w bs : List ℕ) → drop (suc k) (wordsFrom (x ∷ v) bs) ≡ drop (suc k) (wordsFrom (y ∷ w) bs)
+unfolding wordsFrom ended
+begun-behind k x y v w [] = refl
+begun-behind k x y v w (b ∷ bs) =
+    test (isBlank b) (λ e. rw (e, wordsFrom)) (λ e. rw (e, wordsFrom) (begun-behind k x y (v ++ (b ∷ [])) (w ++ (b ∷ [])) bs))
+
+pub ends-one : (a b : ℕ) → endsBetween a b ≤ 1
+unfolding endsBetween
+ends-one a b =
+    test (isBlank a) (λ e. rw (e, endsBetween) (omega arith))
+    (λ e. test (isBlank b) (λ f. rw (e, f, endsBetween) (omega arith)) (λ f. rw (e, f, endsBetween) (omega arith)))
+
+module _ (text : List ℕ) (p : ℕ) (low : p + 1 < length text) where
+  -- the words from the next byte on, where one is to be passed
+  next-byte : (k : ℕ)
+      → drop (suc k) (words (drop p text)) ≡ drop (suc k - endsBetween (getD text p 0) (getD text (p + 1) 0)) (words (drop (p + 1) text))
+  unfolding endsBetween words ended
+  next-byte k =
+      let here : p < length text = omega arith in
+      let all : suc k - 0 ≡ suc k = omega arith in
+      let less : suc k - 1 ≡ k = omega arith in
+      test (isBlank (getD text p 0))
+      (λ e. rw (e, endsBetween, all) (ap (drop (suc k)) (words-blank text p here e)))
+      (λ e.
+      test (isBlank (getD text (p + 1) 0))
+      (λ f. rw (e, f, endsBetween, less) (ap (drop (suc k)) (from-letter text p here [] e ∙ from-blank text (p + 1) low _ f)))
+      (λ f.
+      rw (e, f, endsBetween, all)
+      (ap (drop (suc k)) (from-letter text p here [] e ∙ from-letter text (p + 1) low _ f) ∙ begun-behind k _ _ _ _ _
+      ∙ sym (ap (drop (suc k)) (from-letter text (p + 1) low [] f)))))
+
+pub ends-none : (text : List ℕ) (at : ℕ) → WordEnds text at 0 0
+ends-none text at =
+    record { few = omega arith; same = λ k h. let all : k - 0 ≡ k = omega arith in let here : at + 0 ≡ at = omega arith in rw (all, here) }
+
+pub ends-more : (text : List ℕ) (at n e : ℕ) → at + n + 1 < length text → WordEnds text at n e
+    → WordEnds text at (n + 1) (e + endsBetween (getD text (at + n) 0) (getD text (at + n + 1) 0))
+ends-more text at n e low h =
+    let more = endsBetween (getD text (at + n) 0) (getD text (at + n + 1) 0) in
+    let one : more ≤ 1 = ends-one _ _ in
+    let few = h .few in
+    record {
+      few = omega arith;
+      same = λ k left.
+          let some : k - e ≡ suc (k - e - 1) = omega arith in
+          let fewer : suc (k - e - 1) - more ≡ k - (e + more) = omega arith in
+          let next : at + n + 1 ≡ at + (n + 1) = omega arith in
+          h .same k (omega arith) ∙ rw (some, ← fewer, ← next) (next-byte text (at + n) low (k - e - 1));
+    }
 
 -- ---- a keyword
 

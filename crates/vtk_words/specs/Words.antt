@@ -1,7 +1,7 @@
 -- The words of a text from a place on: where the next one begins and ends, and what it is as a keyword and as a number.
 use Prim.Native.Nat.{ℕ, _+_, _*_, _-_, _≤_, _<_}
 use mathlib.Core.Path.{_≡_}
-use mathlib.Core.Bool.{true, false}
+use mathlib.Core.Bool.{true, false, not, _&&_}
 use mathlib.Core.List.{List, [], _∷_}
 use mathlib.Core.Option.{Option, none, some}
 use lib.ListN.{length, getD, take, drop}
@@ -25,6 +25,15 @@ pub record WordEnd (text : List ℕ) (start r : ℕ) : Type 0 where
   pub high : r ≤ length text
   pub is : words (drop start text) ≡ ended (take (r - start) (drop start text)) (words (drop r text))
   pub some : start < length text → isBlank (getD text start 0) ≡ false → start < r
+
+-- how many words end between two bytes: one, where the second is the blank behind a word
+unfoldable pub endsBetween : ℕ → ℕ → ℕ
+endsBetween a b = elim (not (isBlank a) && isBlank b) [ true ↦ 1 | false ↦ 0 ]
+
+-- e counts the words that end in the n bytes from `at` on: to pass more than e words from there is to pass e fewer from behind these bytes
+pub record WordEnds (text : List ℕ) (at n e : ℕ) : Type 0 where
+  pub few : e ≤ n
+  pub same : (k : ℕ) → e < k → drop k (words (drop at text)) ≡ drop (k - e) (words (drop (at + n) text))
 
 -- r is a place of the text, and ws are the words from there on
 pub record WordsAt (text : List ℕ) (ws : List (List ℕ)) (r : ℕ) : Type 0 where

@@ -2,22 +2,16 @@
 // and the place behind so many of them. Each is linear in the bytes that it passes, and a number may have any length.
 ghost use mathlib.Core.Path.{_≡_};
 ghost use mathlib.Core.List.{[], _∷_};
-ghost use Prim.Native.Nat.{ℕ, _≤_, _<_};
+ghost use Prim.Native.Nat.{ℕ, _+_, _≤_, _<_};
 ghost use lib.ListN.{length, getD, drop};
 ghost use Rattle.model.specs.Vtk.{isBlank, words, behindWords, counted};
-ghost use Rattle.vtk_words.specs.Words.{WordStart, WordEnd, WordsAt, PlaceOf, NumberOf, digitsOn, large};
+ghost use Rattle.vtk_words.specs.Words.{WordStart, WordEnd, endsBetween, WordEnds, WordsAt, PlaceOf, NumberOf, digitsOn, large};
 
 // "words between blanks, tabs or LF"
 fn is_blank(b: u8) -> bool
     ensures { λ r. ⌜ r ≡ isBlank b ⌝ }
 {
-    if b == b' ' {
-        return true;
-    }
-    if b == b'\t' {
-        return true;
-    }
-    b == b'\n'
+    (b == b' ') | (b == b'\t') | (b == b'\n')
 }
 
 // Where the next word begins, or the text's length.
@@ -50,8 +44,29 @@ fn word_end(text: &[u8], start: usize) -> usize
     k
 }
 
-// The place behind n words, or the text's length where there are fewer: "three words a point, skipped".
-pub fn skip_words(text: &[u8], at: usize, n: u64) -> usize
+// ---- so many words passed
+
+// 1 where a word ends between these two bytes, else 0, without a branch.
+fn is_end(a: u8, b: u8) -> u8
+    ensures { λ r. ⌜ r ≡ endsBetween a b ⌝ }
+{
+    (!is_blank(a) & is_blank(b)) as u8
+}
+
+// How many words end in the 64 bytes from here on. Always 64 rounds without a branch: the compiler takes many bytes at once.
+fn ends_from(text: &[u8], at: usize) -> u8
+    requires { ⌜ at + 64 < length (now text) ⌝ }
+    ensures { λ r. ⌜ WordEnds (now (text .entry)) at 64 r ⌝ }
+{
+    let mut n: u8 = 0;
+    for i in 0..64usize {
+        n += is_end(text[at + i], text[at + i + 1]);
+    }
+    n
+}
+
+// The place behind n words, or the text's length where there are fewer: word by word.
+fn skip_few(text: &[u8], at: usize, n: u64) -> usize
     requires { ⌜ at ≤ length (now text) ⌝ }
     ensures { λ r. ⌜ WordsAt (now (text .entry)) (drop n (words (drop at (now (text .entry))))) r ⌝ }
 {
@@ -66,6 +81,23 @@ pub fn skip_words(text: &[u8], at: usize, n: u64) -> usize
         k += 1;
     }
     p
+}
+
+// The same: "three words a point, skipped", 64 bytes at a time while more than 64 words are left.
+pub fn skip_words(text: &[u8], at: usize, n: u64) -> usize
+    requires { ⌜ at ≤ length (now text) ⌝ }
+    ensures { λ r. ⌜ WordsAt (now (text .entry)) (drop n (words (drop at (now (text .entry))))) r ⌝ }
+{
+    let mut p = at;
+    let mut left = n;
+    while left > 64 {
+        if text.len() - p <= 64 {
+            return skip_few(text, p, left);
+        }
+        left -= ends_from(text, p) as u64;
+        p += 64;
+    }
+    skip_few(text, p, left)
 }
 
 // The place behind the next word, if that is the one asked for.
