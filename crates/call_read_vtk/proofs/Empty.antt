@@ -1,20 +1,20 @@
 -- Whether no slot is live, by the entries of the table: `entries-more`, `entries-all`; where none is, the checks of a map pass
--- (`empty-passes`);
--- and what is known where the checks up to 18 pass (`empty-opened`).
-use Prim.Native.Nat.{ℕ, _+_, _*_, _/_, _%_, _<_}
-use mathlib.Core.Path.{_≡_, refl, sym, ap, _∙_}
+-- (`empty-passes`); and what is known where the checks up to 18 pass (`empty-opened`).
+use Prim.Native.Nat.{ℕ, _+_, _*_, _/_, _%_, _≤_, _<_}
+use mathlib.Core.Path.{_≡_, refl, sym, ap, ap₂, _∙_}
 use mathlib.Core.Logic.{_≢_}
-use mathlib.Core.Bool.{Bool, true, false, not, _&&_}
+use mathlib.Core.Bool.{Bool, true, not}
 use mathlib.Core.List.{List}
 use native.Mathlib.Omega.{arith}
 use lib.ListN.{length, getD}
 use lib.Dec.{eqb}
+use lib.Bits.{bitAnd, and-le-l, and-le-r, and-self}
 use borrow.Author.Tests.{eqb-true, eqb-false, not-true}
 use Rattle.model.specs.Lists.{allBelow}
 use Rattle.model.specs.Table.{unused, slots, link, live}
 use Rattle.model.specs.Map.{MapRule, links-live, links-return, pairs-commute, stays-flat, isMap}
 use Rattle.model.specs.Checks.{pass, must, mustAt, andThen, inOrder, solidOk, tableOk, journalOk, ruleOk, mapChecks, emptyOk}
-use Rattle.theorems.proofs.Lists.Scan.{test, clash, same-test, if-eq, and-l, and-r, below-at, below-of}
+use Rattle.theorems.proofs.Lists.Scan.{test, clash, same-test, if-eq, below-at, below-of}
 use Rattle.theorems.proofs.Sets.Closure.{getD-any}
 use Rattle.theorems.proofs.Maps.Rules.{of-map, dead-by, dead-link}
 use Rattle.theorems.proofs.Calls.Checks.{passed-at}
@@ -22,38 +22,45 @@ use Rattle.theorems.proofs.Calls.Pass.{solid-pass}
 use Rattle.theorems.proofs.Vtk.Passed.{empty-pass}
 use Rattle.call_read_vtk.specs.Formed.{emptyChecks}
 
--- the first e entries: all are of unused slots, or one is not
-pub record Entries (t : List ℕ) (e : ℕ) (empty : Bool) : Type 0 where
-  pub all : empty ≡ true → (k : ℕ) → k < e → getD t k 0 ≡ unused
-  pub some : empty ≡ false → (k : ℕ) × (k < e) × (getD t k 0 ≢ unused)
+-- the first e entries, by the bits that they have in common: all are of unused slots, or one is not
+pub record Entries (t : List ℕ) (e common : ℕ) : Type 0 where
+  low : common ≤ unused
+  all : common ≡ unused → (k : ℕ) → k < e → getD t k 0 ≡ unused
+  some : common ≢ unused → (k : ℕ) × (k < e) × (getD t k 0 ≢ unused)
 
-pub entries-none : (t : List ℕ) → Entries t 0 true
-entries-none t = record { all = λ h k l. absurd (omega arith); some = λ h. absurd (clash refl h) }
+pub entries-none : (t : List ℕ) → Entries t 0 unused
+entries-none t = record { low = omega arith; all = λ h k l. absurd (omega arith); some = λ h. absurd (h refl) }
 
-pub entries-more : {t : List ℕ} {e : ℕ} {empty : Bool} → Entries t e empty → Entries t (e + 1) (empty && eqb (getD t e 0) unused)
-entries-more {t} {e} {empty} E = record {
-  all = λ h k l. if-eq k e (λ q. rw q (eqb-true _ _ (and-r empty _ h))) (λ q. E .all (and-l empty _ h) k (omega arith));
-  some = λ h. test empty
-      (λ q. (e, omega arith, eqb-false (getD t e 0) unused (rw q at h)))
-      (λ q. let (k, l, other) = E .some q in (k, omega arith, other));
-}
+pub entries-more : {t : List ℕ} {e common : ℕ} → getD t e 0 ≤ unused → Entries t e common → Entries t (e + 1) (bitAnd common (getD t e 0))
+entries-more {t} {e} {common} fits E =
+    let next = getD t e 0 in
+    let left = and-le-l common next in
+    let right = and-le-r common next in
+    let low = E .low in
+    record {
+      low = omega arith;
+      all = λ h k l. if-eq k e (λ q. rw q (omega arith)) (λ q. E .all (omega arith) k (omega arith));
+      some = λ h. if-eq common unused
+          (λ q. (e, omega arith, λ r. h (ap₂ bitAnd q r ∙ and-self unused)))
+          (λ q. let (k, l, other) = E .some q in (k, omega arith, other));
+    }
 
-pub entries-all : (t : List ℕ) → length t ≡ 4 * slots t → {empty : Bool} → Entries t (length t) empty
-    → empty ≡ allBelow (slots t) (λ d. not (live t d))
+pub entries-all : (t : List ℕ) → length t ≡ 4 * slots t → {common : ℕ} → Entries t (length t) common
+    → eqb common unused ≡ allBelow (slots t) (λ d. not (live t d))
 unfolding link
-entries-all t whole {empty} E = same-test dead alive
+entries-all t whole {common} E = same-test dead alive
   where
     entry : (k : ℕ) → k < length t → getD t k unused ≡ getD t k 0
     entry k low = getD-any t k unused 0 low
 
-    dead : empty ≡ true → allBelow (slots t) (λ d. not (live t d)) ≡ true
+    dead : eqb common unused ≡ true → allBelow (slots t) (λ d. not (live t d)) ≡ true
     dead h = below-of (λ d. not (live t d)) (slots t) (λ d low.
-        let at : (i : ℕ) → i < 4 → link t i d ≡ unused = λ i l. entry (4 * d + i) (omega arith) ∙ E .all h (4 * d + i) (omega arith) in
+        let at : (i : ℕ) → i < 4 → link t i d ≡ unused = λ i l. entry (4 * d + i) (omega arith) ∙ E .all (eqb-true _ _ h) (4 * d + i) (omega arith) in
         ap not (dead-by t d (at 0 (omega arith)) (at 1 (omega arith)) (at 2 (omega arith)) (at 3 (omega arith))))
 
-    alive : allBelow (slots t) (λ d. not (live t d)) ≡ true → empty ≡ true
-    alive h = test empty (λ q. q) (λ q.
-        let (k, low, other) = E .some q in
+    alive : allBelow (slots t) (λ d. not (live t d)) ≡ true → eqb common unused ≡ true
+    alive h = test (eqb common unused) (λ q. q) (λ q.
+        let (k, low, other) = E .some (eqb-false _ _ q) in
         let none = not-true _ (below-at (λ d. not (live t d)) (slots t) h (k / 4) (omega arith)) in
         let place : 4 * (k / 4) + k % 4 ≡ k = omega arith in
         absurd (other (sym (entry k low) ∙ ap (λ (x : ℕ). getD t x unused) (sym place) ∙ dead-link t (k / 4) none (k % 4) (omega arith))))

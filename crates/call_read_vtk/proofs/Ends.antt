@@ -14,7 +14,7 @@ use Rattle.model.specs.Table.{slots, live}
 use Rattle.model.specs.Journal.{changesFrom}
 use Rattle.model.specs.Vtk.{Grid, gridOf, rowsIn, typesIn}
 use Rattle.model.specs.Faces.{darts, vtkTable}
-use Rattle.model.specs.Checks.{Check, pass, refuse, must, inOrder, mapChecks, cellsRoomOk, orderOk, gridChecks, vtkChecks}
+use Rattle.model.specs.Checks.{Check, pass, refuse, must, inOrder, mapChecks, cellsRoomOk, gridChecks, vtkChecks}
 use Rattle.model.specs.Calls.{commit, vtkCall}
 use Rattle.model.specs.Meaning.Numbers.{JournalRule}
 use Rattle.model.specs.Meaning.Vtk.{Readable}
@@ -81,10 +81,9 @@ module _ {t j text buffer : List ℕ} {at cells : ℕ} (F : Formed t j text buff
       number = F .number;
     }
 
-  pub judged-checked : 8 * cells ≤ length buffer → {mates : List ℕ} {number : ℕ} → JudgedHeld (F .grid .rows) mates number → number ≡ 0
-      → Checked t j text buffer mates cells
+  pub judged-checked : {mates : List ℕ} {number : ℕ} → JudgedHeld (F .grid .rows) mates number → number ≡ 0 → Checked t j text mates cells
   unfolding judged-passed
-  judged-checked room J h = record { pass = judged-passed (J .judged) h; held = cells-held room .held; mated = J .mated h }
+  judged-checked J h = record { pass = judged-passed (J .judged) h; mated = J .mated h }
 
 module _ {t j text : List ℕ} {cells : ℕ} (P : Passed t j text cells) where
   abbrev rows : List (List ℕ)
@@ -107,10 +106,6 @@ module _ {t j text : List ℕ} {cells : ℕ} (P : Passed t j text cells) where
   empty : (d : ℕ) → live t d ≡ false
   unfolding vtkChecks mapChecks gridChecks
   empty = empty-pass t (sized .0) (check 7)
-
-  order : orderOk rows ≡ pass
-  unfolding vtkChecks mapChecks gridChecks rowsIn
-  order = check 12
 
   -- 14
   pub read-few : (tag : ℕ) → length t < 192 * cells → outcome (refusal 14 0 0) t [] j ≡ vtkCall 3 t j tag text
@@ -157,10 +152,10 @@ pub read-many : {t j text : List ℕ} {cells : ℕ} → Passed t j text cells �
     → outcome (refusal 14 0 0) t [] j ≡ vtkCall 3 t j tag text
 read-many P tag many = let (whole, few) = sized P in read-few P tag (omega arith)
 
-pub new-cells : {t j text buffer mates : List ℕ} {cells : ℕ} (C : Checked t j text buffer mates cells) → 192 * cells ≤ length t
-    → Room t (vtkTable t (C .pass .grid .rows)) j → NewCells t (C .pass .grid .rows) buffer mates cells j
+pub new-cells : {t j text mates : List ℕ} {cells : ℕ} (C : Checked t j text mates cells) → 192 * cells ≤ length t
+    → Room t (vtkTable t (C .pass .grid .rows)) j → NewCells t (C .pass .grid .rows) mates cells j
 new-cells C room fits = record {
-  are = record { readable = readable (C .pass) room; order = order (C .pass); held = C .held; mated = C .mated };
+  are = record { readable = readable (C .pass) room; mated = C .mated };
   number = C .pass .number;
   rule = rule (C .pass);
   room = fits;

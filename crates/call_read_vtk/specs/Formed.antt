@@ -63,12 +63,11 @@ pub record Passed (t j text : List ℕ) (cells : ℕ) : Type 0 where
   pub passed : inOrder (take 13 (vtkChecks 3 t j (some grid))) ≡ pass
   pub number : cells ≡ length (grid .rows)
 
--- and the buffers have the cells
-pub record Checked (t j text buffer mates : List ℕ) (cells : ℕ) : Type 0 where
+-- and the buffer has the mates of the cells' faces
+pub record Checked (t j text mates : List ℕ) (cells : ℕ) : Type 0 where
   pub pass : Passed t j text cells
-  pub held : Held buffer (pass .grid .rows)
   pub mated : Mated (pass .grid .rows) mates
 
-pub record SomeChecked (t j buffer mates : List ℕ) (cells : ℕ) : Type 0 where
+pub record SomeChecked (t j mates : List ℕ) (cells : ℕ) : Type 0 where
   pub text : List ℕ
-  pub are : Checked t j text buffer mates cells
+  pub are : Checked t j text mates cells

@@ -18,16 +18,16 @@ ghost use Rattle.vtk_form.specs.Form.{FormOf};
 ghost use Rattle.vtk_faces.specs.Texts.{CellsAt, SomeCellsAt};
 ghost use Rattle.call_read_vtk.specs.Formed.{emptyChecks, Formed, Lent, CellsHeld, SomeCellsHeld, Judged, JudgedHeld, Checked, SomeChecked};
 
-// Whether no slot is live.
+// Whether no slot is live: the bits that all entries have in common are those of an unused one.
 fn is_empty(table: &[u32]) -> bool
     requires { ⌜ tableOk (now table) ≡ pass ⌝ }
     ensures { λ r. ⌜ r ≡ allBelow (slots (now (table .entry))) (λ d. not (live (now (table .entry)) d)) ⌝ }
 {
-    let mut empty = true;
+    let mut common = UNUSED;
     for e in 0..table.len() {
-        empty = empty & (table[e] == UNUSED);
+        common = common & table[e];
     }
-    empty
+    common == UNUSED
 }
 
 // Whether the checks up to 18 pass; where no slot is live, the table is a map.
@@ -114,13 +114,11 @@ fn place_cells(
     table: &mut [u32],
     journal: &mut [u32],
     tag: u32,
-    rows: &[u64],
     mates: &[u16],
     cells: usize,
 ) -> Answer
-    requires { ⌜ (SomeChecked (now table) (now journal) (now rows) (now mates) cells) × (cells ≤ 1365) ⌝ }
-    ensures { λ r. ⌜ ((text : List ℕ)
-        → Checked (now (table .entry)) (now (journal .entry)) text (now (rows .entry)) (now (mates .entry)) cells
+    requires { ⌜ (SomeChecked (now table) (now journal) (now mates) cells) × (cells ≤ 1365) ⌝ }
+    ensures { λ r. ⌜ ((text : List ℕ) → Checked (now (table .entry)) (now (journal .entry)) text (now (mates .entry)) cells
         → outcome r (now (table .exit)) [] (now (journal .exit))
         ≡ vtkCall 3 (now (table .entry)) (now (journal .entry)) tag text) ⌝ }
 {
@@ -131,7 +129,7 @@ fn place_cells(
     if !journal::record_fits(journal, changes) {
         return numbers::NO_ROOM;
     }
-    vtk_table::write_cells(table, journal, rows, mates, cells);
+    vtk_table::write_cells(table, journal, mates, cells);
     drafts::close_record(journal, changes, tag);
     Answer {
         number: 0,
@@ -194,7 +192,7 @@ fn read_formed(
             count: 0,
         };
     }
-    place_cells(table, journal, tag, rows, mates, cells)
+    place_cells(table, journal, tag, mates, cells)
 }
 
 // The read where the checks up to 18 have passed, with what is known of the form, and buffers.

@@ -8,7 +8,7 @@ pub mod Passed
 pub mod Call
 pub mod Order
 pub mod Added
-pub mod Opposite
+pub mod Readings
 pub mod Three
 pub mod Other
 pub mod Fails

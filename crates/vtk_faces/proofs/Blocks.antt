@@ -8,6 +8,7 @@ use native.Mathlib.Omega.{arith}
 use lib.ListN.{length}
 use Rattle.theorems.proofs.Lists.Scan.{if-eq}
 use Rattle.vtk_faces.specs.Faces.{heldFace}
+use Rattle.vtk_faces.specs.Turns.{Turned}
 use Rattle.vtk_faces.specs.Chains.{Chains}
 use Rattle.vtk_faces.specs.Judged.{ThreeOf, OtherOf, Ordered, State, Ran, Number, Stepped, Going, Gone}
 use Rattle.vtk_faces.specs.Blocks.{Own, Block}
@@ -76,6 +77,7 @@ ran-wide F m n k mates l R = record { three = λ e. three-wide F n k l (R .three
 pub record Run (buffer heads nexts mates : List ℕ) (i other : ℕ) : Type 0 where
   pub chains : Chains (heldFace buffer) i heads nexts
   pub state : State (heldFace buffer) i i mates other
+  pub turned : other ≡ 0 → Turned buffer i mates
 
 module _ (buffer : List ℕ) where
   abbrev F : ℕ → List ℕ
@@ -93,12 +95,13 @@ module _ (buffer : List ℕ) where
             within = omega arith;
             long = omega arith;
             alone = λ p b. absurd (omega arith);
-            paired = λ p x b. absurd (omega arith);
+            paired = λ p b. absurd (omega arith);
             no-three = λ p q r b. absurd (omega arith);
           };
           ordered = record { agree = λ _ p q b. absurd (omega arith); differ = λ d. absurd (d refl) };
           still = inl refl;
         };
+        turned = λ _ p x b. absurd (omega arith);
       }
 
   -- the next face may go in
@@ -114,26 +117,31 @@ module _ (buffer : List ℕ) where
         sited = O .sited;
         fits = omega arith;
         few = omega arith;
-        once = λ p b. O .once p (omega arith);
         chains = R .chains;
         judged = R .state .judged;
         nexts-room = omega arith;
         mates-room = omega arith;
       }
 
-  module _ (heads nexts mates : List ℕ) (i number : ℕ) (G : Gone buffer heads nexts mates i number) where
-    pub run-more : (heads₀ nexts₀ mates₀ : List ℕ) (a b : ℕ) → Run buffer heads₀ nexts₀ mates₀ i a → number ≢ 22
+  module _ (mates₀ heads nexts mates : List ℕ) (i number : ℕ) (G : Gone buffer mates₀ heads nexts mates i number) where
+    pub run-more : (heads₀ nexts₀ : List ℕ) (a b : ℕ) → Run buffer heads₀ nexts₀ mates₀ i a → number ≢ 22
         → (a ≡ 0 → b ≡ number) × (a ≢ 0 → b ≡ a) → Run buffer heads nexts mates (i + 1) b
-    run-more heads₀ nexts₀ mates₀ a b R going given = record {
+    run-more heads₀ nexts₀ a b R going given = record {
       chains = G .chains;
       state = state-more F i (i + 1) i mates₀ mates number (G .stepped) (λ p _ l. l) a b (R .state) going given;
+      turned = λ z. if-eq a 0 (λ e. G .turned (sym (given .0 e) ∙ z) (R .turned e)) (λ e. absurd (e (sym (given .1 e) ∙ z)));
     }
 
-    pub run-three : (n : ℕ) → i < n → number ≡ 22 → Block F n heads nexts mates 22
+    pub run-three : (n : ℕ) → i < n → number ≡ 22 → Block buffer n heads nexts mates 22
     run-three n l e = record {
       ran = state-three F (i + 1) i mates number (G .stepped) n n l e;
       chains = λ d. absurd (d refl);
+      turned = λ z. absurd (omega arith);
     }
 
-  pub run-block : (heads nexts mates : List ℕ) (n other : ℕ) → Run buffer heads nexts mates n other → Block F n heads nexts mates other
-  run-block heads nexts mates n other R = record { ran = state-ran F n n mates other (R .state); chains = λ _. R .chains }
+  pub run-block : (heads nexts mates : List ℕ) (n other : ℕ) → Run buffer heads nexts mates n other → Block buffer n heads nexts mates other
+  run-block heads nexts mates n other R = record {
+    ran = state-ran F n n mates other (R .state);
+    chains = λ _. R .chains;
+    turned = R .turned;
+  }

@@ -1,9 +1,9 @@
 -- One more face is judged: it has the four vertices of none before it, of one, or of two.
 -- Main theorem: `steps`.
-use Prim.Native.Nat.{ℕ, suc, _+_, _-_, _≤_, _<_}
+use Prim.Native.Nat.{ℕ, _+_, _-_, _/_, _≤_, _<_}
 use mathlib.Core.Path.{_≡_, sym, ap, _∙_, subst}
 use mathlib.Core.Logic.{_⊎_, inl, inr, _≢_, ⊎-elim}
-use mathlib.Core.Bool.{true, false}
+use mathlib.Core.Bool.{Bool, true, false}
 use mathlib.Core.List.{List}
 use native.Mathlib.Omega.{arith}
 use lib.ListN.{length, getD}
@@ -34,8 +34,8 @@ module _ (F : ℕ → List ℕ) where
     in-cases : (P : ℕ → Type 0) (p : ℕ) → p < k → (p < m → P p) → (m ≡ i → i < k → P i) → P p
     in-cases P p b f g = if-lt p m f (λ a. subst P (omega (arith, own (omega arith))) (g (own (omega arith)) (omega (arith, own (omega arith)))))
 
-    mate-more : (p x : ℕ) → p < m → Mate F m i p x → Mate F k (i + 1) p x
-    mate-more p x b M =
+    mate-more : (p word : ℕ) → p < m → Mate F m i p word → Mate F k (i + 1) p word
+    mate-more p word b M =
         let low = M .low in
         record {
           q = M .q;
@@ -44,6 +44,10 @@ module _ (F : ℕ → List ℕ) where
           same = M .same;
           which = ⊎-elim (λ e. inl e) (λ e. if-lt (M .q) k (λ l. absurd (omega (arith, own (omega arith)))) (λ l. inr l)) (M .which);
         }
+
+    mate-stays : (p : ℕ) → p < m → getD after (p + 1) 0 ≡ getD mates (p + 1) 0 → 0 < getD after (p + 1) 0
+        → Mate F k (i + 1) p (getD after (p + 1) 0)
+    mate-stays p s e z = subst (Mate F k (i + 1) p) (sym e) (mate-more p _ s (J .paired p s (omega arith)))
 
     -- none that was in has the same four vertices
     module _ (none : (p : ℕ) → p < m → sameFour (F p) (F i) ≡ false)
@@ -57,8 +61,8 @@ module _ (F : ℕ → List ℕ) where
             alone = λ p b z q l n. in-cases (λ p. getD after (p + 1) 0 ≡ 0 → q ≢ p → sameFour (F p) (F q) ≡ false) p b
                 (λ s z n. if-eq q i (λ e. rw e (none p s)) (λ e. J .alone p s (sym (stays p s) ∙ z) q (omega arith) n))
                 (λ e ik z n. not-same i q (λ h. clash (back i q h) (none q (omega arith)))) z n;
-            paired = λ p x b z. in-cases (λ p. getD after (p + 1) 0 ≡ suc x → Mate F k (i + 1) p x) p b
-                (λ s z. mate-more p x s (J .paired p x s (sym (stays p s) ∙ z)))
+            paired = λ p b z. in-cases (λ p. 0 < getD after (p + 1) 0 → Mate F k (i + 1) p (getD after (p + 1) 0)) p b
+                (λ s z. mate-stays p s (stays p s) z)
                 (λ e ik z. absurd (let o = zero ik in omega arith)) z;
             no-three = λ p q r b pq qr ri two three. if-lt p m
                 (λ s. if-eq r i (λ e. clash (subst (Same p) e three) (none p s)) (λ e. J .no-three p q r s pq qr (omega arith) two three))
@@ -72,9 +76,9 @@ module _ (F : ℕ → List ℕ) where
       only q l h =
           if-eq q p (λ e. e) (λ e. absurd (clash (on p i q same (back q i h)) (J .alone p b was q l e)))
 
-      module _ (x : ℕ) (mark : getD after (p + 1) 0 ≡ suc x) (which : (i ≡ x) ⊎ (k ≤ i))
+      module _ (mark : 0 < getD after (p + 1) 0) (which : (getD after (p + 1) 0 / 8 ≡ i + 1) ⊎ (k ≤ i))
           (stays : (q : ℕ) → q < m → q ≢ p → getD after (q + 1) 0 ≡ getD mates (q + 1) 0)
-          (mine : i < k → getD after (i + 1) 0 ≡ p + 1) where
+          (mine : i < k → getD after (i + 1) 0 / 8 ≡ p + 1) where
         abbrev inside : m ≤ i
         inside = J .within
 
@@ -88,35 +92,32 @@ module _ (F : ℕ → List ℕ) where
           long = room;
           alone = λ q l z r h n. in-cases (λ q. getD after (q + 1) 0 ≡ 0 → r ≢ q → sameFour (F q) (F r) ≡ false) q l
               (λ s z n. if-eq q p
-              (λ e. absurd (let w : getD after (q + 1) 0 ≡ suc x = rw e mark in omega arith))
+              (λ e. absurd (let w : 0 < getD after (q + 1) 0 = rw e mark in omega arith))
               (λ e. alone-else q s e z r h n)) (λ e ik z n. absurd (let w = mine ik in omega arith)) z n;
-          paired = λ q y l z. in-cases (λ q. getD after (q + 1) 0 ≡ suc y → Mate F k (i + 1) q y) q l
-              (λ s z. if-eq q p (λ e. own-mate q y e z) (λ e. mate-more q y s (J .paired q y s (sym (stays q s e) ∙ z))))
-              (λ e ik z. new-mate y (mine ik) z) z;
+          paired = λ q l z. in-cases (λ q. 0 < getD after (q + 1) 0 → Mate F k (i + 1) q (getD after (q + 1) 0)) q l
+              (λ s z. if-eq q p (λ e. own-mate q e) (λ e. mate-stays q s (stays q s e) z))
+              (λ e ik z. new-mate (mine ik)) z;
           no-three = λ q r s l qr rs si two three. if-lt q m
               (λ h. if-eq s i (λ e. third q r h qr (omega arith) two (subst (Same q) e three))
               (λ e. J .no-three q r s h qr rs (omega arith) two three)) (λ h. absurd (omega (arith, own (omega arith))));
         }
           where
-            own-mate : (q y : ℕ) → q ≡ p → getD after (q + 1) 0 ≡ suc y → Mate F k (i + 1) q y
-            own-mate q y e z =
-                let w : getD after (q + 1) 0 ≡ suc x = rw e mark in
-                let xy : x ≡ y = omega arith in
-                record {
-                  q = i;
-                  low = omega arith;
-                  other = λ d. absurd (omega arith);
-                  same = rw e same;
-                  which = ⊎-elim (λ d. inl (d ∙ xy)) inr which;
-                }
+            own-mate : (q : ℕ) → q ≡ p → Mate F k (i + 1) q (getD after (q + 1) 0)
+            own-mate q e = record {
+              q = i;
+              low = omega arith;
+              other = λ d. absurd (omega arith);
+              same = rw e same;
+              which = rw e which;
+            }
 
-            new-mate : (y : ℕ) → getD after (i + 1) 0 ≡ p + 1 → getD after (i + 1) 0 ≡ suc y → Mate F k (i + 1) i y
-            new-mate y w z = record {
+            new-mate : getD after (i + 1) 0 / 8 ≡ p + 1 → Mate F k (i + 1) i (getD after (i + 1) 0)
+            new-mate w = record {
               q = p;
               low = omega arith;
               other = λ d. absurd (omega arith);
               same = back p i same;
-              which = inl (omega arith);
+              which = inl w;
             }
 
             third : (q r : ℕ) → q < m → q < r → r < i → Same q r → Same q i → ⊥
@@ -130,7 +131,7 @@ module _ (F : ℕ → List ℕ) where
       → ThreeOf F (i + 1)
   third-three m i mates J p b same has =
       let inside = J .within in
-      let M = J .paired p (getD mates (p + 1) 0 - 1) b (omega arith) in
+      let M = J .paired p b has in
       let low = M .low in
       if-lt p (M .q)
       (λ l. record {
@@ -156,9 +157,11 @@ module _ (F : ℕ → List ℕ) where
 
   -- F i is judged: the entry e that is found has met it, and then the mates of the first k are in `after`
   module _ (m i k : ℕ) (mates mid after : List ℕ) (J : Judged F m i mates) (more : m ≤ k) (next : k ≤ i + 1) (own : m < k → m ≡ i)
-      (room : k < length after) (e mark number : ℕ) (found : Found F m (F i) e)
-      (met : Met (F (e - 1)) (F i) e mark mates mid number) (some : 0 < mark) (marked : (mark ≡ i + 1) ⊎ (k ≤ i))
-      (stays : (p : ℕ) → p < m → getD after (p + 1) 0 ≡ getD mid (p + 1) 0) (mine : i < k → getD after (i + 1) 0 ≡ e) where
+      (room : k < length after) (e mark number : ℕ) (found : Found F m (F i) e) (agree : Bool)
+      (met : Met e agree mark mates mid number) (order : 0 < e → agree ≡ sameOrder (F (e - 1)) (F i))
+      (some : 0 < mark) (marked : (mark / 8 ≡ i + 1) ⊎ (k ≤ i))
+      (stays : (p : ℕ) → p < m → getD after (p + 1) 0 ≡ getD mid (p + 1) 0)
+      (mine : i < k → (e ≡ 0 → getD after (i + 1) 0 ≡ 0) × (getD after (i + 1) 0 / 8 ≡ e)) where
     was-in : (p : ℕ) → p < k → p < i → p < m
     was-in p b l = if-lt p m (λ s. s) (λ s. absurd (omega (arith, own (omega arith))))
 
@@ -170,7 +173,7 @@ module _ (F : ℕ → List ℕ) where
           is = inl n;
           third = λ t. absurd (omega arith);
           goes = λ _. lone-goes m i k mates after J more next own room (found .none z)
-              (λ p b. stays p b ∙ ap (λ (l : List ℕ). getD l (p + 1) 0) same) (λ l. mine l ∙ z);
+              (λ p b. stays p b ∙ ap (λ (l : List ℕ). getD l (p + 1) 0) same) (λ l. mine l .0 z);
           agree = λ _ p b l h. absurd (clash h (found .none z p (was-in p b l)));
           differ = λ d. absurd (d n);
         }
@@ -212,12 +215,14 @@ module _ (F : ℕ → List ℕ) where
             rw entry (ap (λ (l : List ℕ). getD l e 0) (met .pair on free .0) ∙ getD-set-same mates e mark 0 (omega arith))
 
         goes-on : Judged F k (i + 1) after
-        goes-on = pair-goes m i k mates after J more next own room p low (found .same on) was (mark - 1)
-            (stays p low ∙ first ∙ omega arith) (⊎-elim (λ q. inl (omega arith)) inr marked)
-            (λ q b d. stays q b ∙ wrote q d) (λ l. mine l ∙ omega arith)
+        goes-on =
+            let word : getD after (p + 1) 0 ≡ mark = stays p low ∙ first in
+            pair-goes m i k mates after J more next own room p low (found .same on) was (omega arith)
+            (⊎-elim (λ q. inl (ap (λ (w : ℕ). w / 8) word ∙ q)) inr marked)
+            (λ q b d. stays q b ∙ wrote q d) (λ l. mine l .1 ∙ sym entry)
 
         number-is : number ≡ orderNumber (sameOrder (F p) (F i))
-        number-is = met .pair on free .1
+        number-is = met .pair on free .1 ∙ ap orderNumber (order on)
 
         step-pair : Stepped F k i after number
         step-pair =

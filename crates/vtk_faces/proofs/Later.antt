@@ -1,14 +1,17 @@
 -- Faces behind the block's.
--- Main theorems: `later-meetable`, `later-stepped`; `chunk-later`, `chunk-more`, `chunk-three`, `chunk-all`.
-use Prim.Native.Nat.{ℕ, _+_, _*_, _-_, _<_}
-use mathlib.Core.Path.{_≡_, refl, sym, ap, ap₂, _∙_, subst}
+-- Main theorems: `later-entry`, `later-stepped`; `chunk-later`, `chunk-more`, `chunk-three`, `chunk-all`.
+use Prim.Native.Nat.{ℕ, _+_, _*_, _-_, _/_, _≤_, _<_}
+use mathlib.Core.Path.{_≡_, refl, sym, ap₂, _∙_, subst}
 use mathlib.Core.Logic.{inr, _≢_}
 use mathlib.Core.List.{List}
 use native.Mathlib.Omega.{arith}
+use lib.ListN.{length}
+use lib.Dec.{ltb}
 use Rattle.model.specs.Faces.{sameFour, sameOrder}
-use Rattle.vtk_faces.specs.Faces.{Once, heldFace}
+use Rattle.vtk_faces.specs.Faces.{heldFace}
+use Rattle.vtk_faces.specs.Turns.{TurnOf}
 use Rattle.vtk_faces.specs.Chains.{Found}
-use Rattle.vtk_faces.specs.Judged.{State, Ran, Meetable, orderNumber, Met, Stepped}
+use Rattle.vtk_faces.specs.Judged.{State, Ran, Met, Stepped}
 use Rattle.vtk_faces.specs.Rest.{Later, Chunk}
 use Rattle.vtk_faces.proofs.Judging.{steps}
 use Rattle.vtk_faces.proofs.Blocks.{state-more, state-three, state-ran}
@@ -18,17 +21,13 @@ module _ (F : ℕ → List ℕ) (m i : ℕ) (buffer heads nexts mates r : List �
   entry-held : 0 < e → F (e - 1) ≡ heldFace buffer (e - 1)
   entry-held on = let low = found .low in L .chained .held (e - 1) (omega arith)
 
-  pub later-meetable : Meetable buffer mates r e
-  later-meetable =
+  -- the entry that is found is one
+  pub later-entry : (e < length mates) × (0 < e → 8 * ((e - 1) / 6) + 8 ≤ length buffer)
+  later-entry =
       let low = found .low in
       let long = L .judged .long in
       let fits = L .chained .fits in
-      record {
-        low = omega arith;
-        held = λ on. omega arith;
-        same = found .same;
-        once = λ on. subst Once (entry-held on) (L .chained .once (e - 1) (omega arith));
-      }
+      (omega arith, λ on. omega arith)
 
   found-here : Found F m (F i) e
   found-here = record {
@@ -37,24 +36,15 @@ module _ (F : ℕ → List ℕ) (m i : ℕ) (buffer heads nexts mates r : List �
     same = λ on. ap₂ sameFour (entry-held on) (L .this) ∙ found .same on;
   }
 
-  pub later-stepped : (after : List ℕ) (number : ℕ) → Met (heldFace buffer (e - 1)) r e 65535 mates after number → Stepped F m i after number
-  later-stepped after number met =
+  pub later-stepped : (after : List ℕ) (t number : ℕ) → (0 < e → TurnOf (heldFace buffer (e - 1)) r t)
+      → Met e (ltb t 8) 65535 mates after number → Stepped F m i after number
+  later-stepped after t number turn met =
       let inside = L .judged .within in
       let long = L .judged .long in
       let same = met .long in
       steps F m i m mates after after (L .judged) (omega arith) (omega arith) (λ b. absurd (omega arith)) (omega arith) e 65535 number
-      found-here met-here (omega arith) (inr inside) (λ p b. refl) (λ b. absurd (omega arith))
-    where
-      met-here : Met (F (e - 1)) (F i) e 65535 mates after number
-      met-here = record {
-        long = met .long;
-        alone = met .alone;
-        third = met .third;
-        pair = λ on free. (
-          met .pair on free .0,
-          met .pair on free .1 ∙ ap orderNumber (sym (ap₂ sameOrder (entry-held on) (L .this))),
-        );
-      }
+      found-here (ltb t 8) met (λ on. sym (ap₂ sameOrder (entry-held on) (L .this) ∙ turn on .order)) (omega arith) (inr inside) (λ p b. refl)
+      (λ b. absurd (omega arith))
 
 -- ---- the faces of a chunk
 

@@ -1,4 +1,6 @@
 pub mod Places
+pub mod Walks
+pub mod Turning
 pub mod Hashes
 pub mod Compared
 pub mod Held

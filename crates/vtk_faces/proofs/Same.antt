@@ -44,8 +44,8 @@ module _ (F G : ℕ → List ℕ) (n : ℕ) (same : (p : ℕ) → p < n → F p 
       }
 
   module _ (m : ℕ) (mates : List ℕ) where
-    mate-same : (p x : ℕ) → p < n → Mate F m n p x → Mate G m n p x
-    mate-same p x b M =
+    mate-same : (p word : ℕ) → p < n → Mate F m n p word → Mate G m n p word
+    mate-same p word b M =
         let low = M .low in
         record { q = M .q; low = low; other = M .other; same = sym (four p (M .q) b low) ∙ M .same; which = M .which }
 
@@ -56,7 +56,7 @@ module _ (F G : ℕ → List ℕ) (n : ℕ) (same : (p : ℕ) → p < n → F p 
           within = inside;
           long = J .long;
           alone = λ p b z q l d. sym (four p q (omega arith) l) ∙ J .alone p b z q l d;
-          paired = λ p x b z. mate-same p x (omega arith) (J .paired p x b z);
+          paired = λ p b z. mate-same p _ (omega arith) (J .paired p b z);
           no-three = λ p q r b pq qr rn two three. J .no-three p q r b pq qr rn
               (four p q (omega arith) (omega arith) ∙ two) (four p r (omega arith) rn ∙ three);
         }

@@ -1,7 +1,7 @@
 -- The cells of a text, a block at a time.
 -- Main theorems: `block-own`, `block-three`, `block-rest`; `taken-block`; `twice-here`, `twice-more`, `twice-none`.
 use Prim.Native.Nat.{ℕ, _+_, _*_, _-_, _≤_, _<_}
-use mathlib.Core.Path.{_≡_, sym, ap, _∙_, subst}
+use mathlib.Core.Path.{_≡_, sym, ap, _∙_}
 use mathlib.Core.Logic.{_≢_}
 use mathlib.Core.Bool.{true, false, not}
 use mathlib.Core.List.{List, []}
@@ -12,10 +12,9 @@ use borrow.Author.Tests.{not-true}
 use Rattle.model.specs.Faces.{repeats}
 use Rattle.model.specs.Meaning.Vtk.{Hexahedra}
 use Rattle.theorems.proofs.Lists.Scan.{test, clash, if-lt}
-use Rattle.theorems.proofs.Vtk.Other.{face-once}
 use Rattle.vtk_faces.specs.Buffers.{Held}
 use Rattle.vtk_rows.specs.Rows.{EightsRead}
-use Rattle.vtk_faces.specs.Faces.{Sited, Once, heldFace}
+use Rattle.vtk_faces.specs.Faces.{Sited, heldFace}
 use Rattle.vtk_faces.specs.Judged.{Ran}
 use Rattle.vtk_faces.specs.Blocks.{Lent, Own, Block}
 use Rattle.vtk_faces.specs.Repeats.{allOnce}
@@ -28,21 +27,16 @@ use Rattle.vtk_faces.proofs.Twice.{all-at, at-all}
 -- ---- a block and what stands behind it
 
 module _ (rows : List (List ℕ)) (d k : ℕ) (buffer text : List ℕ) (at cells : ℕ) (B : BlockAt rows d k buffer text at cells) where
-  from-once : (p : ℕ) → p < 6 * k → Once (faceFrom rows d p)
-  unfolding faceFrom
-  from-once p b = let number = B .number in face-once rows (B .hexahedra .once) (6 * d + p) (omega arith)
-
   pub block-own : (sites heads nexts mates : List ℕ) → Sited sites → Lent heads nexts mates k
       → ((h : ℕ) → h < 16384 → getD heads h 0 ≡ 0) → Own buffer sites heads nexts mates k
   block-own sites heads nexts mates sited lent clear = record {
     sited = sited;
     long = B .long;
-    once = λ p b. subst Once (sym (B .held p b)) (from-once p b);
     lent = lent;
     clear = clear;
   }
 
-  module _ (heads nexts mates : List ℕ) (number : ℕ) (K : Block (heldFace buffer) (6 * k) heads nexts mates number) where
+  module _ (heads nexts mates : List ℕ) (number : ℕ) (K : Block buffer (6 * k) heads nexts mates number) where
     own-ran : Ran (faceFrom rows d) (6 * k) (6 * k) mates number
     own-ran = ran-same (heldFace buffer) (faceFrom rows d) (6 * k) (B .held) (6 * k) mates number (K .ran)
 
@@ -57,7 +51,6 @@ module _ (rows : List (List ℕ)) (d k : ℕ) (buffer text : List ℕ) (at cells
             chains = K .chains going;
             fits = omega arith;
             held = λ p b. sym (B .held p b);
-            once = from-once;
           };
           state = own-ran .goes going;
           stand = B .stand;

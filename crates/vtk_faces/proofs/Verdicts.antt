@@ -1,23 +1,26 @@
 -- What is found of the faces by their positions is what 22 and 23 say.
--- Main theorems: `verdict-three`; `upto-none`, `upto-more`, `upto-three`, `upto-verdict`; `cells-once`, `block-verdict`.
-use Prim.Native.Nat.{ℕ, _+_, _*_, _-_, _≤_, _<_}
+-- Main theorems: `verdict-three`; `upto-none`, `upto-more`, `upto-three`, `upto-verdict`; `block-verdict`.
+use Prim.Native.Nat.{ℕ, _+_, _*_, _-_, _/_, _%_, _≤_, _<_}
 use mathlib.Core.Path.{_≡_, refl, sym, ap, ap₂, _∙_, subst}
 use mathlib.Core.Logic.{_⊎_, inl, inr, _≢_, ⊎-elim}
 use mathlib.Core.Bool.{Bool, true, false}
 use mathlib.Core.List.{List}
 use native.Mathlib.Omega.{arith}
-use lib.ListN.{length}
-use Rattle.model.specs.Faces.{sameFour, sameOrder}
+use lib.ListN.{length, getD}
+use Rattle.model.specs.Faces.{round, sameFour, sameOrder, roundAt}
 use Rattle.model.specs.Checks.{pass, refuse, must, sharingOk, orderOk}
 use Rattle.model.specs.Meaning.Vtk.{faceAt, Three, OtherOrder, Hexahedra}
 use Rattle.theorems.proofs.Lists.Scan.{clash, if-eq, if-lt}
 use Rattle.theorems.proofs.Vtk.Three.{passes-three, three-passes}
-use Rattle.theorems.proofs.Vtk.Other.{passes-other, other-passes, face-once}
-use Rattle.vtk_faces.specs.Buffers.{Mated}
-use Rattle.vtk_faces.specs.Faces.{Once, heldFace}
+use Rattle.theorems.proofs.Vtk.Other.{passes-other, other-passes}
+use Rattle.vtk_faces.specs.Buffers.{MateAt, Mated}
+use Rattle.vtk_faces.specs.Faces.{heldRow, heldFace}
+use Rattle.vtk_faces.specs.Walks.{walkAt, walkDart}
+use Rattle.vtk_faces.specs.Turns.{heldRound}
 use Rattle.vtk_faces.specs.Judged.{Mate, State, Ran}
 use Rattle.vtk_faces.specs.Blocks.{CellsIn, Verdict, JudgedCells, Block}
 use Rattle.vtk_faces.specs.Texts.{faceFrom}
+use Rattle.vtk_faces.proofs.Walks.{dart-cell, dart-place}
 use Rattle.vtk_faces.proofs.Held.{held-face}
 use Rattle.vtk_faces.proofs.Same.{ran-same}
 
@@ -41,7 +44,7 @@ module _ (rows : List (List ℕ)) (H : Hexahedra rows) where
     verdict-pass : (OtherOrder rows → ⊥) → Verdict rows 0
     verdict-pass n = record {
       is = inl refl;
-      passes = λ _. (three-passes rows (H .once) none, other-passes rows (H .once) n);
+      passes = λ _. (three-passes rows (H .once) none, other-passes rows n);
       three = λ e. absurd (omega arith);
       other = λ e. absurd (omega arith);
     }
@@ -169,10 +172,12 @@ module _ (buffer : List ℕ) (cells : ℕ) (rows : List (List ℕ)) (C : CellsIn
   at : (p : ℕ) → p < n → heldFace buffer p ≡ faceAt rows p
   at p l = let e = C .number in held-face buffer rows (C .held) p (omega arith)
 
-  pub cells-once : (p : ℕ) → p < n → Once (heldFace buffer p)
-  cells-once p l = let e = C .number in subst Once (sym (at p l)) (face-once rows (C .hexahedra .once) p (omega arith))
+  -- and what is read there is read from the darts of the cells
+  held-round : (x : ℕ) → x < 48 * length rows → heldRound buffer x ≡ roundAt rows (walkDart x)
+  unfolding heldRound heldRow roundAt
+  held-round x low = rw (dart-cell x, dart-place x) (ap (λ (row : List ℕ). round row (walkAt (x % 48))) (C .held .row (x / 48) (omega arith)))
 
-  module _ (heads nexts mates : List ℕ) (number : ℕ) (B : Block (heldFace buffer) n heads nexts mates number) where
+  module _ (heads nexts mates : List ℕ) (number : ℕ) (B : Block buffer n heads nexts mates number) where
     ran-at : Ran (faceAt rows) n n mates number
     ran-at = ran-same (heldFace buffer) (faceAt rows) n at n mates number (B .ran)
 
@@ -197,16 +202,27 @@ module _ (buffer : List ℕ) (cells : ℕ) (rows : List (List ℕ)) (C : CellsIn
         record {
           long = omega arith;
           alone = λ p l z q k d. J .alone p (omega arith) z q (omega arith) d;
-          two = λ p x l z. mate p x (J .paired p x (omega arith) z);
+          two = λ p l d. mate p (omega arith) (J .paired p (omega arith) (omega arith));
         }
       where
-        mate : (p x : ℕ) → Mate (faceAt rows) n n p x
-            → (x < 6 * length rows) × (x ≢ p) × (sameFour (faceAt rows p) (faceAt rows x) ≡ true)
-        mate p x M =
+        mate : (p : ℕ) → p < n → Mate (faceAt rows) n n p (getD mates (p + 1) 0)
+            → (x : ℕ) × (getD mates (p + 1) 0 ≡ x + 8) × MateAt rows p x
+        mate p l M =
             let e = C .number in
             let low = M .low in
-            let same = M .same in
-            ⊎-elim (λ q. (omega arith, λ d. M .other (q ∙ d), rw q at same)) (λ q. absurd (omega arith)) (M .which)
+            ⊎-elim (λ q.
+            let x = getD mates (p + 1) 0 - 8 in
+            let word : getD mates (p + 1) 0 ≡ x + 8 = omega arith in
+            let face : x / 8 ≡ M .q = omega arith in (
+              x,
+              word,
+              record {
+                low = omega arith;
+                other = λ d. M .other (sym face ∙ d);
+                four = rw face (M .same);
+                same = sym (held-round x (omega arith)) ∙ sym (B .turned z p x l word) ∙ at p l;
+              },
+            )) (λ q. absurd (omega arith)) (M .which)
 
     pub block-verdict : JudgedCells rows mates number
     block-verdict = record { verdict = verdict; mated = mated }

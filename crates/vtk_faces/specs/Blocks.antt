@@ -8,7 +8,8 @@ use lib.ListN.{length, getD}
 use Rattle.model.specs.Checks.{pass, refuse, sharingOk, orderOk}
 use Rattle.model.specs.Meaning.Vtk.{Hexahedra}
 use Rattle.vtk_faces.specs.Buffers.{Held, Mated}
-use Rattle.vtk_faces.specs.Faces.{Sited, Once, heldFace}
+use Rattle.vtk_faces.specs.Faces.{Sited, heldFace}
+use Rattle.vtk_faces.specs.Turns.{Turned}
 use Rattle.vtk_faces.specs.Chains.{Chains}
 use Rattle.vtk_faces.specs.Judged.{Ran, Number}
 
@@ -47,11 +48,11 @@ pub record JudgedCells (rows : List (List ℕ)) (mates : List ℕ) (number : ℕ
 pub record Own (buffer sites heads nexts mates : List ℕ) (cells : ℕ) : Type 0 where
   pub sited : Sited sites
   pub long : 8 * cells ≤ length buffer
-  pub once : (p : ℕ) → p < 6 * cells → Once (heldFace buffer p)
   pub lent : Lent heads nexts mates cells
   pub clear : (h : ℕ) → h < 16384 → getD heads h 0 ≡ 0
 
 -- after the last of n faces, or the third with the same four vertices
-pub record Block (F : ℕ → List ℕ) (n : ℕ) (heads nexts mates : List ℕ) (number : ℕ) : Type 0 where
-  pub ran : Ran F n n mates number
-  pub chains : number ≢ 22 → Chains F n heads nexts
+pub record Block (buffer : List ℕ) (n : ℕ) (heads nexts mates : List ℕ) (number : ℕ) : Type 0 where
+  pub ran : Ran (heldFace buffer) n n mates number
+  pub chains : number ≢ 22 → Chains (heldFace buffer) n heads nexts
+  pub turned : number ≡ 0 → Turned buffer n mates

@@ -18,10 +18,6 @@ siteAt j = getD (sites (getD faceDarts (j / 4) 0)) (j % 4) 0
 abbrev pub Sited : List ℕ → Type 0
 Sited s = (j : ℕ) → j < 24 → getD s j 0 ≡ siteAt j
 
--- four numbers, of which none stands twice
-abbrev pub Once : List ℕ → Type 0
-Once r = (i j : ℕ) → i < 4 → j < 4 → getD r i 0 ≡ getD r j 0 → i ≡ j
-
 -- the row of the cell c in the buffer, eight words to a cell
 unfoldable pub heldRow : List ℕ → ℕ → List ℕ
 heldRow buffer c = take 8 (drop (8 * c) buffer)

@@ -1,13 +1,14 @@
 -- What is known of the faces F 0, .., F (i - 1), of which the first m are in chains and have mates.
 -- Main definitions: `Judged` (no three of them have the same four vertices), `Ordered` (two that have, have them in the same order).
-use Prim.Native.Nat.{ℕ, suc, _+_, _*_, _-_, _/_, _≤_, _<_}
+use Prim.Native.Nat.{ℕ, _+_, _*_, _-_, _/_, _≤_, _<_}
 use mathlib.Core.Path.{_≡_}
 use mathlib.Core.Logic.{_⊎_, _≢_}
 use mathlib.Core.Bool.{Bool, true, false}
 use mathlib.Core.List.{List}
 use lib.ListN.{length, getD, set}
 use Rattle.model.specs.Faces.{sameFour, sameOrder}
-use Rattle.vtk_faces.specs.Faces.{Sited, Once, heldFace}
+use Rattle.vtk_faces.specs.Faces.{Sited, heldFace}
+use Rattle.vtk_faces.specs.Turns.{Turned}
 use Rattle.vtk_faces.specs.Chains.{Chains}
 
 -- three of the first n faces have the same four vertices
@@ -30,19 +31,19 @@ pub record OtherOf (F : ℕ → List ℕ) (n : ℕ) : Type 0 where
   pub four : sameFour (F i) (F j) ≡ true
   pub order : sameOrder (F i) (F j) ≡ false
 
--- another of the first i faces has the same four vertices as F p: F x, or one behind the first m
-pub record Mate (F : ℕ → List ℕ) (m i p x : ℕ) : Type 0 where
+-- another of the first i faces has the same four vertices as F p: the one that the word tells, or one behind the first m
+pub record Mate (F : ℕ → List ℕ) (m i p word : ℕ) : Type 0 where
   pub q : ℕ
   pub low : q < i
   pub other : q ≢ p
   pub same : sameFour (F p) (F q) ≡ true
-  pub which : (q ≡ x) ⊎ (m ≤ q)
+  pub which : (word / 8 ≡ q + 1) ⊎ (m ≤ q)
 
 pub record Judged (F : ℕ → List ℕ) (m i : ℕ) (mates : List ℕ) : Type 0 where
   pub within : m ≤ i
   pub long : m < length mates
   pub alone : (p : ℕ) → p < m → getD mates (p + 1) 0 ≡ 0 → (q : ℕ) → q < i → q ≢ p → sameFour (F p) (F q) ≡ false
-  pub paired : (p x : ℕ) → p < m → getD mates (p + 1) 0 ≡ suc x → Mate F m i p x
+  pub paired : (p : ℕ) → p < m → 0 < getD mates (p + 1) 0 → Mate F m i p (getD mates (p + 1) 0)
   pub no-three : (p q r : ℕ) → p < m → p < q → q < r → r < i
       → sameFour (F p) (F q) ≡ true → sameFour (F p) (F r) ≡ true → ⊥
 
@@ -68,20 +69,13 @@ pub record Ran (F : ℕ → List ℕ) (m n : ℕ) (mates : List ℕ) (number : �
 abbrev pub orderNumber : Bool → ℕ
 orderNumber b = elim b [ true ↦ 0 | false ↦ 23 ]
 
--- for a face r that is met by the entry e
-pub record Meetable (rows mates r : List ℕ) (e : ℕ) : Type 0 where
-  pub low : e < length mates
-  pub held : 0 < e → 8 * ((e - 1) / 6) + 8 ≤ length rows
-  pub same : 0 < e → sameFour (heldFace rows (e - 1)) r ≡ true
-  pub once : 0 < e → Once (heldFace rows (e - 1))
-
--- the entry e, of the face f, meets r: it gets the mate `mark`, unless it has one
-pub record Met (f r : List ℕ) (e mark : ℕ) (before mates : List ℕ) (number : ℕ) : Type 0 where
+-- the entry e meets a face: it gets the word `mark`, unless it has one; `agree` tells whether the orders are the same
+pub record Met (e : ℕ) (agree : Bool) (mark : ℕ) (before mates : List ℕ) (number : ℕ) : Type 0 where
   pub long : length mates ≡ length before
   pub alone : e ≡ 0 → (number ≡ 0) × (mates ≡ before)
   pub third : 0 < e → 0 < getD before e 0 → number ≡ 22
   pub pair : 0 < e → getD before e 0 ≡ 0
-      → (mates ≡ set before e mark) × (number ≡ orderNumber (sameOrder f r))
+      → (mates ≡ set before e mark) × (number ≡ orderNumber agree)
 
 -- what a function that judges gives
 abbrev pub Number : ℕ → Type 0
@@ -100,13 +94,13 @@ pub record Going (rows sites heads nexts mates : List ℕ) (i : ℕ) : Type 0 wh
   pub sited : Sited sites
   pub fits : i < 6 * (length rows / 8)
   pub few : i < 8190
-  pub once : (p : ℕ) → p < i + 1 → Once (heldFace rows p)
   pub chains : Chains (heldFace rows) i heads nexts
   pub judged : Judged (heldFace rows) i i mates
   pub nexts-room : i + 1 < length nexts
   pub mates-room : i + 1 < length mates
 
 -- and where it is in too
-pub record Gone (rows heads nexts mates : List ℕ) (i number : ℕ) : Type 0 where
+pub record Gone (rows before heads nexts mates : List ℕ) (i number : ℕ) : Type 0 where
   pub chains : Chains (heldFace rows) (i + 1) heads nexts
+  pub turned : number ≡ 0 → Turned rows i before → Turned rows (i + 1) mates
   pub stepped : Stepped (heldFace rows) (i + 1) i mates number

@@ -1,4 +1,6 @@
 pub mod Faces
+pub mod Walks
+pub mod Turns
 pub mod Buffers
 pub mod Hashes
 pub mod Chains

@@ -4,7 +4,7 @@ use Prim.Native.Nat.{ℕ, _+_, _*_, _/_, _≤_, _<_}
 use mathlib.Core.Path.{_≡_}
 use mathlib.Core.List.{List}
 use lib.ListN.{length}
-use Rattle.vtk_faces.specs.Faces.{Once, heldFace}
+use Rattle.vtk_faces.specs.Faces.{heldFace}
 use Rattle.vtk_faces.specs.Chains.{Chains}
 use Rattle.vtk_faces.specs.Judged.{Judged, State}
 
@@ -13,7 +13,6 @@ pub record InChains (F : ℕ → List ℕ) (m : ℕ) (buffer heads nexts : List 
   pub chains : Chains (heldFace buffer) m heads nexts
   pub fits : m ≤ 6 * (length buffer / 8)
   pub held : (p : ℕ) → p < m → F p ≡ heldFace buffer p
-  pub once : (p : ℕ) → p < m → Once (F p)
 
 -- ---- one face
 

@@ -1,17 +1,19 @@
-// The cells of a text, in a buffer or block by block: the checks 21, 22 and 23, and for each face the one that has the same four vertices.
+// The cells of a text, in a buffer or block by block: the checks 21, 22 and 23, and for each face the dart that its first one is sewn to.
 ghost use mathlib.Core.Path.{_≡_};
 ghost use mathlib.Core.Logic.{_≢_};
-ghost use mathlib.Core.Bool.{true, not};
-ghost use mathlib.Core.List.{List};
+ghost use mathlib.Core.Bool.{not};
+ghost use mathlib.Core.List.{List, [], _∷_};
 ghost use Prim.Native.Nat.{ℕ, _+_, _*_, _-_, _/_, _≤_, _<_, min, max};
 ghost use lib.ListN.{length, getD, drop};
-ghost use Rattle.model.specs.Lists.{allOf};
-ghost use Rattle.model.specs.Faces.{listedAt, onward, faceDarts, among, sameFour, sameOrder, repeats};
+ghost use lib.Dec.{ltb};
+ghost use Rattle.model.specs.Lists.{allOf, equal};
+ghost use Rattle.model.specs.Faces.{listedAt, onward, faceDarts, among, sameFour, repeats};
 ghost use Rattle.vtk_faces.specs.Buffers.{Held};
-ghost use Rattle.vtk_faces.specs.Faces.{four, siteAt, Sited, Once, heldRow, heldFace};
+ghost use Rattle.vtk_faces.specs.Faces.{four, siteAt, Sited, heldRow, heldFace};
+ghost use Rattle.vtk_faces.specs.Turns.{turnBack, TurnOf};
 ghost use Rattle.vtk_faces.specs.Hashes.{mixed, hashOf};
 ghost use Rattle.vtk_faces.specs.Chains.{Chains, SomeChains, Found};
-ghost use Rattle.vtk_faces.specs.Judged.{Ran, Meetable, Met, Stepped, Going, Gone};
+ghost use Rattle.vtk_faces.specs.Judged.{Ran, Met, Stepped, Going, Gone};
 ghost use Rattle.vtk_faces.specs.Blocks.{CellsIn, SomeCells, Lent, Verdict, JudgedCells, Own, Block};
 ghost use Rattle.vtk_faces.specs.Repeats.{allOnce};
 ghost use Rattle.vtk_faces.specs.Rest.{Later, SomeLater, Chunk, SomeChunk};
@@ -20,11 +22,11 @@ use numbering::cell_link;
 use vtk_rows::read_rows;
 
 // The four vertices of a face, in their order round it.
-pub struct Face {
-    pub a: u64,
-    pub b: u64,
-    pub c: u64,
-    pub d: u64,
+struct Face {
+    a: u64,
+    b: u64,
+    c: u64,
+    d: u64,
 }
 
 // ---- where the vertices of a face are listed
@@ -68,7 +70,7 @@ fn site(j: u32) -> u32
 }
 
 // The same for all six faces.
-pub fn sites() -> [u8; 24]
+fn sites() -> [u8; 24]
     ensures { λ r. ⌜ Sited r ⌝ }
 {
     let mut sites = [0u8; 24];
@@ -89,7 +91,7 @@ fn vertex(rows: &[u64], sites: &[u8; 24], row: usize, j: usize) -> u64
 }
 
 // The face at the position p.
-pub fn face_at(rows: &[u64], sites: &[u8; 24], p: usize) -> Face
+fn face_at(rows: &[u64], sites: &[u8; 24], p: usize) -> Face
     requires { ⌜ (Sited (now sites)) × (8 * (p / 6) + 8 ≤ length (now rows)) ⌝ }
     ensures { λ r. ⌜ four r ≡ heldFace (now (rows .entry)) p ⌝ }
 {
@@ -133,21 +135,49 @@ fn same_four(r: Face, s: Face) -> bool
     has_all(r, s)
 }
 
-// Whether r and s have them in the same cyclic order: the first of r has the same opposite in both.
-fn same_order(r: Face, s: Face) -> bool
-    requires { ⌜ (sameFour (four r) (four s) ≡ true) × (Once (four r)) ⌝ }
-    ensures { λ b. ⌜ b ≡ sameOrder (four r) (four s) ⌝ }
+// ---- faces turned against each other
+
+// Whether these four are the vertices of a face, in its order.
+fn reads_as(a: u64, b: u64, c: u64, d: u64, want: Face) -> bool
+    ensures { λ r. ⌜ r ≡ equal (a ∷ b ∷ c ∷ d ∷ []) (four want) ⌝ }
 {
-    if r.a == s.a {
-        return s.c == r.c;
+    (a == want.a) & (b == want.b) & (c == want.c) & (d == want.d)
+}
+
+// How `want` is turned against `seen`: of the eight darts of `seen`, by links 0, 1, 0, .. from its first, the one from which `want` is read;
+// 8 if there is none, as the orders differ.
+fn turn_of(seen: Face, want: Face) -> u16
+    ensures { λ r. ⌜ TurnOf (four seen) (four want) r ⌝ }
+{
+    let mut a = seen.a;
+    let mut b = seen.b;
+    let mut c = seen.c;
+    let mut d = seen.d;
+    for turn in 0..4u16 {
+        if reads_as(a, b, c, d, want) {
+            return 2 * turn;
+        }
+        if reads_as(b, a, d, c, want) {
+            return 2 * turn + 1;
+        }
+        let passed = a;
+        a = b;
+        b = c;
+        c = d;
+        d = passed;
     }
-    if r.a == s.b {
-        return s.d == r.c;
+    8
+}
+
+// How `seen` is turned against `want`, then.
+fn turn_back(j: u16) -> u16
+    requires { ⌜ j ≤ 8 ⌝ }
+    ensures { λ r. ⌜ (r ≡ turnBack j) × (r < 8) ⌝ }
+{
+    if j % 2 == 0 {
+        return (8 - j) % 8;
     }
-    if r.a == s.c {
-        return s.a == r.c;
-    }
-    s.b == r.c
+    j
 }
 
 // ---- the hash of a face: of its least and greatest vertex, so it is one for the same four
@@ -199,11 +229,22 @@ fn find(rows: &[u64], sites: &[u8; 24], heads: &[u16], nexts: &[u16], r: Face, h
 
 // ---- mates
 
-// The face of the entry e meets r, with the same four vertices, and `mark` is its mate now. 22 if it has one already, 23 if the order
-// differs, else 0, as where e is 0.
-fn meet(rows: &[u64], sites: &[u8; 24], mates: &mut [u16], r: Face, e: usize, mark: u16) -> u32
-    requires { ⌜ (Sited (now sites)) × (Meetable (now rows) (now mates) (four r) e) ⌝ }
-    ensures { λ number. ⌜ Met (heldFace (now (rows .entry)) (e - 1)) (four r) e mark (now (mates .entry)) (now (mates .exit)) number ⌝ }
+// How r is turned against the face of the entry e; 0 where e is 0.
+fn turn_at(rows: &[u64], sites: &[u8; 24], r: Face, e: usize) -> u16
+    requires { ⌜ (Sited (now sites)) × (0 < e → 8 * ((e - 1) / 6) + 8 ≤ length (now rows)) ⌝ }
+    ensures { λ t. ⌜ (e ≡ 0 → t ≡ 0) × (0 < e → TurnOf (heldFace (now (rows .entry)) (e - 1)) (four r) t) ⌝ }
+{
+    if e == 0 {
+        return 0;
+    }
+    turn_of(face_at(rows, sites, e - 1), r)
+}
+
+// The face of the entry e meets another with the same four vertices, which is turned so against it, and its word is `mark` now. 22 if it has
+// one already, 23 if the orders differ, else 0, as where e is 0.
+fn meet(mates: &mut [u16], e: usize, turn: u16, mark: u16) -> u32
+    requires { ⌜ e < length (now mates) ⌝ }
+    ensures { λ number. ⌜ Met e (ltb turn 8) mark (now (mates .entry)) (now (mates .exit)) number ⌝ }
 {
     if e == 0 {
         return 0;
@@ -212,11 +253,7 @@ fn meet(rows: &[u64], sites: &[u8; 24], mates: &mut [u16], r: Face, e: usize, ma
         return 22;
     }
     mates[e] = mark;
-    if same_order(face_at(rows, sites, e - 1), r) {
-        0
-    } else {
-        23
-    }
+    if turn < 8 { 0 } else { 23 }
 }
 
 // The face at the position i of the buffer meets one before it with the same four vertices, and is put into the chains.
@@ -229,16 +266,17 @@ fn own_face(
     i: usize,
 ) -> u32
     requires { ⌜ Going (now rows) (now sites) (now heads) (now nexts) (now mates) i ⌝ }
-    ensures { λ number. ⌜ Gone (now (rows .entry)) (now (heads .exit)) (now (nexts .exit)) (now (mates .exit)) i number ⌝ }
+    ensures { λ number. ⌜ Gone (now (rows .entry)) (now (mates .entry)) (now (heads .exit)) (now (nexts .exit)) (now (mates .exit)) i number ⌝ }
 {
     let r = face_at(rows, sites, i);
     let h = hash(r);
     let e = find(rows, sites, heads, nexts, r, h);
+    let turn = turn_at(rows, sites, r, e);
     let entry = (i + 1) as u16;
-    let number = meet(rows, sites, mates, r, e, entry);
+    let number = meet(mates, e, turn, 8 * entry + turn_back(turn));
     nexts[i + 1] = heads[h];
     heads[h] = entry;
-    mates[i + 1] = e as u16;
+    mates[i + 1] = 8 * e as u16 + turn % 8;
     number
 }
 
@@ -271,8 +309,7 @@ fn own_faces(
     cells: usize,
 ) -> u32
     requires { ⌜ Own (now rows) (now sites) (now heads) (now nexts) (now mates) cells ⌝ }
-    ensures { λ number. ⌜ Block (heldFace (now (rows .entry))) (6 * cells) (now (heads .exit)) (now (nexts .exit)) (now (mates .exit))
-        number ⌝ }
+    ensures { λ number. ⌜ Block (now (rows .entry)) (6 * cells) (now (heads .exit)) (now (nexts .exit)) (now (mates .exit)) number ⌝ }
 {
     let mut other = 0;
     for i in 0..6 * cells {
@@ -365,7 +402,8 @@ fn later_face(
 {
     let h = hash(r);
     let e = find(rows, sites, heads, nexts, r, h);
-    meet(rows, sites, mates, r, e, 65_535)
+    let turn = turn_at(rows, sites, r, e);
+    meet(mates, e, turn, 65_535)
 }
 
 // The faces of the cells in `chunk`, one after the other, where `before` is what was found of the orders before them.

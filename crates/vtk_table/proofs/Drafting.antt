@@ -48,8 +48,8 @@ module _ {t u thirds : List ℕ} {c : ℕ} (new : NewCell t u thirds c) where
 
 -- ---- all cells
 
-module _ {t : List ℕ} {rows : List (List ℕ)} {buffer mates : List ℕ} {cells : ℕ} {j : List ℕ}
-    (N : NewCells t rows buffer mates cells j)
+module _ {t : List ℕ} {rows : List (List ℕ)} {mates : List ℕ} {cells : ℕ} {j : List ℕ}
+    (N : NewCells t rows mates cells j)
   where
     readable : Readable t rows
     readable = N .are .readable

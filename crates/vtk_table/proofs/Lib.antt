@@ -1,5 +1,4 @@
 pub mod Places
-pub mod Seeking
 pub mod Partners
 pub mod Words
 pub mod Placing

@@ -1,4 +1,4 @@
--- The partners of a cell's darts: of the first dart of a face by its mate (`free-face`, `shared-face`), of the seven others by walking
+-- The partners of a cell's darts: of the first dart of a face by its mate (`free-face`, `sewn-face`), of the seven others by walking
 -- both faces in step (`partner-walks`).
 use Prim.Native.Nat.{ℕ, zero, suc, _+_, _*_, _/_, _%_, _<_}
 use mathlib.Core.Path.{_≡_, sym, ap, _∙_}
@@ -11,14 +11,15 @@ use lib.Seq.{getD-set-same, getD-set-other}
 use Rattle.model.specs.Faces.{round, faceDarts, sameFour, darts, roundAt, ownLink, partner}
 use Rattle.model.specs.Meaning.Vtk.{faceAt, Meets}
 use Rattle.theorems.proofs.Lists.Scan.{clash, if-eq, if-lt}
-use Rattle.theorems.proofs.Vtk.Faces.{faceOf, face-low, face-four, four-back, four-on}
+use Rattle.theorems.proofs.Vtk.Faces.{faceOf, face-low, face-four, four-back}
 use Rattle.theorems.proofs.Vtk.Table.{Partner, sewn, free, own-at, partner-is, partner-exactly, partner-own}
-use Rattle.theorems.proofs.Vtk.Order.{shared-sewn}
-use Rattle.theorems.proofs.Vtk.Three.{face-apart, face-in, cells-apart}
-use Rattle.vtk_table.specs.Cells.{faceWalk, Sews, firstDart, Cells}
-use Rattle.vtk_table.proofs.Places.{first-low, walk-low, stepsTo, steps-low, steps-lead}
+use Rattle.theorems.proofs.Vtk.Three.{cells-apart}
+use Rattle.vtk_faces.specs.Walks.{faceWalk, walkDart}
+use Rattle.vtk_faces.specs.Buffers.{MateAt}
+use Rattle.vtk_faces.proofs.Walks.{first-low, walk-low, dart-cell}
+use Rattle.vtk_table.specs.Cells.{Sews, firstDart, Cells}
 
-module _ {t : List ℕ} {rows : List (List ℕ)} {buffer mates : List ℕ} (C : Cells t rows buffer mates) where
+module _ {t : List ℕ} {rows : List (List ℕ)} {mates : List ℕ} (C : Cells t rows mates) where
   round-at : (c k : ℕ) → k < 48 → roundAt rows (48 * c + k) ≡ round (getD rows c []) k
   unfolding roundAt
   round-at c k low =
@@ -54,7 +55,7 @@ module _ {t : List ℕ} {rows : List (List ℕ)} {buffer mates : List ℕ} (C : 
 
   module _ (p : ℕ) (low : p / 6 < length rows) where
     -- a dart that meets the first has a face with its four vertices
-    meets-four : (e : ℕ) → Meets rows (firstDart p) e → sameFour (faceAt rows (p)) (faceAt rows (faceOfDart e)) ≡ true
+    meets-four : (e : ℕ) → Meets rows (firstDart p) e → sameFour (faceAt rows p) (faceAt rows (faceOfDart e)) ≡ true
     meets-four e m = four-back _ _ (rw (sym (m .same) ∙ dart-round p low) at (dart-four e))
 
     -- that face stands at another position
@@ -74,64 +75,33 @@ module _ {t : List ℕ} {rows : List (List ℕ)} {buffer mates : List ℕ} (C : 
         by (free p _) = p
         by (sewn m) =
             let (inside, other) = meets-position _ m in
-            absurd (clash (meets-four _ m) (C .mated .alone (p) (position p low) none _ inside other))
+            absurd (clash (meets-four _ m) (C .mated .alone p (position p low) none _ inside other))
 
-    module _ (q : ℕ) (mate : getD mates (p + 1) 0 ≡ suc q) where
-      mates-two : (q < 6 * length rows) × (q ≢ p) × (sameFour (faceAt rows (p)) (faceAt rows q) ≡ true)
-      mates-two = C .mated .two (p) q (position p low) mate
-
-      pub mate-low : q / 6 < length rows
-      mate-low = let inside = mates-two .0 in omega arith
-
-      mate-apart : p / 6 ≢ q / 6
+    -- another has it: the dart that meets the first is of another cell
+    module _ {x : ℕ} (mate : MateAt rows p x) where
+      mate-apart : p / 6 ≢ x / 48
       mate-apart e =
-          let (inside, other, four) = mates-two in
+          let inside : x / 8 < 6 * length rows = omega arith in
+          let other = mate .other in
           let once = C .readable .cells .once in
-          if-lt (p) q
-          (λ l. cells-apart rows once (p) q l inside four (omega arith))
-          (λ l. cells-apart rows once q (p) (omega arith) (position p low) (four-back _ _ four) (omega arith))
+          if-lt p (x / 8)
+          (λ l. cells-apart rows once p (x / 8) l inside (mate .four) (omega arith))
+          (λ l. cells-apart rows once (x / 8) p (omega arith) (position p low) (four-back _ _ (mate .four)) (omega arith))
 
-      dart-apart : firstDart p / 48 ≢ q / 6
+      dart-apart : firstDart p / 48 ≢ walkDart x / 48
       unfolding firstDart
-      dart-apart e = let first = first-low (p % 6) (omega arith) in mate-apart (omega arith)
+      dart-apart e =
+          let first = first-low (p % 6) (omega arith) in
+          let cell = dart-cell x in
+          mate-apart (omega arith)
 
-      -- one of the eight darts of that face has its round
-      abbrev HasRound : Type 0
-      HasRound = (i : ℕ) × (i < 8)
-          × (round (getD rows (q / 6) []) (faceWalk i (getD faceDarts (q % 6) 0)) ≡ faceAt rows p)
-
-      has-round : (e : ℕ) → e / 48 ≡ q / 6 → Meets rows (firstDart p) e → HasRound
-      unfolding roundAt faceAt
-      has-round e cell m =
-          let (inside, other, four) = mates-two in
-          let own = dart-round p low in
-          let row = getD rows (q / 6) [] in
-          let k = e % 48 in
-          let h : k < 48 = omega arith in
-          let same : round row k ≡ roundAt rows (firstDart p) = ap (λ (x : ℕ). round (getD rows x []) k) (sym cell) ∙ sym (m .same) in
-          let face-is : faceOf k ≡ q % 6
-          = face-apart row (λ i j. C .readable .cells .once (q / 6) i j mate-low) (faceOf k) (q % 6) (face-low k h) (omega arith)
-          (four-on _ _ _ (face-four row k h) (rw (same ∙ own) four)) in
-          let lead : faceWalk (stepsTo k) (getD faceDarts (q % 6) 0) ≡ k
-          = ap (λ (g : ℕ). faceWalk (stepsTo k) (getD faceDarts g 0)) (sym face-is) ∙ steps-lead k h in
-          (stepsTo k, steps-low k h, ap (round row) lead ∙ same ∙ own)
-
-      pub shared-face : HasRound
-      shared-face =
-          let (inside, other, four) = mates-two in
-          let (e, cell, m) = shared-sewn rows (C .order) (firstDart p) (q / 6) (faceAt rows q) (dart-low p low) mate-low dart-apart
-          (face-in rows q inside) (rw (dart-round p low) four) in
-          has-round e cell m
-
-      -- a dart of that cell with its round is its partner
-      pub sewn-face : (k : ℕ) → k < 48 → round (getD rows (q / 6) []) k ≡ faceAt rows p
-          → partner rows (firstDart p) ≡ 48 * (q / 6) + k
+      pub sewn-face : partner rows (firstDart p) ≡ walkDart x
       unfolding darts
-      sewn-face k h same = partner-exactly (C .readable) (firstDart p) (48 * (q / 6) + k) (dart-low p low) (record {
+      sewn-face = partner-exactly (C .readable) (firstDart p) (walkDart x) (dart-low p low) (record {
         low = dart-low p low;
-        low-other = let inside = mate-low in omega arith;
-        apart = λ e. dart-apart (omega arith);
-        same = dart-round p low ∙ sym same ∙ sym (round-at (q / 6) k h);
+        low-other = let cell = dart-cell x in omega arith;
+        apart = dart-apart;
+        same = dart-round p low ∙ sym (mate .same);
       })
 
   -- ---- both faces in step

@@ -1,5 +1,5 @@
--- The numbering of a cell, as the code works it out: the first darts of its faces, and the walks round them.
-use Prim.Native.Nat.{ℕ, zero, suc, _+_, _*_, _-_, _/_, _%_, _<_}
+-- The numbering of a cell, as the code works it out: the walks round its faces, and the steps from each of their places.
+use Prim.Native.Nat.{ℕ, suc, _+_, _*_, _-_, _/_, _%_, _<_}
 use mathlib.Core.Path.{_≡_, refl, sym, _∙_}
 use mathlib.Core.Logic.{_≢_}
 use mathlib.Core.Bool.{true}
@@ -8,23 +8,18 @@ use native.Mathlib.Omega.{arith}
 use lib.ListN.{length, getD, set}
 use lib.Seq.{getD-set-same, getD-set-other}
 use lib.Dec.{eqb, ltb}
-use borrow.Author.Tests.{eqb-true, ne-eqb, ltb-true}
+use borrow.Author.Tests.{eqb-true, ltb-true}
 use Rattle.model.specs.Lists.{least, allBelow, anyOf}
 use Rattle.model.specs.Everything.{everything}
+use Rattle.model.specs.Numbering.{cellLink}
 use Rattle.model.specs.Faces.{listedAt, onward, sites, faceDarts, among, sameFour}
 use Rattle.theorems.proofs.Lists.Scan.{if-eq, below-at, least-is}
-use Rattle.theorems.proofs.Vtk.Sites.{link-low}
 use Rattle.theorems.proofs.Vtk.Faces.{faceOf}
-use Rattle.vtk_table.specs.Cells.{faceWalk, walkAt, walkDart, besideAt, firstDart}
+use Rattle.vtk_faces.specs.Walks.{faceWalk, walkAt, walkDart}
+use Rattle.vtk_faces.proofs.Walks.{walk-low, place-low, walk-dart}
+use Rattle.vtk_table.specs.Cells.{stepAt, firstDart}
 
--- ---- the first dart of a face
-
-firsts-true : allBelow 6 (λ f. ltb (getD faceDarts f 0) 48) ≡ true
-unfolding everything faceDarts
-firsts-true = refl
-
-pub first-low : (f : ℕ) → f < 6 → getD faceDarts f 0 < 48
-first-low f low = ltb-true _ _ (below-at (λ f. ltb (getD faceDarts f 0) 48) 6 firsts-true f low)
+-- ---- round a face
 
 pub first-dart : (c f : ℕ) → f < 6 → firstDart (6 * c + f) ≡ 48 * c + getD faceDarts f 0
 unfolding firstDart
@@ -33,12 +28,9 @@ first-dart c f low =
     let face : (6 * c + f) % 6 ≡ f = omega arith in
     rw (cell, face)
 
--- ---- round a face
-
-pub walk-low : (i k : ℕ) → k < 48 → faceWalk i k < 48
-unfolding faceWalk
-walk-low zero k h = h
-walk-low (suc i) k h = link-low (i % 2) (faceWalk i k) (omega arith) (walk-low i k h)
+pub walk-first : (p : ℕ) → walkDart (8 * p) ≡ firstDart p
+unfolding firstDart faceWalk
+walk-first p = let none : 8 * p ≡ 8 * p + 0 = omega arith in rw none (walk-dart p 0 (omega arith))
 
 -- how many steps lead to the dart k from the first of its face
 unfoldable pub stepsTo : ℕ → ℕ
@@ -56,71 +48,51 @@ module _ (k : ℕ) (low : k < 48) where
   unfolding stepsTo
   steps-lead = eqb-true _ _ (least-is (λ i. eqb (faceWalk i (getD faceDarts (faceOf k) 0)) k) 8 .passes steps-low)
 
--- ---- the walks
+-- ---- the steps from each place
 
-pub place-low : (x : ℕ) → x < 48 → walkAt x < 48
-unfolding walkAt
-place-low x low = walk-low (x % 8) _ (first-low (x / 8) (omega arith))
+pub step-low : (y : ℕ) → y < 384 → stepAt y < 48
+unfolding stepAt
+step-low y low = walk-low (y % 8) (walkAt (y / 8)) (place-low (y / 8) (omega arith))
 
-module _ (r : ℕ) where
-  pub dart-cell : walkDart r / 48 ≡ r / 48
-  unfolding walkDart
-  dart-cell = let low = place-low (r % 48) (omega arith) in omega arith
+pub step-place : (x i : ℕ) → i < 8 → stepAt (8 * x + i) ≡ faceWalk i (walkAt x)
+unfolding stepAt
+step-place x i low =
+    let place : (8 * x + i) / 8 ≡ x = omega arith in
+    let step : (8 * x + i) % 8 ≡ i = omega arith in
+    rw (place, step)
 
-  pub dart-place : walkDart r % 48 ≡ walkAt (r % 48)
-  unfolding walkDart
-  dart-place = let low = place-low (r % 48) (omega arith) in omega arith
+pub step-face : (f i : ℕ) → i < 8 → stepAt (64 * f + i) ≡ faceWalk i (getD faceDarts f 0)
+unfolding walkAt faceWalk
+step-face f i low =
+    let place : 64 * f + i ≡ 8 * (8 * f) + i = omega arith in
+    let face : 8 * f / 8 ≡ f = omega arith in
+    let first : 8 * f % 8 ≡ 0 = omega arith in
+    rw place (step-place (8 * f) i low ∙ rw (walkAt, face, first))
 
-pub walk-place : (f i : ℕ) → i < 8 → walkAt (8 * f + i) ≡ faceWalk i (getD faceDarts f 0)
-unfolding walkAt
-walk-place f i low =
-    let face : (8 * f + i) / 8 ≡ f = omega arith in
-    let step : (8 * f + i) % 8 ≡ i = omega arith in
-    rw (face, step)
+module _ (y : ℕ) where
+  -- the first place of a face
+  pub step-first : y % 64 ≡ 0 → getD faceDarts (y / 64) 0 ≡ stepAt y
+  unfolding faceWalk
+  step-first none =
+      let is : 64 * (y / 64) + 0 ≡ y = omega arith in
+      sym (rw is at (step-face (y / 64) 0 (omega arith)))
 
--- the place of the j-th dart of the face at the position p
-pub walk-dart : (p j : ℕ) → j < 8 → walkDart (8 * p + j) ≡ 48 * (p / 6) + faceWalk j (getD faceDarts (p % 6) 0)
-unfolding walkDart walkAt
-walk-dart p j low =
-    let cell : (8 * p + j) / 48 ≡ p / 6 = omega arith in
-    let face : (8 * p + j) % 48 / 8 ≡ p % 6 = omega arith in
-    let step : (8 * p + j) % 48 % 8 ≡ j = omega arith in
-    rw (cell, face, step)
+  -- another place, from the first of its face
+  pub step-along : y % 8 ≡ 0 → stepAt (64 * (y / 64) + y / 8 % 8) ≡ stepAt y
+  unfolding walkAt faceWalk
+  step-along none =
+      let is : 8 * (y / 8) + 0 ≡ y = omega arith in
+      let face : y / 8 / 8 ≡ y / 64 = omega arith in
+      step-face (y / 64) (y / 8 % 8) (omega arith) ∙ sym (rw is at (step-place (y / 8) 0 (omega arith)) ∙ rw (walkAt, face))
 
-pub walk-first : (p : ℕ) → walkDart (8 * p) ≡ firstDart p
-unfolding firstDart faceWalk
-walk-first p = let none : 8 * p ≡ 8 * p + 0 = omega arith in rw none (walk-dart p 0 (omega arith))
-
-module _ (j i : ℕ) where
-  pub beside-on : j % 2 ≡ 0 → (j + i) % 8 ≡ besideAt j i
-  unfolding besideAt
-  beside-on even = rw (even, besideAt)
-
-  pub beside-back : j % 2 ≢ 0 → (j + 8 - i) % 8 ≡ besideAt j i
-  unfolding besideAt
-  beside-back odd = rw (ne-eqb (j % 2) 0 odd, besideAt)
-
-  pub beside-low : besideAt j i < 8
-  beside-low = if-eq (j % 2) 0 (λ e. rw (← beside-on e) (omega arith)) (λ e. rw (← beside-back e) (omega arith))
-
-besides-true : allBelow 6 (λ f. allBelow 8 (λ j. allBelow 8 (λ i.
-    eqb (faceWalk i (faceWalk j (getD faceDarts f 0))) (faceWalk (besideAt j i) (getD faceDarts f 0))))) ≡ true
-unfolding everything faceDarts faceWalk besideAt
-besides-true = refl
-
-beside-walks : (f j i : ℕ) → f < 6 → j < 8 → i < 8
-    → faceWalk i (faceWalk j (getD faceDarts f 0)) ≡ faceWalk (besideAt j i) (getD faceDarts f 0)
-beside-walks f j i hf hj hi = eqb-true _ _ (below-at _ 8 (below-at _ 8 (below-at _ 6 besides-true f hf) j hj) i hi)
-
--- the dart that i steps lead to from a place
-pub beside-place : (r i : ℕ) → i < 8 → walkAt (8 * (r % 48 / 8) + besideAt (r % 8) i) ≡ faceWalk i (walkAt (r % 48))
-unfolding walkAt
-beside-place r i low =
-    let small = beside-low (r % 8) i in
-    let face : (8 * (r % 48 / 8) + besideAt (r % 8) i) / 8 ≡ r % 48 / 8 = omega arith in
-    let step : (8 * (r % 48 / 8) + besideAt (r % 8) i) % 8 ≡ besideAt (r % 8) i = omega arith in
-    let first : r % 48 % 8 ≡ r % 8 = omega arith in
-    rw (face, step, first) (sym (beside-walks (r % 48 / 8) (r % 8) i (omega arith) (omega arith) low))
+  -- a step from a place, by link i
+  pub step-next : (i : ℕ) → i ≡ (y - 1) % 2 → y % 8 ≢ 0 → cellLink 3 i (stepAt (y - 1)) ≡ stepAt y
+  unfolding stepAt faceWalk
+  step-next i is some =
+      let place : y / 8 ≡ (y - 1) / 8 = omega arith in
+      let step : y % 8 ≡ suc ((y - 1) % 8) = omega arith in
+      let index : (y - 1) % 8 % 2 ≡ i = omega arith in
+      sym (rw (stepAt, place, step) (rw index))
 
 -- ---- a list filled from its first element on
 

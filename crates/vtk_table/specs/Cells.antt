@@ -1,6 +1,6 @@
--- What table and record of a read are written from: rows and mates in buffers (`Cells`), the way round a face (`faceWalk`), and the words
--- of a cell in the first slots (`wordAt`).
-use Prim.Native.Nat.{ℕ, zero, suc, _+_, _*_, _-_, _/_, _%_, _≤_, _<_}
+-- What table and record of a read are written from: the mates of faces in a buffer (`Cells`), the way round a face from each of its darts
+-- (`stepAt`), and the words of a cell in the first slots (`wordAt`).
+use Prim.Native.Nat.{ℕ, _+_, _*_, _/_, _%_, _≤_, _<_}
 use mathlib.Core.Path.{_≡_}
 use mathlib.Core.Bool.{true, false}
 use mathlib.Core.List.{List, [], _∷_}
@@ -9,31 +9,19 @@ use lib.Dec.{eqb}
 use Rattle.model.specs.Table.{unused}
 use Rattle.model.specs.Numbering.{cellLink}
 use Rattle.model.specs.Faces.{faceDarts, vtkTable}
-use Rattle.model.specs.Checks.{pass, orderOk}
 use Rattle.model.specs.Meaning.Vtk.{Readable}
 use Rattle.model.specs.Meaning.Numbers.{JournalRule}
-use Rattle.vtk_faces.specs.Buffers.{Held, Mated}
+use Rattle.vtk_faces.specs.Walks.{faceWalk, walkAt}
+use Rattle.vtk_faces.specs.Buffers.{Mated}
 use Rattle.drafts.specs.Passes.{Room, Pass, FourLinks}
 
--- j steps round the face of the dart k, by links 0, 1, 0, ..
-unfoldable pub faceWalk : ℕ → ℕ → ℕ
-faceWalk zero k = k
-faceWalk (suc j) k = cellLink 3 (j % 2) (faceWalk j k)
+-- the dart that y % 8 steps by links 0, 1, 0, .. lead to from the one at the place y / 8 of a cell's walks
+unfoldable pub stepAt : ℕ → ℕ
+stepAt y = faceWalk (y % 8) (walkAt (y / 8))
 
--- the walks of a cell, round one face after the other: the dart at the place x, eight places to a face
-unfoldable pub walkAt : ℕ → ℕ
-walkAt x = faceWalk (x % 8) (getD faceDarts (x / 8) 0)
-
-abbrev pub Walks : List ℕ → Type 0
-Walks walk = (x : ℕ) → x < 48 → getD walk x 0 ≡ walkAt x
-
--- and the slot of the dart at the place r of the walks of all cells, 48 places to a cell
-unfoldable pub walkDart : ℕ → ℕ
-walkDart r = 48 * (r / 48) + walkAt (r % 48)
-
--- where i steps by links 0, 1, 0, .. lead from the j-th dart of a walk: on if j is even, back if it is odd
-unfoldable pub besideAt : ℕ → ℕ → ℕ
-besideAt j i = elim (eqb (j % 2) 0) [ true ↦ (j + i) % 8 | false ↦ (j + 8 - i) % 8 ]
+-- the first n entries of the list are these
+abbrev pub Steps : ℕ → List ℕ → Type 0
+Steps n steps = (y : ℕ) → y < n → getD steps y 0 ≡ stepAt y
 
 -- link 3 of a cell's darts, before and after: g's for the first n darts round the face of k, and still g's where it was
 pub record Sews (g : ℕ → ℕ) (k n : ℕ) (thirds thirds′ : List ℕ) : Type 0 where
@@ -44,18 +32,16 @@ pub record Sews (g : ℕ → ℕ) (k n : ℕ) (thirds thirds′ : List ℕ) : Ty
 unfoldable pub firstDart : ℕ → ℕ
 firstDart p = 48 * (p / 6) + getD faceDarts (p % 6) 0
 
--- t can be filled with the cells of these rows, which stand in a buffer, and the mates of their faces in another
-pub record Cells (t : List ℕ) (rows : List (List ℕ)) (buffer mates : List ℕ) : Type 0 where
+-- t can be filled with the cells of these rows, and the mates of their faces stand in a buffer
+pub record Cells (t : List ℕ) (rows : List (List ℕ)) (mates : List ℕ) : Type 0 where
   pub readable : Readable t rows
-  pub order : orderOk rows ≡ pass
-  pub held : Held buffer rows
   pub mated : Mated rows mates
 
 -- some table and rows, of which there is a row c
-pub record SomeCells (buffer mates : List ℕ) (c : ℕ) : Type 0 where
+pub record SomeCells (mates : List ℕ) (c : ℕ) : Type 0 where
   pub t : List ℕ
   pub rows : List (List ℕ)
-  pub cells : Cells t rows buffer mates
+  pub cells : Cells t rows mates
   pub low : c < length rows
 
 -- ---- table and record
@@ -107,12 +93,12 @@ pub record ToCell (thirds : List ℕ) (c at : ℕ) (v w : List ℕ) : Type 0 whe
   pub new : NewCell t u thirds c
 
 -- all of the cells, whose record has room in j
-pub record NewCells (t : List ℕ) (rows : List (List ℕ)) (buffer mates : List ℕ) (cells : ℕ) (j : List ℕ) : Type 0 where
-  pub are : Cells t rows buffer mates
+pub record NewCells (t : List ℕ) (rows : List (List ℕ)) (mates : List ℕ) (cells : ℕ) (j : List ℕ) : Type 0 where
+  pub are : Cells t rows mates
   pub number : cells ≡ length rows
   pub rule : JournalRule j
   pub room : Room t (vtkTable t rows) j
 
-pub record SomeNewCells (t buffer mates : List ℕ) (cells : ℕ) (j : List ℕ) : Type 0 where
+pub record SomeNewCells (t mates : List ℕ) (cells : ℕ) (j : List ℕ) : Type 0 where
   pub rows : List (List ℕ)
-  pub are : NewCells t rows buffer mates cells j
+  pub are : NewCells t rows mates cells j

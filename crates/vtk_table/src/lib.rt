@@ -1,140 +1,86 @@
 // Table and record of a read: each cell's links, and where its darts are sewn to.
 use reading::UNUSED;
-use vtk_faces::Face;
-use vtk_faces::face_at;
 use vtk_faces::face_dart;
 ghost use mathlib.Core.Path.{_≡_};
-ghost use mathlib.Core.Bool.{_&&_};
 ghost use mathlib.Core.List.{List};
 ghost use Prim.Native.Nat.{ℕ, _+_, _*_, _/_, _%_, _≤_, _<_};
 ghost use lib.ListN.{length, getD, replicate};
-ghost use lib.Dec.{eqb};
 ghost use Rattle.model.specs.Table.{unused, link};
 ghost use Rattle.model.specs.Journal.{changesFrom};
-ghost use Rattle.model.specs.Faces.{round, faceDarts, partner, vtkTable};
+ghost use Rattle.model.specs.Faces.{faceDarts, partner, vtkTable};
 ghost use Rattle.drafts.specs.Drafts.{drafted};
 ghost use Rattle.drafts.specs.Passes.{Pass, FourLinks, ToSlot};
-ghost use Rattle.vtk_faces.specs.Faces.{four, Sited};
-ghost use Rattle.vtk_table.specs.Cells.{faceWalk, walkAt, Walks, besideAt, walkDart, firstDart, Cells, SomeCells, Sews};
+ghost use Rattle.vtk_faces.specs.Walks.{faceWalk, walkAt, walkDart};
+ghost use Rattle.vtk_table.specs.Cells.{stepAt, Steps, firstDart, Cells, SomeCells, Sews};
 ghost use Rattle.vtk_table.specs.Cells.{wordAt, RecordWords, TableWords, dartLinks, Placed, NewCell, ToCell, NewCells, SomeNewCells};
 
 // ---- round the faces of a cell
 
-// The (x % 8)-th dart of the face x / 8: from its first, by links 0, 1, 0, ..
-fn walk_at(x: u32) -> u32
-    requires { ⌜ x < 48 ⌝ }
-    ensures { λ r. ⌜ r ≡ walkAt x ⌝ }
+// The dart that y % 8 steps by links 0, 1, 0, .. lead to from the one at the place y / 8 of a cell's walks, by the entries before it.
+fn step_at(steps: &[u8; 384], y: usize) -> u8
+    requires { ⌜ (y < 384) × (Steps y (now steps)) ⌝ }
+    ensures { λ r. ⌜ r ≡ stepAt y ⌝ }
 {
-    let mut k = face_dart(x / 8);
-    for i in 0..x % 8 {
-        k = numbering::cell_link(3, i % 2, k);
+    if y % 64 == 0 {
+        return face_dart(y as u32 / 64) as u8;
     }
-    k
+    if y % 8 == 0 {
+        return steps[64 * (y / 64) + y / 8 % 8];
+    }
+    numbering::cell_link(3, (y as u32 - 1) % 2, steps[y - 1] as u32) as u8
 }
 
-// The same for all six faces.
-fn walks() -> [u8; 48]
-    ensures { λ r. ⌜ Walks r ⌝ }
+// All of them.
+fn steps() -> [u8; 384]
+    ensures { λ r. ⌜ Steps 384 r ⌝ }
 {
-    let mut walk = [0u8; 48];
-    for x in 0..48 {
-        walk[x] = walk_at(x as u32) as u8;
+    let mut steps = [0u8; 384];
+    for y in 0..384usize {
+        steps[y] = step_at(&steps, y);
     }
-    walk
-}
-
-// Whether these four are the vertices of a face, in its order.
-fn same(a: u64, b: u64, c: u64, d: u64, want: Face) -> bool
-    ensures { λ r. ⌜ r ≡ (eqb a (want .a) && eqb b (want .b) && eqb c (want .c) && eqb d (want .d)) ⌝ }
-{
-    (a == want.a) & (b == want.b) & (c == want.c) & (d == want.d)
-}
-
-// Of the eight darts of a face, whose first has the round `seen`, the one whose round is `want`: how many steps lead to it.
-fn facing(seen: Face, want: Face) -> usize
-    ensures { λ r. ⌜ (r < 8) × ((row other : List ℕ) (first k : ℕ) → first < 48 → four seen ≡ round row first → four want ≡ round other k
-        → (i : ℕ) → i < 8 → round row (faceWalk i first) ≡ round other k → round row (faceWalk r first) ≡ round other k) ⌝ }
-{
-    let mut a = seen.a;
-    let mut b = seen.b;
-    let mut c = seen.c;
-    let mut d = seen.d;
-    for turn in 0..4usize {
-        if same(a, b, c, d, want) {
-            return 2 * turn;
-        }
-        if same(b, a, d, c, want) {
-            return 2 * turn + 1;
-        }
-        let passed = a;
-        a = b;
-        b = c;
-        c = d;
-        d = passed;
-    }
-    0
-}
-
-// Where i steps by links 0, 1, 0, .. lead from the j-th dart of a walk: on if j is even, back if it is odd.
-fn beside(j: usize, i: usize) -> usize
-    requires { ⌜ (j < 8) × (i < 8) ⌝ }
-    ensures { λ r. ⌜ r ≡ besideAt j i ⌝ }
-{
-    if j % 2 == 0 {
-        return (j + i) % 8;
-    }
-    (j + 8 - i) % 8
+    steps
 }
 
 // ---- the faces of a cell
 
 // The dart that the first of the face at the position p is sewn to, as a place of the walks, 48 to a cell: its own, if no other cell has
 // the face.
-fn partner(rows: &[u64], sites: &[u8; 24], mates: &[u16], p: usize) -> usize
-    requires { ⌜ (SomeCells (now rows) (now mates) (p / 6)) × (Sited (now sites)) ⌝ }
-    ensures { λ r. ⌜ ((t : List ℕ) (rs : List (List ℕ)) → Cells t rs (now (rows .entry)) (now (mates .entry)) → p / 6 < length rs
+fn partner(mates: &[u16], p: usize) -> usize
+    requires { ⌜ SomeCells (now mates) (p / 6) ⌝ }
+    ensures { λ r. ⌜ ((t : List ℕ) (rs : List (List ℕ)) → Cells t rs (now (mates .entry)) → p / 6 < length rs
         → partner rs (firstDart p) ≡ walkDart r) ⌝ }
 {
     let mate = mates[p + 1] as usize;
     if mate == 0 {
         return 8 * p;
     }
-    let q = mate - 1;
-    8 * q + facing(face_at(rows, sites, q), face_at(rows, sites, p))
+    mate - 8
 }
 
 // Link 3 of the eight darts of the face f, whose first is sewn to the dart at the place r of the walks: both faces are walked in step.
-fn sew_face(thirds: &mut [u32], walk: &[u8; 48], f: usize, r: usize)
-    requires { ⌜ (length (now thirds) ≡ 48) × (Walks (now walk)) × (f < 6) × (r < 65568) ⌝ }
+fn sew_face(thirds: &mut [u32], steps: &[u8; 384], f: usize, r: usize)
+    requires { ⌜ (length (now thirds) ≡ 48) × (Steps 384 (now steps)) × (f < 6) × (r < 65568) ⌝ }
     ensures { λ _. ⌜ ((g : ℕ → ℕ)
         → ((i : ℕ) → i < 8 → g (faceWalk i (getD faceDarts f 0)) ≡ 48 * (r / 48) + faceWalk i (walkAt (r % 48)))
         → Sews g (getD faceDarts f 0) 8 (now (thirds .entry)) (now (thirds .exit))) ⌝ }
 {
     let cell = 48 * (r / 48);
-    let face = 8 * (r % 48 / 8);
-    let j = r % 8;
+    let there = 8 * (r % 48);
     for i in 0..8usize {
-        let d = walk[face + beside(j, i)] as usize;
-        thirds[walk[8 * f + i] as usize] = (cell + d) as u32;
+        let d = steps[there + i] as usize;
+        thirds[steps[64 * f + i] as usize] = (cell + d) as u32;
     }
 }
 
 // Link 3 of each dart of the cell c.
-fn sew_cell(
-    thirds: &mut [u32],
-    rows: &[u64],
-    sites: &[u8; 24],
-    mates: &[u16],
-    walk: &[u8; 48],
-    c: usize,
-)
-    requires { ⌜ (length (now thirds) ≡ 48) × (SomeCells (now rows) (now mates) c) × (Sited (now sites)) × (Walks (now walk)) ⌝ }
-    ensures { λ _. ⌜ ((t : List ℕ) (rs : List (List ℕ)) → Cells t rs (now (rows .entry)) (now (mates .entry)) → c < length rs
+fn sew_cell(thirds: &mut [u32], mates: &[u16], steps: &[u8; 384], c: usize)
+    requires { ⌜ (length (now thirds) ≡ 48) × (SomeCells (now mates) c) × (Steps 384 (now steps)) ⌝ }
+    ensures { λ _. ⌜ ((t : List ℕ) (rs : List (List ℕ)) → Cells t rs (now (mates .entry)) → c < length rs
         → (k : ℕ) → k < 48 → getD (now (thirds .exit)) k 0 ≡ partner rs (48 * c + k)) ⌝ }
 {
     for f in 0..6usize {
-        let to = partner(rows, sites, mates, 6 * c + f);
-        sew_face(thirds, walk, f, to);
+        let to = partner(mates, 6 * c + f);
+        sew_face(thirds, steps, f, to);
     }
 }
 
@@ -239,27 +185,19 @@ fn write_cell(
 }
 
 // Writes the cells into the table, and drafts their record: four entries for each of their darts.
-pub fn write_cells(
-    table: &mut [u32],
-    journal: &mut [u32],
-    rows: &[u64],
-    mates: &[u16],
-    cells: usize,
-)
-    requires { ⌜ SomeNewCells (now table) (now rows) (now mates) cells (now journal) ⌝ }
-    ensures { λ _. ⌜ ((rs : List (List ℕ))
-        → NewCells (now (table .entry)) rs (now (rows .entry)) (now (mates .entry)) cells (now (journal .entry))
+pub fn write_cells(table: &mut [u32], journal: &mut [u32], mates: &[u16], cells: usize)
+    requires { ⌜ SomeNewCells (now table) (now mates) cells (now journal) ⌝ }
+    ensures { λ _. ⌜ ((rs : List (List ℕ)) → NewCells (now (table .entry)) rs (now (mates .entry)) cells (now (journal .entry))
         → (now (table .exit) ≡ vtkTable (now (table .entry)) rs)
         × (now (journal .exit) ≡ drafted (now (journal .entry)) (changesFrom 0 (now (table .entry)) (vtkTable (now (table .entry)) rs)))) ⌝ }
 {
-    let sites = vtk_faces::sites();
     let words = record_words();
     let own = table_words();
-    let walk = walks();
+    let steps = steps();
     let mut thirds = [0u32; 48];
     let mut w = journal[0] as usize + 2;
     for c in 0..cells {
-        sew_cell(&mut thirds, rows, &sites, mates, &walk, c);
+        sew_cell(&mut thirds, mates, &steps, c);
         write_cell(table, journal, w, &words, &own, &thirds, c);
         w += 576;
     }

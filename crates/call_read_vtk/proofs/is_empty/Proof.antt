@@ -1,4 +1,4 @@
--- `call_read_vtk::is_empty` meets its contract. The loop's invariant: whether the first e entries are of unused slots.
+-- `call_read_vtk::is_empty` meets its contract. The loop's invariant: what the first e entries have in common.
 use Prim.Native.Nat.{_-_, _≤_}
 use mathlib.Core.Path.{_≡_, refl}
 use native.Mathlib.Omega.{arith}
@@ -10,19 +10,19 @@ use Rattle.call_read_vtk.proofs.is_empty.Statement.{statement}
 use Rattle.call_read_vtk.proofs.is_empty.Tie as tie
 
 abbrev Inv-loop : tie.InvT-loop
-Inv-loop table empty₀ e₀ e-end empty e = (e ≤ length table) × (e-end ≡ length table) × Entries table e empty
+Inv-loop table common₀ e₀ e-end common e = (e ≤ length table) × (e-end ≡ length table) × Entries table e common
 
 abbrev μ-loop : tie.MeasureT-loop
-μ-loop table empty₀ e₀ e-end empty e = length table - e
+μ-loop table common₀ e₀ e-end common e = length table - e
 
 loop-holds : tie.Need-loop-holds Inv-loop μ-loop
 loop-holds c = (omega arith, refl, entries-none _)
 
-mul-empty : tie.Need-mul-empty Inv-loop μ-loop
-mul-empty c = search needs
+mul-common : tie.Need-mul-common Inv-loop μ-loop
+mul-common c = search needs
 
-shared-slice-read-empty : tie.Need-shared-slice-read-empty Inv-loop μ-loop
-shared-slice-read-empty c = search needs
+shared-slice-read-common : tie.Need-shared-slice-read-common Inv-loop μ-loop
+shared-slice-read-common c = search needs
 
 add-e : tie.Need-add-e Inv-loop μ-loop
 add-e c = search needs
@@ -31,7 +31,10 @@ loop-less : tie.Need-loop-less Inv-loop μ-loop
 loop-less c = search needs
 
 loop-again : tie.Need-loop-again Inv-loop μ-loop
-loop-again c = (search needs, refl, entries-more (c .before .before .loop .inv .2))
+loop-again c =
+    let l = c .before .before in
+    let fits = c .shared-slice-known .given (l .loop .e) in
+    (search needs, refl, entries-more (omega arith) (l .loop .inv .2))
 
 returns : tie.Need-returns Inv-loop μ-loop
 returns c =
@@ -46,8 +49,8 @@ is-empty-spec =
     Inv-loop
     μ-loop
     loop-holds
-    mul-empty
-    shared-slice-read-empty
+    mul-common
+    shared-slice-read-common
     add-e
     loop-less
     loop-again

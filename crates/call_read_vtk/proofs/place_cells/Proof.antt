@@ -20,7 +20,7 @@ use Rattle.call_read_vtk.proofs.place_cells.Tie as tie
 
 -- the function's entry, from where 14 has passed
 abbrev start : tie.Else1 → tie.Start
-start c = c .before .before .before .before .before
+start c = c .before .before .before .before
 
 mul-if1 : tie.Need-mul-if1
 mul-if1 c = search needs
@@ -58,7 +58,7 @@ module _ (c : tie.Else2) where
   roomy = c .before .before .before
 
   fits : (text : List ℕ) (C : let a = start roomy .args in
-      Checked (a .table .now) (a .journal .now) text (a .rows .now) (a .mates .now) (a .cells))
+      Checked (a .table .now) (a .journal .now) text (a .mates .now) (a .cells))
       → let a = start roomy .args in
       Room (a .table .now) (vtkTable (a .table .now) (C .pass .grid .rows)) (a .journal .now)
   fits text C = fits-room _ _ _ _ (read-number (C .pass) (roomy .if1 .left)) _ (c .before .record-fits .ensures) (not-false _ (c .if2 .left))
@@ -75,7 +75,7 @@ module _ (w : tie.After-write-cells) where
   ready = w .before .before .before
 
   module _ (text : List ℕ) (C : let a = start (roomy ready) .args in
-      Checked (a .table .now) (a .journal .now) text (a .rows .now) (a .mates .now) (a .cells))
+      Checked (a .table .now) (a .journal .now) text (a .mates .now) (a .cells))
     where
       abbrev room : 192 * start (roomy ready) .args .cells ≤ length (start (roomy ready) .args .table .now)
       room = roomy ready .if1 .left
@@ -92,11 +92,11 @@ close-record-requires c κs =
     let C = start (roomy (ready w)) .pre .0 .are in
     draft-closes (cells-drafted (C .pass) (room w _ C) (fits (ready w) _ C) _ (left w _ C .1))
 
-cast-t11 : tie.Need-cast-t11
-cast-t11 c = search needs
+cast-t10 : tie.Need-cast-t10
+cast-t10 c = search needs
 
-mul-t22 : tie.Need-mul-t22
-mul-t22 c = search needs
+mul-t21 : tie.Need-mul-t21
+mul-t21 c = search needs
 
 same-length-2 : tie.Need-same-length-2
 same-length-2 c = search needs
@@ -128,8 +128,8 @@ place-cells-spec =
     returns-2
     write-cells-requires
     close-record-requires
-    cast-t11
-    mul-t22
+    cast-t10
+    mul-t21
     same-length-2
     same-length-3
     returns-3)

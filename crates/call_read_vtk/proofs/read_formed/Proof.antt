@@ -28,8 +28,8 @@ judged c = c .judge-few .ensures _ (cells-held (start c .pre .0) (room c))
 checked : (c : tie.Else2) →
     let f = c .before .before .before .before .before .before .before in
     let a = start f .args in
-    Checked (a .table .now) (a .journal .now) (a .text .now) (a .rows .now) (f .judge-few .last .1 .1 .1 .1 .0) (a .cells)
-checked c = let f = c .before .before .before .before .before .before .before in judged-checked (start f .pre .0) (room f) (judged f) (c .if2 .left)
+    Checked (a .table .now) (a .journal .now) (a .text .now) (f .judge-few .last .1 .1 .1 .1 .0) (a .cells)
+checked c = let f = c .before .before .before .before .before .before .before in judged-checked (start f .pre .0) (judged f) (c .if2 .left)
 
 -- ---- the needs
 
@@ -77,7 +77,7 @@ returns-2 : tie.Need-returns-2
 returns-2 c = let f = c .before .before .before .before .before .before .before in judged-refused (start f .pre .0) (judged f .judged) _ (c .if2 .taken)
 
 place-cells-requires : tie.Need-place-cells-requires
-place-cells-requires c κs = let e = c .before .before .before .before in (record { text = _; are = checked e }, few (e .before .before .before .before .before .before .before))
+place-cells-requires c κs = let e = c .before .before .before in (record { text = _; are = checked e }, few (e .before .before .before .before .before .before .before))
 
 same-length-9 : tie.Need-same-length-9
 same-length-9 c = search needs
@@ -98,7 +98,7 @@ same-length-14 : tie.Need-same-length-14
 same-length-14 c = search needs
 
 returns-3 : tie.Need-returns-3
-returns-3 c = let p = c .before .before .before .before in p .place-cells .ensures _ (checked (p .before .before .before .before .before))
+returns-3 c = let p = c .before .before .before .before in p .place-cells .ensures _ (checked (p .before .before .before .before))
 
 pub read-formed-spec : {M : Type 1} → statement M
 read-formed-spec =

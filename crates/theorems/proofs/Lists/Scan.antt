@@ -79,6 +79,13 @@ pub below-four : (P : ℕ → Type 0) → P 0 → P 1 → P 2 → P 3 → (i : �
 below-four P a b c d zero l = a
 below-four P a b c d (suc i) l = below-three (λ k. P (suc k)) b c d i (omega arith)
 
+pub below-eight : (P : ℕ → Type 0) → P 0 → P 1 → P 2 → P 3 → P 4 → P 5 → P 6 → P 7 → (i : ℕ) → i < 8 → P i
+below-eight P a b c d e f g h zero l = a
+below-eight P a b c d e f g h (suc zero) l = b
+below-eight P a b c d e f g h (suc (suc zero)) l = c
+below-eight P a b c d e f g h (suc (suc (suc zero))) l = d
+below-eight P a b c d e f g h (suc (suc (suc (suc i)))) l = below-four (λ k. P (suc (suc (suc (suc k))))) e f g h i (omega arith)
+
 module _ (p : ℕ → Bool) where
   -- ---- every number
 

@@ -21,6 +21,7 @@ use Rattle.theorems.proofs.Vtk.Sites.{equal-is, equal-same}
 use Rattle.theorems.proofs.Vtk.Faces.{among-in, in-anyOf, four-exactly, in-all, sharing-three}
 use Rattle.theorems.proofs.Vtk.Passed.{once-in}
 use Rattle.theorems.proofs.Vtk.Three.{from-in, sharing-cells}
+use Rattle.theorems.proofs.Vtk.Readings.{four-list}
 use Rattle.theorems.proofs.Vtk.Other.{round-long, all-in}
 
 -- ---- 18: "table not empty"
@@ -250,15 +251,6 @@ module _ (a b c d : ℕ) (g : List ℕ) where
       from : SameCycle ahead g → (reads ahead g || reads behind g) ≡ true
       from (onward k at) = or-i (reads ahead g) _ (inl (reads-exactly a b c d g long .1 (k, at)))
       from (back k at) = or-i (reads ahead g) _ (inr (reads-exactly d c b a g long .1 (back-reads k at)))
-
--- a list of four
-four-list : (l : List ℕ) → length l ≡ 4 → (a : ℕ) × (b : ℕ) × (c : ℕ) × (d : ℕ) × (l ≡ a ∷ b ∷ c ∷ d ∷ [])
-four-list [] h = absurd (omega arith)
-four-list (a ∷ []) h = absurd (omega arith)
-four-list (a ∷ b ∷ []) h = absurd (omega arith)
-four-list (a ∷ b ∷ c ∷ []) h = absurd (omega arith)
-four-list (a ∷ b ∷ c ∷ d ∷ []) h = (a, b, c, d, refl)
-four-list (a ∷ b ∷ c ∷ d ∷ e ∷ l) h = absurd (omega arith)
 
 pub cycle-exactly : (f g : List ℕ) → length f ≡ 4 → length g ≡ 4 → (sameOrder f g ≡ true) ↔ SameCycle f g
 cycle-exactly f g long-f long-g =

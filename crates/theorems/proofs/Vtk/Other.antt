@@ -3,40 +3,23 @@
 use Prim.Native.Nat.{ℕ, zero, suc, _+_, _*_, _/_, _%_, _<_}
 use mathlib.Core.Path.{_≡_, refl, sym, _∙_, subst}
 use mathlib.Core.Logic.{⊎-elim}
-use mathlib.Core.Bool.{Bool, true, not, _||_}
+use mathlib.Core.Bool.{true}
 use mathlib.Core.List.{List, [], _∷_, List·Memᴰ as In, List·Memᴰ·not-nil as not-nil, List·Memᴰ·append-cases as in-append}
 use native.Mathlib.Omega.{arith}
 use lib.ListN.{length, getD}
-use lib.Dec.{eqb, ltb}
-use borrow.Author.Tests.{eqb-true, eq-eqb, ltb-true, not-true}
-use Rattle.model.specs.Lists.{allBelow, allOf}
-use Rattle.model.specs.Faces.{listedAt, onward, sites, pick, round, faceDarts, faces, allFaces, sameFour, reads, sameOrder, agree}
+use Rattle.model.specs.Lists.{allOf}
+use Rattle.model.specs.Faces.{sites, pick, round, faceDarts, faces, allFaces, sameFour, reads, sameOrder, agree}
 use Rattle.model.specs.Checks.{pass, must, orderOk}
-use Rattle.model.specs.Everything.{everything}
 use Rattle.model.specs.Meaning.Vtk.{faceAt, OtherOrder}
-use Rattle.theorems.proofs.Lists.Scan.{test, clash, or-cases, below-at, below-both, if-eq, if-lt}
+use Rattle.theorems.proofs.Lists.Scan.{test, clash, if-eq, if-lt}
 use Rattle.theorems.proofs.Lists.Ones.{each-at, each-of}
 use Rattle.theorems.proofs.Calls.Pass.{must-pass}
 use Rattle.theorems.proofs.Vtk.Sites.{equal-same}
 use Rattle.theorems.proofs.Vtk.Faces.{in-all, four-back}
 use Rattle.theorems.proofs.Vtk.Three.{face-in, at-position}
-use Rattle.theorems.proofs.Vtk.Opposite.{order-back}
+use Rattle.theorems.proofs.Vtk.Readings.{order-back}
 
--- ---- a face has four different vertices
-
-siteAt : ℕ → ℕ → ℕ
-siteAt g i = getD (sites (getD faceDarts g 0)) i 0
-
-otherSite : ℕ → ℕ → ℕ → Bool
-otherSite g i j = (eqb i j || not (eqb (siteAt g i) (siteAt g j)))
-
-sites-true : allBelow 6 (λ g. allBelow 4 (λ i. ltb (siteAt g i) 8)) ≡ true
-unfolding everything listedAt onward sites faceDarts siteAt
-sites-true = refl
-
-others-true : allBelow 6 (λ g. allBelow 4 (λ i. allBelow 4 (otherSite g i))) ≡ true
-unfolding everything listedAt onward sites faceDarts siteAt otherSite
-others-true = refl
+-- ---- the four vertices of a face
 
 pub pick-getD : (row is : List ℕ) (i : ℕ) → i < length is → getD (pick row is) i 0 ≡ getD row (getD is i 0) 0
 unfolding pick
@@ -51,21 +34,6 @@ round-long row k = refl
 pub four-sites : (k : ℕ) → length (sites k) ≡ 4
 unfolding sites
 four-sites k = refl
-
-module _ (row : List ℕ) (once : (i j : ℕ) → i < 8 → j < 8 → getD row i 0 ≡ getD row j 0 → i ≡ j) where
-  round-once : (g : ℕ) → g < 6 → (i j : ℕ) → i < 4 → j < 4
-      → getD (round row (getD faceDarts g 0)) i 0 ≡ getD (round row (getD faceDarts g 0)) j 0 → i ≡ j
-  unfolding round siteAt otherSite
-  round-once g hg i j hi hj e =
-      let k = getD faceDarts g 0 in
-      let long = four-sites k in
-      let at-i = pick-getD row (sites k) i (omega arith) in
-      let at-j = pick-getD row (sites k) j (omega arith) in
-      let low : (i : ℕ) → i < 4 → siteAt g i < 8
-      = λ i h. ltb-true _ _ (below-both (λ g i. ltb (siteAt g i) 8) 6 4 sites-true g i hg h) in
-      let same : siteAt g i ≡ siteAt g j = once _ _ (low i hi) (low j hj) (sym at-i ∙ e ∙ at-j) in
-      ⊎-elim (λ q. eqb-true i j q) (λ q. absurd (clash (eq-eqb _ _ same) (not-true _ q)))
-      (or-cases (eqb i j) _ (below-at (otherSite g i) 4 (below-both (λ g i. allBelow 4 (otherSite g i)) 6 4 others-true g i hg hi) j hj))
 
 -- ---- by position
 
@@ -93,20 +61,11 @@ order-self : (r : List ℕ) → sameOrder r r ≡ true
 unfolding sameOrder reads
 order-self r = rw (equal-same r)
 
-pub face-long : (rows : List (List ℕ)) (x : ℕ) → length (faceAt rows x) ≡ 4
+face-long : (rows : List (List ℕ)) (x : ℕ) → length (faceAt rows x) ≡ 4
 unfolding faceAt
 face-long rows x = round-long (getD rows (x / 6) []) (getD faceDarts (x % 6) 0)
 
-module _ (rows : List (List ℕ))
-    (once : (c i j : ℕ) → c < length rows → i < 8 → j < 8 → getD (getD rows c []) i 0 ≡ getD (getD rows c []) j 0 → i ≡ j) where
-  pub face-once : (x : ℕ) → x < 6 * length rows → (i j : ℕ) → i < 4 → j < 4
-      → getD (faceAt rows x) i 0 ≡ getD (faceAt rows x) j 0 → i ≡ j
-  unfolding faceAt
-  face-once x h = round-once (getD rows (x / 6) []) (λ i j. once (x / 6) i j (omega arith)) (x % 6) (omega arith)
-
-module _ (rows : List (List ℕ))
-    (once : (c i j : ℕ) → c < length rows → i < 8 → j < 8 → getD (getD rows c []) i 0 ≡ getD (getD rows c []) j 0 → i ≡ j)
-    (none : OtherOrder rows → ⊥) where
+module _ (rows : List (List ℕ)) (none : OtherOrder rows → ⊥) where
   -- the positions in the one order ..
   rising-order : (i j : ℕ) → i < j → j < 6 * length rows → sameFour (faceAt rows i) (faceAt rows j) ≡ true
       → sameOrder (faceAt rows i) (faceAt rows j) ≡ true
@@ -118,7 +77,7 @@ module _ (rows : List (List ℕ))
       → sameOrder (faceAt rows i) (faceAt rows j) ≡ true
   any-order i j hi hj four = if-lt i j (λ h. rising-order i j h hj four) (λ h. if-eq i j
       (λ e. subst (λ (x : ℕ). sameOrder (faceAt rows i) (faceAt rows x) ≡ true) e (order-self (faceAt rows i)))
-      (λ e. order-back (faceAt rows i) (faceAt rows j) (face-long rows i) (face-long rows j) (face-once rows once i hi) (face-once rows once j hj) four
+      (λ e. order-back (faceAt rows i) (faceAt rows j) (face-long rows i) (face-long rows j)
       ∙ rising-order j i (omega arith) hi (four-back (faceAt rows i) (faceAt rows j) four)))
 
   pub other-passes : orderOk rows ≡ pass

@@ -1,6 +1,6 @@
 -- `vtk_faces::judge_held` meets its contract.
 use native.Mathlib.Omega.{arith}
-use Rattle.vtk_faces.proofs.Verdicts.{cells-once, block-verdict}
+use Rattle.vtk_faces.proofs.Verdicts.{block-verdict}
 use borrow.Author.Needs.{needs}
 use Rattle.vtk_faces.proofs.judge_held.Statement.{statement}
 use Rattle.vtk_faces.proofs.judge_held.Tie as tie
@@ -22,7 +22,6 @@ own-faces-requires c κs =
     record {
       sited = t .sites .ensures;
       long = omega arith;
-      once = cells-once _ _ _ C;
       lent = record { few = L .few; heads-long = search needs; nexts-room = search needs; mates-room = search needs };
       clear = λ h low. let wide = L .heads-long in t .before .before .before .clear .ensures h (omega arith);
     }

@@ -58,7 +58,7 @@ returns c =
     let i = turn o in
     let end = i .before .loop .inv .2 in
     let taken = i .loop-test .taken in
-    run-three _ _ _ _ _ _ (o .own-face .ensures) _ (omega arith) (c .if1 .taken)
+    run-three _ _ _ _ _ _ _ (o .own-face .ensures) _ (omega arith) (c .if1 .taken)
 
 first-requires : tie.Need-first-requires Inv-loop μ-loop
 first-requires c κs = search needs
@@ -75,7 +75,7 @@ loop-again c =
     let i = turn o in
     let (run, low, end, nexts, mates, heads) = i .before .loop .inv in
     let taken = i .loop-test .taken in (
-      run-more _ _ _ _ _ _ (o .own-face .ensures) _ _ _ _ _ run (c .before .if1 .left) (c .first .ensures),
+      run-more _ _ _ _ _ _ _ (o .own-face .ensures) _ _ _ _ run (c .before .if1 .left) (c .first .ensures),
       omega arith,
       end,
       search needs,

@@ -9,24 +9,26 @@ use Rattle.model.specs.Faces.{faceDarts, darts, partner}
 use Rattle.theorems.proofs.Lists.Scan.{if-eq}
 use Rattle.theorems.proofs.Vtk.Faces.{faceOf, face-low}
 use Rattle.theorems.proofs.Vtk.Table.{partner-goes}
-use Rattle.vtk_table.specs.Cells.{faceWalk, walkAt, walkDart, Cells}
-use Rattle.vtk_table.proofs.Places.{first-low, first-dart, stepsTo, steps-low, steps-lead, dart-cell, dart-place}
+use Rattle.vtk_faces.specs.Walks.{faceWalk, walkAt, walkDart}
+use Rattle.vtk_faces.proofs.Walks.{first-low, dart-cell, dart-place}
+use Rattle.vtk_table.specs.Cells.{Cells}
+use Rattle.vtk_table.proofs.Places.{first-dart, stepsTo, steps-low, steps-lead}
 use Rattle.vtk_table.proofs.Partners.{partner-walks}
 use Rattle.vtk_table.proofs.sew_cell.Statement.{statement}
 use Rattle.vtk_table.proofs.sew_cell.Tie as tie
 
 abbrev Inv-loop : tie.InvT-loop
-Inv-loop thirds₀ rows sites mates walk c f₀ thirds f =
-    (f ≤ 6) × (length thirds ≡ 48) × ((t : List ℕ) (rs : List (List ℕ)) → Cells t rs rows mates → c < length rs
+Inv-loop thirds₀ mates steps c f₀ thirds f =
+    (f ≤ 6) × (length thirds ≡ 48) × ((t : List ℕ) (rs : List (List ℕ)) → Cells t rs mates → c < length rs
     → (g : ℕ) → g < f → (i : ℕ) → i < 8
     → getD thirds (faceWalk i (getD faceDarts g 0)) 0 ≡ partner rs (48 * c + faceWalk i (getD faceDarts g 0)))
 
 abbrev μ-loop : tie.MeasureT-loop
-μ-loop thirds₀ rows sites mates walk c f₀ thirds f = 6 - f
+μ-loop thirds₀ mates steps c f₀ thirds f = 6 - f
 
 -- the function's entry, from where the loop begins
-abbrev start : tie.After-shared-slice-known2 Inv-loop μ-loop → tie.Start Inv-loop μ-loop
-start c = c .before .before .before
+abbrev start : tie.After-shared-slice-known Inv-loop μ-loop → tie.Start Inv-loop μ-loop
+start c = c .before .before
 
 loop-holds : tie.Need-loop-holds Inv-loop μ-loop
 loop-holds c = (omega arith, start c .pre .0, λ t rs C low g h. absurd (omega arith))
@@ -51,9 +53,9 @@ add-partner c =
 
 partner-requires : tie.Need-partner-requires Inv-loop μ-loop
 partner-requires c κs =
-    let (_, some, sited, walks) = start (c .before .before) .pre in
+    let some = start (c .before .before) .pre .1 in
     let low = some .low in
-    (record { t = _; rows = _; cells = some .cells; low = omega arith }, sited)
+    record { t = _; rows = _; cells = some .cells; low = omega arith }
 
 module _ (c : tie.After-partner Inv-loop μ-loop) where
   abbrev turn : tie.At-loop Inv-loop μ-loop
@@ -68,7 +70,7 @@ module _ (c : tie.After-partner Inv-loop μ-loop) where
   face : turn .loop .f < 6
   face = omega arith
 
-  module _ (t : List ℕ) (rs : List (List ℕ)) (C : Cells t rs (entry .args .rows .now) (entry .args .mates .now)) (low : cell < length rs) where
+  module _ (t : List ℕ) (rs : List (List ℕ)) (C : Cells t rs (entry .args .mates .now)) (low : cell < length rs) where
     sewn-to : partner rs (48 * cell + getD faceDarts (turn .loop .f) 0) ≡ walkDart (c .partner .result)
     sewn-to = ap (partner rs) (sym (first-dart cell (turn .loop .f) face)) ∙ c .partner .ensures t rs C (let f = face in omega arith)
 
@@ -91,8 +93,8 @@ module _ (c : tie.After-partner Inv-loop μ-loop) where
 sew-face-requires : tie.Need-sew-face-requires Inv-loop μ-loop
 sew-face-requires c κs =
     let p = c .before in
-    let (_, some, sited, walks) = entry p .pre in
-    (turn p .loop .inv .1, walks, face p, sewn-low p (some .t) (some .rows) (some .cells) (some .low))
+    let (_, some, steps) = entry p .pre in
+    (turn p .loop .inv .1, steps, face p, sewn-low p (some .t) (some .rows) (some .cells) (some .low))
 
 add-f : tie.Need-add-f Inv-loop μ-loop
 add-f c = search needs

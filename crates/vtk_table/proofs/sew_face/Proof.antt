@@ -5,68 +5,59 @@ use native.Mathlib.Omega.{arith}
 use lib.ListN.{length, getD, length-set}
 use borrow.Author.Needs.{needs}
 use Rattle.model.specs.Faces.{faceDarts}
-use Rattle.vtk_table.specs.Cells.{faceWalk, walkAt, Sews}
-use Rattle.vtk_table.proofs.Places.{first-low, walk-low, walk-place, place-low, beside-low, beside-place}
+use Rattle.vtk_faces.specs.Walks.{faceWalk, walkAt}
+use Rattle.vtk_faces.proofs.Walks.{first-low, walk-low, place-low}
+use Rattle.vtk_table.specs.Cells.{Sews}
+use Rattle.vtk_table.proofs.Places.{step-place, step-face}
 use Rattle.vtk_table.proofs.Partners.{sews-none, sews-more}
 use Rattle.vtk_table.proofs.sew_face.Statement.{statement}
 use Rattle.vtk_table.proofs.sew_face.Tie as tie
 
 abbrev Inv-loop : tie.InvT-loop
-Inv-loop thirds₀ walk f r cell face j i₀ thirds i =
+Inv-loop thirds₀ steps f r cell there i₀ thirds i =
     (i ≤ 8) × (length thirds ≡ 48)
     × ((g : ℕ → ℕ) → ((n : ℕ) → n < 8 → g (faceWalk n (getD faceDarts f 0)) ≡ 48 * (r / 48) + faceWalk n (walkAt (r % 48)))
     → Sews g (getD faceDarts f 0) i thirds₀ thirds)
 
 abbrev μ-loop : tie.MeasureT-loop
-μ-loop thirds₀ walk f r cell face j i₀ thirds i = 8 - i
+μ-loop thirds₀ steps f r cell there i₀ thirds i = 8 - i
 
 mul-cell : tie.Need-mul-cell Inv-loop μ-loop
 mul-cell c = omega arith
 
-mul-face : tie.Need-mul-face Inv-loop μ-loop
-mul-face c = omega arith
+mul-there : tie.Need-mul-there Inv-loop μ-loop
+mul-there c = omega arith
 
 loop-holds : tie.Need-loop-holds Inv-loop μ-loop
-loop-holds c = (omega arith, c .before .pre .0, λ g h. sews-none g _ _)
+loop-holds c = (omega arith, c .pre .0, λ g h. sews-none g _ _)
 
-beside-requires : tie.Need-beside-requires Inv-loop μ-loop
-beside-requires c κs = (omega arith, omega arith)
-
--- the function's entry, from where the loop stands
-abbrev start : tie.At-loop Inv-loop μ-loop → tie.Start Inv-loop μ-loop
-start l = l .before .before
-
-module _ (c : tie.After-beside Inv-loop μ-loop) where
+module _ (c : tie.In-loop Inv-loop μ-loop) where
   abbrev turn : tie.At-loop Inv-loop μ-loop
-  turn = c .before .before
+  turn = c .before
 
   abbrev entry : tie.Start Inv-loop μ-loop
-  entry = start turn
+  entry = turn .before
 
   -- the dart that is sewn, and the one that it is sewn to
-  here-is : getD (entry .args .walk .now) (8 * entry .args .f + turn .loop .i) 0 ≡ faceWalk (turn .loop .i) (getD faceDarts (entry .args .f) 0)
+  here-is : getD (entry .args .steps .now) (64 * entry .args .f + turn .loop .i) 0 ≡ faceWalk (turn .loop .i) (getD faceDarts (entry .args .f) 0)
   here-is =
       let face = entry .pre .2 in
-      entry .pre .1 _ (omega arith) ∙ walk-place (entry .args .f) (turn .loop .i) (omega arith)
+      entry .pre .1 _ (omega arith) ∙ step-face (entry .args .f) (turn .loop .i) (omega arith)
 
   here-low : faceWalk (turn .loop .i) (getD faceDarts (entry .args .f) 0) < 48
   here-low = walk-low (turn .loop .i) _ (first-low (entry .args .f) (entry .pre .2))
 
-  to-is : getD (entry .args .walk .now) (8 * (entry .args .r % 48 / 8) + c .beside .result) 0 ≡ faceWalk (turn .loop .i) (walkAt (entry .args .r % 48))
-  to-is =
-      let low = beside-low (entry .args .r % 8) (turn .loop .i) in
-      let is = c .beside .ensures in
-      entry .pre .1 _ (omega arith) ∙ ap (λ (x : ℕ). walkAt (8 * (entry .args .r % 48 / 8) + x)) is
-      ∙ beside-place (entry .args .r) (turn .loop .i) (omega arith)
+  to-is : getD (entry .args .steps .now) (8 * (entry .args .r % 48) + turn .loop .i) 0 ≡ faceWalk (turn .loop .i) (walkAt (entry .args .r % 48))
+  to-is = entry .pre .1 _ (omega arith) ∙ step-place (entry .args .r % 48) (turn .loop .i) (omega arith)
 
   to-low : faceWalk (turn .loop .i) (walkAt (entry .args .r % 48)) < 48
   to-low = walk-low (turn .loop .i) _ (place-low (entry .args .r % 48) (omega arith))
 
 add-d : tie.Need-add-d Inv-loop μ-loop
-add-d c = let is = c .beside .ensures in let low = beside-low (start (c .before .before) .args .r % 8) (c .before .before .loop .i) in omega arith
+add-d c = omega arith
 
 element-copy-out-d : tie.Need-element-copy-out-d Inv-loop μ-loop
-element-copy-out-d c = let is = c .beside .ensures in let low = beside-low (start (c .before .before) .args .r % 8) (c .before .before .loop .i) in omega arith
+element-copy-out-d c = omega arith
 
 cast-d : tie.Need-cast-d Inv-loop μ-loop
 cast-d c = omega (arith, to-is (c .before), to-low (c .before))
@@ -108,12 +99,12 @@ loop-again c =
     let (up, long, sews) = l .loop .inv in (
       omega arith,
       simp length-set long,
-      λ g h. rw (here-is b) (sews-more (sews g h) _ (ap (λ (x : ℕ). 48 * (start l .args .r / 48) + x) (to-is b) ∙ sym (h (l .loop .i) (omega arith)))
+      λ g h. rw (here-is b) (sews-more (sews g h) _ (ap (λ (x : ℕ). 48 * (entry b .args .r / 48) + x) (to-is b) ∙ sym (h (l .loop .i) (omega arith)))
           (let low = here-low b in omega arith)),
     )
 
 same-length : tie.Need-same-length Inv-loop μ-loop
-same-length c = let was = c .before .before .before .pre .0 in let is = c .before .loop .inv .1 in omega arith
+same-length c = let was = c .before .before .pre .0 in let is = c .before .loop .inv .1 in omega arith
 
 returns : tie.Need-returns Inv-loop μ-loop
 returns c =
@@ -128,9 +119,8 @@ sew-face-spec =
     Inv-loop
     μ-loop
     mul-cell
-    mul-face
+    mul-there
     loop-holds
-    beside-requires
     add-d
     element-copy-out-d
     cast-d

@@ -8,29 +8,25 @@ use borrow.Author.Needs.{needs}
 use Rattle.model.specs.Journal.{cursor}
 use Rattle.model.specs.Faces.{vtkTable}
 use Rattle.drafts.specs.Passes.{Pass}
-use Rattle.vtk_faces.specs.Faces.{Sited}
-use Rattle.vtk_table.specs.Cells.{Walks, RecordWords, TableWords, Placed, NewCell, NewCells}
+use Rattle.vtk_table.specs.Cells.{Steps, RecordWords, TableWords, Placed, NewCell, NewCells}
 use Rattle.vtk_table.proofs.Placing.{placed-none}
 use Rattle.vtk_table.proofs.Drafting.{cells-none, cells-new, cells-long, cells-word, cells-all}
 use Rattle.vtk_table.proofs.write_cells.Statement.{statement}
 use Rattle.vtk_table.proofs.write_cells.Tie as tie
 
 abbrev Inv-loop : tie.InvT-loop
-Inv-loop table₀ journal₀ rows mates cells sites words own walk thirds₀ w₀ c₀ table journal thirds w c =
+Inv-loop table₀ journal₀ mates cells words own steps thirds₀ w₀ c₀ table journal thirds w c =
     (c ≤ cells) × (length thirds ≡ 48)
-    × ((rs : List (List ℕ)) → NewCells table₀ rs rows mates cells journal₀
+    × ((rs : List (List ℕ)) → NewCells table₀ rs mates cells journal₀
     → Placed table₀ (vtkTable table₀ rs) (4 * (48 * c)) table × Pass table₀ (vtkTable table₀ rs) journal₀ (48 * c) w journal)
-    × Sited sites × RecordWords words × TableWords own × Walks walk
+    × RecordWords words × TableWords own × Steps 384 steps
 
 abbrev μ-loop : tie.MeasureT-loop
-μ-loop table₀ journal₀ rows mates cells sites words own walk thirds₀ w₀ c₀ table journal thirds w c = cells - c
+μ-loop table₀ journal₀ mates cells words own steps thirds₀ w₀ c₀ table journal thirds w c = cells - c
 
 -- the function's entry, from where the loop begins
 abbrev start : tie.After-slice-known3 Inv-loop μ-loop → tie.Start Inv-loop μ-loop
-start c = c .before .before .before .before .before .before .before .before .before
-
-sites-requires : tie.Need-sites-requires Inv-loop μ-loop
-sites-requires c κs = search needs
+start c = c .before .before .before .before .before .before .before
 
 record-words-requires : tie.Need-record-words-requires Inv-loop μ-loop
 record-words-requires c κs = search needs
@@ -38,8 +34,8 @@ record-words-requires c κs = search needs
 table-words-requires : tie.Need-table-words-requires Inv-loop μ-loop
 table-words-requires c κs = search needs
 
-walks-requires : tie.Need-walks-requires Inv-loop μ-loop
-walks-requires c κs = search needs
+steps-requires : tie.Need-steps-requires Inv-loop μ-loop
+steps-requires c κs = search needs
 
 slice-read-w : tie.Need-slice-read-w Inv-loop μ-loop
 slice-read-w c = let rule = start c .pre .are .rule .long in omega arith
@@ -57,10 +53,9 @@ loop-holds c =
       omega arith,
       refl,
       λ rs N. (placed-none _ _, cells-none N),
-      k .before .before .before .sites .ensures,
       k .before .before .record-words .ensures,
       k .before .table-words .ensures,
-      k .walks .ensures,
+      k .steps .ensures,
     )
 
 slice-aggregate-sew-cell : tie.Need-slice-aggregate-sew-cell Inv-loop μ-loop
@@ -68,14 +63,14 @@ slice-aggregate-sew-cell c = sym (c .before .before .loop .inv .1)
 
 sew-cell-requires : tie.Need-sew-cell-requires Inv-loop μ-loop
 sew-cell-requires c κs =
-    let l = c .before .before .before .before in
-    let (up, long, written, sited, words, own, walks) = l .loop .inv in
+    let l = c .before .before .before in
+    let (up, long, written, words, own, steps) = l .loop .inv in
     let N = start (l .before) .pre .are in
-    (long, record { t = _; rows = _; cells = N .are; low = let number = N .number in omega arith }, sited, walks)
+    (long, record { t = _; rows = _; cells = N .are; low = let number = N .number in omega arith }, steps)
 
 module _ (c : tie.After-sew-cell Inv-loop μ-loop) where
   abbrev turn : tie.At-loop Inv-loop μ-loop
-  turn = c .before .before .before .before .before
+  turn = c .before .before .before .before
 
   abbrev entry : tie.Start Inv-loop μ-loop
   entry = start (turn .before)
@@ -83,7 +78,7 @@ module _ (c : tie.After-sew-cell Inv-loop μ-loop) where
   long : length (c .sew-cell .last .0) ≡ 48
   long = search needs
 
-  module _ (rs : List (List ℕ)) (N : NewCells (entry .args .table .now) rs (entry .args .rows .now) (entry .args .mates .now) (entry .args .cells)
+  module _ (rs : List (List ℕ)) (N : NewCells (entry .args .table .now) rs (entry .args .mates .now) (entry .args .cells)
       (entry .args .journal .now))
     where
       here : Placed (entry .args .table .now) (vtkTable (entry .args .table .now) rs) (4 * (48 * turn .loop .c)) (turn .loop .table)
@@ -99,7 +94,7 @@ module _ (c : tie.After-sew-cell Inv-loop μ-loop) where
 write-cell-requires : tie.Need-write-cell-requires Inv-loop μ-loop
 write-cell-requires c κs =
     let s = c .before .before .before .before .before .before in
-    let (up, long, written, sited, words, own, walks) = turn s .loop .inv in
+    let (up, long, written, words, own, steps) = turn s .loop .inv in
     let N = entry s .pre .are in
     let (placed, pass) = here s _ N in
     (words, own, record { t = _; u = _; j = _; rule = N .rule; placed = placed; pass = pass; new = new s _ N })
@@ -123,14 +118,13 @@ loop-again : tie.Need-loop-again Inv-loop μ-loop
 loop-again c =
     let w = c .before .before .before .before in
     let s = w .before .before .before .before .before .before .before in
-    let (up, was, written, sited, words, own, walks) = turn s .loop .inv in (
+    let (up, was, written, words, own, steps) = turn s .loop .inv in (
       omega arith,
       long s,
       λ rs N. let (placed, pass) = here s rs N in w .write-cell .ensures _ _ _ placed pass (new s rs N),
-      sited,
       words,
       own,
-      walks,
+      steps,
     )
 
 same-length : tie.Need-same-length Inv-loop μ-loop
@@ -157,10 +151,9 @@ write-cells-spec =
     (tie.spec
     Inv-loop
     μ-loop
-    sites-requires
     record-words-requires
     table-words-requires
-    walks-requires
+    steps-requires
     slice-read-w
     cast-w
     add-w
