@@ -33,7 +33,7 @@
  *     phl_remove             5368   87336
  *     phl_split             10456  294776
  *     phl_insert            15092  396020
- *     phl_read_vtk         158896  158896
+ *     phl_read_vtk         159184  159184
  *     phl_undo                256     256
  *     phl_redo                256     256
  *
