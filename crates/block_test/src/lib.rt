@@ -1,4 +1,6 @@
 // The block test: the least slot in a wrong cell. Each cell is tested once.
+#![tactic(auto)]
+
 ghost use Rattle.std.specs.Prelude.{◌≡◌, true, ℕ, ◌<◌, ◌≤◌, length, get_or};
 ghost use Rattle.model.specs.Table.{slots};
 ghost use Rattle.model.specs.Map.{is_map};

@@ -1,5 +1,7 @@
 // add: one free cell in the lowest unused slots. The call takes any input, and its contract is an equation with the model's
 // definition of the call.
+#![tactic(auto)]
+
 ghost use Rattle.std.specs.Prelude.{◌≡◌, List, [], ℕ, ◌≤◌, ◌<◌, length, get_or};
 ghost use Rattle.model.specs.Cell.{cell_size};
 ghost use Rattle.model.specs.Numbering.{cell_link};

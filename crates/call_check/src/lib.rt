@@ -1,4 +1,6 @@
 // check: whether a table is a map, and whether it is a block map.
+#![tactic(auto)]
+
 ghost use Rattle.std.specs.Prelude.{◌≡◌, []};
 ghost use Rattle.model.specs.Calls.{check_call};
 ghost use Rattle.answers.specs.Answers.{outcome};

@@ -1,5 +1,7 @@
 // insert: a layer of cells along a wall. The call takes any input, and its contract is an equation with the model's definition of the
 // call.
+#![tactic(auto)]
+
 ghost use Rattle.std.specs.Prelude.{◌≡◌, true, List, ℕ, ◌+◌, ◌*◌, ◌≤◌, ◌<◌, length, get_or, drop};
 ghost use Rattle.model.specs.Lists.{ones};
 ghost use Rattle.model.specs.Table.{slots};

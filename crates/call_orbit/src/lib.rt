@@ -1,4 +1,6 @@
 // orbit: what is reached from a dart by the links of a mask.
+#![tactic(auto)]
+
 ghost use Rattle.std.specs.Prelude.{◌≡◌, [], ◌≤◌, length};
 ghost use Rattle.model.specs.Orbit.{orbit_place};
 ghost use Rattle.model.specs.Table.{slots};

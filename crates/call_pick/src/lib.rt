@@ -1,4 +1,6 @@
 // pick: the sheet of a dart, found over a queue that the caller lends.
+#![tactic(auto)]
+
 ghost use Rattle.std.specs.Prelude.{◌≡◌, ◌≢◌, false, [], ◌∷◌};
 ghost use Rattle.model.specs.Checks.{in_order, must, dim_ok, table_ok, marks_ok};
 ghost use Rattle.model.specs.Calls.{pick_call, pick_taken};
@@ -8,7 +10,7 @@ ghost use Rattle.answers.specs.Openings.{Settles};
 use answers::{Answer, numbers};
 
 // "It reports how many it took off."
-#[derive(Drop)]
+#[derive(Clone, Copy)]
 pub struct Picked {
     pub answer: Answer,
     pub taken: u32,

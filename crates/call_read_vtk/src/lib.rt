@@ -1,5 +1,7 @@
 // read_vtk: the cells of a VTK legacy text, in a table with no live slot. The call takes any input, and its contract is an equation with
 // the model's definition of the call.
+#![tactic(auto)]
+
 ghost use Rattle.std.specs.Prelude.{◌≡◌, true, not, List, [], ℕ, ◌≤◌, ◌<◌};
 ghost use Rattle.model.specs.Lists.{all_below};
 ghost use Rattle.model.specs.Table.{slots, live};

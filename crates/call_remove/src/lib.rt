@@ -1,5 +1,7 @@
 // remove: a layer of cells is taken away. The call takes any input, and its contract is an equation with the model's definition of
 // the call.
+#![tactic(auto)]
+
 ghost use Rattle.std.specs.Prelude.{◌≡◌, List, ℕ, ◌+◌, ◌*◌, ◌≤◌, ◌<◌, length, get_or};
 ghost use Rattle.model.specs.Lists.{count};
 ghost use Rattle.model.specs.Table.{slots};
@@ -19,7 +21,7 @@ use walk::first_outside;
 mod walk;
 
 // How many darts are taken away, and how many are at the edge: these remain, and their link n led to a dart taken away.
-#[derive(Drop)]
+#[derive(Clone, Copy)]
 struct Counts {
     darts: u32,
     edge: u32,

@@ -1,5 +1,7 @@
 // sew: the side of d is joined to the side of e by link i; and a list of sews. The calls take any input, and their contracts are
 // equations with the model's definitions of them.
+#![tactic(auto)]
+
 ghost use Rattle.std.specs.Prelude.{◌≡◌, []};
 ghost use Rattle.model.specs.Checks.{pass, in_order, list_checks};
 ghost use Rattle.model.specs.Calls.{sew_call, sew_list_call};

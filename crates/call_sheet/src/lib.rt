@@ -1,4 +1,6 @@
 // sheet: the sheet of a dart, the cells that it goes through, and what touches them.
+#![tactic(auto)]
+
 ghost use Rattle.std.specs.Prelude.{◌≡◌, [], ◌*◌, ◌≤◌, length};
 ghost use Rattle.model.specs.Table.{slots};
 ghost use Rattle.model.specs.Checks.{in_order, pass, sheet_checks};

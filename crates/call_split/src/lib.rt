@@ -1,5 +1,7 @@
 // split: the cells that a sheet goes through are split in two. The call takes any input, and its contract is an equation with the
 // model's definition of the call.
+#![tactic(auto)]
+
 ghost use Rattle.std.specs.Prelude.{◌≡◌, ◌*◌, ◌≤◌, length};
 ghost use Rattle.model.specs.Lists.{ones};
 ghost use Rattle.model.specs.Table.{slots};

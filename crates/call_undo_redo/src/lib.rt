@@ -1,4 +1,6 @@
 // undo and redo: the record before the cursor is taken back, or the one at the cursor put again. `step` is both.
+#![tactic(auto)]
+
 ghost use Rattle.std.specs.Prelude.{◌+◌, ◌≤◌, ◌≡◌, []};
 ghost use Rattle.model.specs.Journal.{record_length};
 ghost use Rattle.model.specs.Checks.{pass, dim_ok, table_ok, journal_ok};

@@ -1,5 +1,7 @@
 // unsew: each dart of d's side and its partner become i-free. The call takes any input, and its contract is an equation with the
 // model's definition of the call.
+#![tactic(auto)]
+
 ghost use Rattle.std.specs.Prelude.{◌≡◌, true, [], ℕ, ◌<◌, length};
 ghost use Rattle.model.specs.Table.{live};
 ghost use Rattle.model.specs.Checks.{pass, in_order, unsew_checks};

@@ -1,4 +1,6 @@
 // One cell as a value: its darts listed by their places.
+#![tactic(auto)]
+
 ghost use Rattle.std.specs.Prelude.{◌≡◌, ◌^◌, ◌<◌, ◌≤◌, length, get_or};
 ghost use Rattle.model.specs.Cell.{cell_size};
 ghost use Rattle.model.specs.Numbering.{corners};

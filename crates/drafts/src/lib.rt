@@ -1,4 +1,6 @@
 // The record of an operation, written at the cursor: drafted in a rising pass over the table, closed, and its values put.
+#![tactic(auto)]
+
 ghost use Rattle.std.specs.Prelude.{◌≡◌, List, [], ◌∷◌, ◌++◌, ℕ, ◌+◌, ◌*◌, ◌≤◌, length};
 ghost use Rattle.model.specs.Journal.{Change, cursor, changes_from, record_length, record_of, written};
 ghost use Rattle.drafts.specs.Drafts.{drafted};

@@ -1,4 +1,6 @@
 // Buffers to begin with: words and bytes that are all the same, and a fresh journal.
+#![tactic(auto)]
+
 ghost use Rattle.std.specs.Prelude.{◌≡◌, ◌≤◌, length, replicate};
 ghost use Rattle.model.specs.Runs.{begin};
 

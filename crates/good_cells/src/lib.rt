@@ -1,5 +1,7 @@
 // Whether a cell, listed by its places, is good: its links lead where the numbering says, its first dart is listed once, and no side is
 // folded.
+#![tactic(auto)]
+
 ghost use Rattle.std.specs.Prelude.{◌≡◌, ◌*◌, ◌<◌};
 ghost use Rattle.model.specs.Cell.{cell_of, good_cell};
 ghost use Rattle.model.specs.Numbering.{corners};

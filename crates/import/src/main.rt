@@ -1,5 +1,7 @@
 // The program `import`: a VTK text is read from standard input, and the map that it gives is written in pieces, or why it is
 // refused.
+#![tactic(auto)]
+
 ghost use Rattle.std.specs.Prelude.{◌≡◌, ◌++◌, ◌≤◌, ◌<◌, length, take};
 ghost use Rattle.model.specs.Import.{longest_text, to_lines, imported};
 
@@ -11,7 +13,7 @@ const SLOTS: u32 = 512;
 const BYTES: usize = 49152;
 
 // The first piece ends at the byte `at`; behind it come the lines of so many slots.
-#[derive(Drop)]
+#[derive(Clone, Copy)]
 struct Begun {
     at: usize,
     slots: u32,

@@ -1,5 +1,7 @@
 // Records of the journal: room for one, the test whether one is broken, and putting its values into a table. Each word is read and
 // written within the journal and the table, whatever a record says.
+#![tactic(auto)]
+
 ghost use Rattle.std.specs.Prelude.{◌≡◌, true, [], ◌∷◌, ◌+◌, ◌-◌, ◌<◌, ◌≤◌, length, get_or, leb};
 ghost use Rattle.model.specs.Journal.{cursor, end, changes_at, put, record_length, sound, unbroken};
 ghost use Rattle.journal.specs.Records.{change_at, value_put, within};
@@ -107,7 +109,7 @@ pub fn unbroken(redo: bool, table: &[u32], journal: &[u32], a: usize, k: u32) ->
 }
 
 // A record in the journal: the word where it begins, and how many changes it has.
-#[derive(Drop)]
+#[derive(Clone, Copy)]
 pub struct RecordAt {
     pub start: usize,
     pub count: u32,

@@ -1,4 +1,6 @@
 // The calls, each exported from its crate.
+#![tactic(auto)]
+
 pub use call_add::add;
 pub use call_check::check;
 pub use call_insert::insert;

@@ -1,5 +1,7 @@
 // The session as a machine: the input comes in pieces, and what is printed for a piece is written into a lent buffer. The
 // machine is a `Session`, by value, and the lent buffers: the line so far, the table, the marks and the journal.
+#![tactic(auto)]
+
 ghost use Rattle.std.specs.Prelude.{◌≡◌, List, false, ℕ, ◌+◌, ◌*◌, ◌<◌, ◌≤◌, length, take};
 ghost use Rattle.model.specs.Text.{newline};
 ghost use Rattle.model.specs.Session.{session};
@@ -13,7 +15,7 @@ mod taking;
 use texts::Given;
 
 // The key of the line that is due.
-#[derive(Drop)]
+#[derive(Clone, Copy)]
 pub enum Key {
     Dim,
     Slots,
@@ -24,7 +26,7 @@ pub enum Key {
 }
 
 // What the lines so far have given.
-#[derive(Drop)]
+#[derive(Clone, Copy)]
 pub struct Session {
     // `bad=` has been printed
     pub done: bool,
@@ -40,7 +42,7 @@ pub struct Session {
 }
 
 // A session, and the place behind what it has printed.
-#[derive(Drop)]
+#[derive(Clone, Copy)]
 pub struct Step {
     pub session: Session,
     pub at: usize,

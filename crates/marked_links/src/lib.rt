@@ -1,4 +1,6 @@
 // The record of sew and unsew: link i of marked darts changes, from the dart itself to another dart, or back.
+#![tactic(auto)]
+
 ghost use Rattle.std.specs.Prelude.{◌≡◌, true, false, List, ℕ, ◌+◌, ◌≤◌, ◌<◌, length};
 ghost use Rattle.model.specs.Journal.{changes_from};
 ghost use Rattle.scans.specs.Clear.{Grouped, Skips};

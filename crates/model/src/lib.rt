@@ -1,1 +1,2 @@
 // The model: definitions and worked cases in specs/, and no code.
+#![tactic(auto)]

@@ -1,5 +1,7 @@
 // The new darts of split and insert: the darts that get them listed with the places of their new ones, the links of these, and the record
 // that makes them.
+#![tactic(auto)]
+
 use reading::{UNUSED, link_in};
 
 mod layer;

@@ -1,4 +1,6 @@
 // The numbering of a cell: each dart has a place, 8p + s for n = 3 and 4p + s for n = 2, by its axis order p and its vertex s.
+#![tactic(auto)]
+
 ghost use Rattle.std.specs.Prelude.{◌≡◌, ◌≢◌, ◌<◌};
 ghost use Rattle.model.specs.Cell.{cell_size};
 ghost use Rattle.model.specs.Numbering.{corners, swap_first, swap_last, cell_link};

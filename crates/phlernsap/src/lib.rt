@@ -1,5 +1,7 @@
 // The C interface: the calls, each proved against the same definition of the model as the call below it. The number is
 // returned, place and count are stored, and of pick how many darts it took off. include/phlernsap.h says it in C.
+#![tactic(auto)]
+
 ghost use Rattle.std.specs.Prelude.{◌≡◌, ◌≢◌, []};
 ghost use Rattle.model.specs.Calls.{check_call, orbit_call, sheet_call, pick_call, pick_taken, add_call, sew_call, unsew_call};
 ghost use Rattle.model.specs.Calls.{remove_call, split_call, sew_list_call, insert_call, vtk_call, undo_call, redo_call};

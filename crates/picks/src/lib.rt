@@ -1,5 +1,7 @@
 // The sheet of a dart of a block map, over a queue that the caller lends. A dart that is met enters with the first places of its cell; each
 // dart is taken off in turn, and its link n is met. Then the queue lists the sheet, and the other darts of its cells are marked along it.
+#![tactic(auto)]
+
 ghost use Rattle.std.specs.Prelude.{◌≡◌, ℕ, ◌+◌, ◌<◌, ◌≤◌, length, get_or, replicate};
 ghost use Rattle.model.specs.Lists.{count};
 ghost use Rattle.model.specs.Table.{slots};
@@ -15,7 +17,7 @@ use reading::link_in;
 use sheets::mark_other;
 
 // How many darts entered the queue, and how many were taken off.
-#[derive(Drop)]
+#[derive(Clone, Copy)]
 pub struct Found {
     pub entered: u32,
     pub taken: u32,

@@ -1,5 +1,7 @@
 // Plain cells: a cell is plain at d if it stands in the slots from d on in the numbering of a new cell, as add leaves it where the
 // lowest unused slots follow each other. Such a cell is tested as a whole.
+#![tactic(auto)]
+
 ghost use Rattle.std.specs.Prelude.{◌≡◌, true, ℕ, ◌+◌, ◌*◌, ◌<◌, ◌≤◌, length, get_or};
 ghost use Rattle.model.specs.Table.{slots};
 ghost use Rattle.model.specs.Cell.{cell_size};

@@ -1,4 +1,6 @@
 // What a session prints: the answer to a request; at the end the number of live slots, and the links of each.
+#![tactic(auto)]
+
 ghost use Rattle.std.specs.Prelude.{◌≡◌, [], ◌++◌, ◌+◌, ◌*◌, ◌<◌, ◌≤◌, length};
 ghost use Rattle.model.specs.Table.{slots, link};
 ghost use Rattle.model.specs.Table.{live_count};

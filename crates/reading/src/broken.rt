@@ -6,7 +6,7 @@ ghost use Rattle.model.specs.Checks.{pass, dim_ok};
 ghost use Rattle.reading.specs.RuleOf.{rule_of};
 
 // The rules of a map at a slot, in their order, but for the last: where no other is broken, it is that one, by link 3.
-#[derive(Drop)]
+#[derive(Clone, Copy)]
 pub enum Rule {
     LinksLive,
     LinksReturn,

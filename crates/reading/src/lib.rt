@@ -1,4 +1,6 @@
 // Reading the table: links, live and unused slots, the rules of a map, which of them a slot breaks, and the checks 1 to 4.
+#![tactic(auto)]
+
 pub use broken::{Rule, breaking_link};
 
 mod broken;

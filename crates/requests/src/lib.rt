@@ -1,4 +1,6 @@
 // A request: one call on the table, marks and journal that the last one left.
+#![tactic(auto)]
+
 ghost use Rattle.std.specs.Prelude.{◌≡◌, ◌≢◌, ◌⊎◌};
 ghost use Rattle.model.specs.Runs.{do_call};
 ghost use Rattle.model.specs.Session.{call_of};

@@ -1,4 +1,6 @@
 // Passes over all slots: marks cleared, marks of 0 passed over 32 at a time or by groups, the darts with the mark 1 and the lowest unused slots listed.
+#![tactic(auto)]
+
 ghost use Rattle.std.specs.Prelude.{◌≡◌, true, ◌+◌, ◌<◌, ◌≤◌, min, length, take, replicate};
 ghost use Rattle.model.specs.Lists.{ones};
 ghost use Rattle.model.specs.Table.{slots, unused_slots};

@@ -1,12 +1,14 @@
 // The session program: standard input is read piece by piece, and what the session prints for a piece is written before the
 // next is read.
+#![tactic(auto)]
+
 ghost use Rattle.std.specs.Prelude.{◌+◌, ◌<◌, ◌≤◌, length};
 ghost use Rattle.lines.specs.Held.{Room, Kept};
 
 use lines::Session;
 
 // A session after a piece, and whether there may be more of the input.
-#[derive(Drop)]
+#[derive(Clone, Copy)]
 struct Going {
     session: Session,
     more: bool,

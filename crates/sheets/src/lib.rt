@@ -1,5 +1,7 @@
 // The sheet of a dart of a block map, cell by cell: each cell that it meets is listed from a dart of it and marked whole, and the sheet
 // goes on over the sides that it crosses.
+#![tactic(auto)]
+
 ghost use Rattle.std.specs.Prelude.{◌≡◌, ◌+◌, ◌*◌, ◌<◌, ◌≤◌, length, replicate};
 ghost use Rattle.model.specs.Lists.{count};
 ghost use Rattle.model.specs.Table.{slots, link};

@@ -1,5 +1,7 @@
 // Sides walked with no memory but the lists of their darts: a side has two links at most, and a walk by the one and the other in turn
 // comes back to its start. Whether a side has a dart, and two sides walked in step, for sew.
+#![tactic(auto)]
+
 ghost use Rattle.std.specs.Prelude.{◌≡◌, ◌≤◌};
 ghost use Rattle.model.specs.Sew.{side};
 ghost use Rattle.model.specs.Reach.{in_set};
@@ -8,7 +10,7 @@ ghost use Rattle.model.specs.Meaning.Pairings.{OnSide};
 ghost use Rattle.sides.specs.Turns.{SideLinks, Same, Alike, Tests, EndTest, Parted, Walked, Mirrors, Mirrored, Apart, InStep};
 
 // The links of a side. Where there is one only, it stands twice; where there is none, n is 2, and link 3 leads from each dart to itself.
-#[derive(Drop)]
+#[derive(Clone, Copy)]
 pub struct Links {
     pub a: u32,
     pub b: u32,
@@ -76,7 +78,7 @@ fn has_end(x: u32, p: u32, u: u32) -> bool
 }
 
 // How many turns lead back to the start, and whether there was an end.
-#[derive(Drop)]
+#[derive(Clone, Copy)]
 struct Round {
     size: usize,
     ended: bool,

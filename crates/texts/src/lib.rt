@@ -1,4 +1,6 @@
 // Text: the value of a line, read; and lines, written behind what stands in a lent buffer.
+#![tactic(auto)]
+
 ghost use Rattle.std.specs.Prelude.{◌≡◌, [], ◌∷◌, ◌+◌, ◌<◌, ◌≤◌, length};
 ghost use Rattle.model.specs.Lists.{equal};
 ghost use Rattle.model.specs.Text.{begins, digits, number, up_to, decimal, said};
@@ -7,7 +9,7 @@ ghost use Rattle.texts.specs.Texts.{given_by, Appended};
 // ---- reading
 
 // What a text gives: a number, or nothing if it does not fit.
-#[derive(Drop)]
+#[derive(Clone, Copy)]
 pub enum Given {
     Value(u32),
     Unfit,

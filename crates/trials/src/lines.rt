@@ -71,7 +71,7 @@ fn names(k: usize) -> u8 {
 }
 
 // What a line does, and the last three of its numbers; and how long the text is behind it.
-#[derive(Drop)]
+#[derive(Clone, Copy)]
 pub struct Row {
     pub kind: u32,
     pub text: usize,
@@ -165,7 +165,7 @@ fn spelled(name: u64, x: u8) -> u64 {
 }
 
 // A word as far as it is read, and whether it goes on.
-#[derive(Drop)]
+#[derive(Clone, Copy)]
 struct Word {
     on: bool,
     name: u64,
@@ -189,7 +189,7 @@ fn with_letter(word: Word, x: u8) -> Word {
 }
 
 // The names are gone through: the place and the name as far as it is read, and the place that was found.
-#[derive(Drop)]
+#[derive(Clone, Copy)]
 struct Search {
     place: u32,
     name: u64,
@@ -231,7 +231,7 @@ fn further(search: Search, name: u64, x: u8) -> Search {
 // ---- its numbers
 
 // How many there are so far, as a digit; the last three of them; and whether the last byte was a digit of the last.
-#[derive(Drop)]
+#[derive(Clone, Copy)]
 struct Found {
     count: u8,
     inside: bool,

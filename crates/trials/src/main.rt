@@ -1,6 +1,8 @@
 // Plays a script, which is read from standard input, and prints it line by line, each with what it gives. A line that is no
 // line of a script, or asks for more than there is, gives a question mark. What the lines are is said at the top of the
 // script, in the file `stdin`.
+#![tactic(auto)]
+
 ghost use Rattle.std.specs.Prelude.{◌≡◌, ◌≤◌, length, take};
 
 use lines::Row;

@@ -4,7 +4,7 @@ use crate::lines::Row;
 use crate::{lines, shows};
 use reading::UNUSED;
 
-#[derive(Drop)]
+#[derive(Clone, Copy)]
 pub struct Stage {
     pub n: u32,
     pub entries: usize,

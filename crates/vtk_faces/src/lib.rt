@@ -1,4 +1,6 @@
 // The cells of a text, in a buffer or block by block: the checks 21, 22 and 23, and for each face the dart that its first one is sewn to.
+#![tactic(auto)]
+
 ghost use Rattle.std.specs.Prelude.{◌≡◌, ◌≢◌, not, List, [], ◌∷◌, ℕ, ◌+◌, ◌*◌, ◌-◌, ◌/◌, ◌≤◌, ◌<◌, min, max, length, get_or, drop, ltb};
 ghost use Rattle.model.specs.Lists.{all_of, equal};
 ghost use Rattle.model.specs.Faces.{listed_at, onward, face_darts, among, same_four, repeats};
@@ -17,7 +19,7 @@ use numbering::cell_link;
 use vtk_rows::read_rows;
 
 // The four vertices of a face, in their order round it.
-#[derive(Drop)]
+#[derive(Clone, Copy)]
 struct Face {
     a: u64,
     b: u64,

@@ -1,5 +1,7 @@
 // Whether a text is of the form of 02, R-1, read from front to back: the version and the title, POINTS, CELLS, CELL_TYPES.
 // Each pass ends with the text's words, whatever the counts say.
+#![tactic(auto)]
+
 ghost use Rattle.std.specs.Prelude.{◌≡◌, false, ◌&&◌, List, [], ◌∷◌, ℕ, ◌+◌, ◌≤◌, ◌<◌, length, drop, set};
 ghost use Rattle.std.proofs.Math.Option.{some};
 ghost use Rattle.model.specs.Lists.{all_of};
@@ -59,7 +61,7 @@ fn behind_keys(text: &[u8], at: usize) -> Place
     vtk_words::behind_word(text, points, b"POINTS")
 }
 
-#[derive(Drop)]
+#[derive(Clone, Copy)]
 enum Points {
     At(u64, usize),
     Unfit,
@@ -86,7 +88,7 @@ fn behind_points(text: &[u8], at: usize) -> Points
 // ---- CELLS
 
 // The words of the buffer that keep the i-th row: eight, or none where it ends before.
-#[derive(Drop)]
+#[derive(Clone, Copy)]
 struct Room {
     base: usize,
     words: u64,
@@ -153,7 +155,7 @@ fn both(a: bool, b: bool) -> bool
     false
 }
 
-#[derive(Drop)]
+#[derive(Clone, Copy)]
 enum Rows {
     At(bool, usize),
     Unfit,
@@ -192,7 +194,7 @@ fn behind_rows(text: &[u8], at: usize, n: u64, size: u64, points: u64, rows: &mu
     Rows::At(eight, p)
 }
 
-#[derive(Drop)]
+#[derive(Clone, Copy)]
 enum Cells {
     At(u64, usize, bool, usize),
     Unfit,
@@ -237,7 +239,7 @@ fn behind_count(text: &[u8], at: usize, n: u64) -> Place
     Place::At(first)
 }
 
-#[derive(Drop)]
+#[derive(Clone, Copy)]
 enum CellType {
     At(bool, usize),
     Unfit,
@@ -255,7 +257,7 @@ fn type_at(text: &[u8], at: usize) -> CellType
     }
 }
 
-#[derive(Drop)]
+#[derive(Clone, Copy)]
 enum Types {
     All(bool),
     Unfit,
@@ -326,7 +328,7 @@ fn eights_hold(text: &[u8], eight: bool, at: usize, first: usize, n: u64) -> boo
 // ---- the form
 
 // Whether the text is of the form; then whether all its cells are of type 12, how many there are, and where their rows begin.
-#[derive(Drop)]
+#[derive(Clone, Copy)]
 pub struct Form {
     pub fits: bool,
     pub twelve: bool,

@@ -1,4 +1,6 @@
 // The cells of a text that is of the form, read as rows of eight numbers into a lent buffer.
+#![tactic(auto)]
+
 ghost use Rattle.std.specs.Prelude.{ℕ, ◌+◌, ◌*◌, ◌≤◌, List, length};
 ghost use Rattle.vtk_rows.specs.Rows.{RowAt, RowRead, EightsAt, EightsRead};
 

@@ -1,4 +1,6 @@
 // Table and record of a read: each cell's links, and where its darts are sewn to.
+#![tactic(auto)]
+
 ghost use Rattle.std.specs.Prelude.{◌≡◌, List, ℕ, ◌+◌, ◌*◌, ◌/◌, ◌%◌, ◌≤◌, ◌<◌, length, get_or, replicate};
 ghost use Rattle.model.specs.Table.{unused, link};
 ghost use Rattle.model.specs.Journal.{changes_from};

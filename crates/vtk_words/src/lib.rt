@@ -1,5 +1,7 @@
 // The words of a lent text: where the next one begins and ends, whether it is a keyword, the plain decimal that it is,
 // and the place behind so many of them. Each is linear in the bytes that it passes, and a number may have any length.
+#![tactic(auto)]
+
 ghost use Rattle.std.specs.Prelude.{◌≡◌, [], ◌∷◌, ℕ, ◌+◌, ◌≤◌, ◌<◌, length, get_or, drop};
 ghost use Rattle.model.specs.Vtk.{is_blank, words, behind_words, counted};
 ghost use Rattle.vtk_words.specs.Words.{WordStart, WordEnd, ends_between, WordEnds, WordsAt, PlaceOf, NumberOf, digits_on, large};
@@ -98,7 +100,7 @@ pub fn skip_words(text: &[u8], at: usize, n: u64) -> usize
 }
 
 // The place behind the next word, if that is the one asked for.
-#[derive(Drop)]
+#[derive(Clone, Copy)]
 pub enum Place {
     At(usize),
     Unfit,
@@ -122,7 +124,7 @@ pub fn behind_word(text: &[u8], at: usize, key: &[u8]) -> Place
 // ---- plain decimals
 
 // The next word as a plain decimal: its value, where it has at most 19 digits, and the place behind it.
-#[derive(Drop)]
+#[derive(Clone, Copy)]
 pub enum Number {
     Value(u64, usize),
     Large(usize),

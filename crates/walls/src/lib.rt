@@ -1,4 +1,6 @@
 // The wall of insert: the tests 28 to 32, and next for each of its darts.
+#![tactic(auto)]
+
 ghost use Rattle.std.specs.Prelude.{◌≡◌, true, not, ◌&&◌, ◌||◌, List, ℕ, ◌+◌, ◌≤◌, ◌<◌, length, get_or, take, eqb};
 ghost use Rattle.model.specs.Lists.{count, ones, all_of};
 ghost use Rattle.model.specs.Table.{slots, link, live};
@@ -15,7 +17,7 @@ use reading::{is_free, link_in, live};
 use scans::{skip_blocks, skip_clear};
 
 // What the tests of a wall find: the number that refuses it, or 0 and how many darts it has.
-#[derive(Drop)]
+#[derive(Clone, Copy)]
 pub struct Tested {
     pub number: u32,
     pub size: u32,

@@ -89,6 +89,8 @@ first_number : {n : ℕ} {t j : List ℕ} (before : List Check) (rs : List Numbe
     → Meets before rs cs → Numbers n t j (numbers_of rs) cs → First rs (number_in (in_order cs))
 unfolding in_order and_then number_in
 first_number before [] [] h no_more w = refl
+first_number before [] (c ∷ cs) h m w = elim m [ ]
+first_number before (r ∷ rs) [] h m w = elim m [ ]
 first_number before (r ∷ rs) (c ∷ cs) h (f next m) (a then w) = first_one r rs c cs a f
     (λ e. first_number (before ++ (c ∷ [])) rs cs (append_passed before (c ∷ []) h ∙ rw e) m w)
 first_number before (r ∷ rs) (c ∷ cs) h (f next_passed m) (a then w) = first_one r rs c cs a (f h)

@@ -60,7 +60,7 @@ module _ (n : ℕ) where
   run_alike : {s r : State} (cs : List Step) → Alike s r → Alike (run n s cs) (run n r cs)
   unfolding run
   run_alike [] a = a
-  run_alike (c ∷ cs) a = run_alike cs (step_alike c a)
+  run_alike {s = s} {r = r} (c ∷ cs) a = run_alike {s = stepped n s c} {r = stepped n r c} cs (step_alike c a)
 
   run_append : (s : State) (cs ds : List Step) → run n s (cs ++ ds) ≡ run n (run n s cs) ds
   unfolding run

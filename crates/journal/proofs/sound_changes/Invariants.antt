@@ -1,0 +1,18 @@
+-- `sound_changes` meets its contract. The loop's invariant: the tests of the changes that are left decide.
+use Prim.Native.Nat.{◌+◌, ◌*◌, ◌<◌}
+use mathlib.Core.Path.{◌≡◌, refl, sym, ◌∙◌}
+use native.Mathlib.Omega.{arith}
+use lib.ListN.{length, drop}
+use borrow.Author.Rules.{rules}
+use borrow.Author.Tests.{not-true, not-false}
+use Rattle.model.specs.Journal.{changes_at, read_changes, sound}
+use Rattle.journal.proofs.Breaks.{sound_stops, sound_goes}
+use Rattle.journal.proofs.sound_changes.Given as goal
+
+abbrev pub invariant-loop-left : goal.invariant-loop-left
+invariant-loop-left l =
+    (sound l.redo l.table 0 (changes_at l.journal l.a l.k) ≡ sound l.redo l.table l.least (read_changes l.left (drop l.w l.journal)))
+    × (l.w + 3 * l.left < length l.journal)
+
+abbrev pub decreases-loop-left : goal.decreases-loop-left
+decreases-loop-left l = l.left

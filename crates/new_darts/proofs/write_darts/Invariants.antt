@@ -1,0 +1,26 @@
+-- `new_darts::write_darts` meets its contract. The loop's invariant: k old darts are behind the pass, whose next triple is at v.
+use Prim.Native.Nat.{ℕ, ◌+◌, ◌*◌, ◌-◌, ◌≤◌, ◌<◌}
+use mathlib.Core.Path.{◌≡◌, refl, sym, ◌∙◌}
+use mathlib.Core.List.{List}
+use native.Mathlib.Omega.{arith}
+use lib.ListN.{get_or}
+use borrow.Author.Rules.{rules}
+use Rattle.drafts.specs.Passes.{OneLink}
+use Rattle.drafts.proofs.Passes.{pass_word, pass_length}
+use Rattle.new_darts.specs.News.{Made}
+use Rattle.new_darts.specs.Drafting.{Drafting}
+use Rattle.new_darts.proofs.News.{new_asked, new_found}
+use Rattle.new_darts.proofs.Lists.{spreads, dart_in, dart_inside, news, dart_link}
+use Rattle.new_darts.proofs.Passing.{draft_length, draft_dart, draft_dart_more, darts_met}
+use Rattle.new_darts.proofs.write_darts.Given as goal
+
+abbrev pub invariant-loop-k : goal.invariant-loop-k
+invariant-loop-k s =
+    (s.p ≤ s.k) × (s.v ≡ s.w + 3 * (s.k - s.p))
+    × ((nexts : List ℕ) (M : Made) (q : ℕ) (j : List ℕ)
+    → Drafting s.n s.insert s.table M nexts s.darts s.fresh s.places s.size j s.p q s.w s.initial.journal
+    → ((l : ℕ) → q ≤ l → l < s.n * s.size → s.x ≤ get_or s.fresh l 0)
+    → Drafting s.n s.insert s.table M nexts s.darts s.fresh s.places s.size j s.k q s.v s.journal)
+
+abbrev pub decreases-loop-k : goal.decreases-loop-k
+decreases-loop-k l = l.size - l.k

@@ -1,0 +1,9 @@
+-- `new_darts::write_split` meets its contract, by that of `write`.
+use borrow.Author.Rules.{rules}
+use Rattle.new_darts.proofs.write_split.Goals as goal
+
+pub write-requires : goal.write-requires
+write-requires c = record { made = _; is = c.requires.1 }
+
+pub returns : goal.returns
+returns c = λ x W. c.write.ensures _ W

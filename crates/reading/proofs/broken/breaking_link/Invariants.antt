@@ -1,0 +1,16 @@
+-- `reading::broken::breaking_link` meets its contract. The loop's invariant: no link passed breaks the rule.
+use Prim.Native.Nat.{ℕ, ◌-◌, ◌≤◌, ◌<◌}
+use mathlib.Core.Path.{◌≡◌, sym, ap, ◌∙◌}
+use mathlib.Core.Bool.{false, not}
+use native.Mathlib.Omega.{arith}
+use borrow.Author.Count.{below_none, below_more}
+use Rattle.model.specs.Map.{keeps_at, breaking_link}
+use Rattle.theorems.proofs.Lists.Scan.{searched}
+use Rattle.reading.specs.RuleOf.{rule_of}
+use Rattle.reading.proofs.broken.breaking_link.Given as goal
+
+abbrev pub invariant-loop-i : goal.invariant-loop-i
+invariant-loop-i l = (l.i ≤ 4) × ((k : ℕ) → k < l.i → not (keeps_at l.n l.table l.d (rule_of l.rule) k) ≡ false)
+
+abbrev pub decreases-loop-i : goal.decreases-loop-i
+decreases-loop-i l = 4 - l.i

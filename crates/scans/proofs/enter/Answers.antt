@@ -1,0 +1,7 @@
+-- `scans::enter` meets its contract.
+use mathlib.Core.Path.{refl}
+use borrow.Author.Rules.{rules}
+use Rattle.scans.proofs.enter.Goals as goal
+
+pub returns-then-listed : goal.returns-then-listed
+returns-then-listed c = rw c.if-listed.true (record { size = refl; word = refl })

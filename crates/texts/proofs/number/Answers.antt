@@ -1,0 +1,23 @@
+-- `texts::number` meets its contract, by the length of the text and its first byte.
+use mathlib.Core.Path.{sym, ap, ◌∙◌}
+use native.Mathlib.Omega.{arith}
+use Rattle.model.specs.Text.{up_to}
+use Rattle.texts.proofs.Reading.{unfit, number_empty, number_one, number_zero, number_many}
+use borrow.Author.Rules.{rules}
+use Rattle.texts.proofs.number.Goals as goal
+
+pub returns-then-text-eq0 : goal.returns-then-text-eq0
+returns-then-text-eq0 c = unfit _ (number_empty _ c.if-text-eq0.true)
+
+pub returns-then-text-eq1 : goal.returns-then-text-eq1
+returns-then-text-eq1 c =
+    c.digits.ensures ∙ ap (up_to c.args.top) (sym (number_one _ c.if-text-eq1.true))
+
+pub returns-then-text-eq48 : goal.returns-then-text-eq48
+returns-then-text-eq48 c =
+    unfit _ (number_zero _ (omega (arith, c.if-text-eq1.false, c.if-text-eq0.false)) c.if-text-eq48.true)
+
+pub returns : goal.returns
+returns c =
+    c.digits-2.ensures ∙ ap (up_to c.args.top) (sym (number_many c.args.text.now (omega arith)
+    c.if-text-eq48.false))

@@ -1,0 +1,16 @@
+-- `vtk_words::skip_few` meets its contract. The loop's invariant: what is left is to pass n - k words from `p` on.
+use Prim.Native.Nat.{ℕ, suc, ◌+◌, ◌≤◌, ◌-◌, ◌<◌}
+use mathlib.Core.Path.{◌≡◌, sym, ap, ◌∙◌}
+use native.Mathlib.Omega.{arith}
+use lib.ListN.{length, drop}
+use lib.Seq.{drop-nil}
+use borrow.Author.Rules.{rules}
+use Rattle.model.specs.Vtk.{words}
+use Rattle.vtk_words.proofs.Passing.{end_none, first_of}
+use Rattle.vtk_words.proofs.skip_few.Given as goal
+
+abbrev pub invariant-loop-k : goal.invariant-loop-k
+invariant-loop-k l = (l.k ≤ l.n) × (l.p ≤ length l.text) × (drop l.n (words (drop l.at l.text)) ≡ drop (l.n - l.k) (words (drop l.p l.text)))
+
+abbrev pub decreases-loop-k : goal.decreases-loop-k
+decreases-loop-k l = l.n - l.k

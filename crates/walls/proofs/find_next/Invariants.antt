@@ -1,0 +1,17 @@
+-- `walls::find_next` meets its contract. The loop's invariant: next of the darts before the k-th is found.
+use Prim.Native.Nat.{◌-◌, ◌≤◌, ◌<◌}
+use mathlib.Core.Path.{◌≡◌, refl, ◌∙◌}
+use native.Mathlib.Omega.{arith}
+use lib.ListN.{length, length-set}
+use Rattle.model.specs.Table.{slots}
+use Rattle.model.specs.Meaning.Sets.{Marked}
+use Rattle.walls.proofs.Passing.{listed_room, listed_marked}
+use Rattle.walls.proofs.Drawings.{dart_in}
+use Rattle.walls.proofs.Nexting.{Found, found_none, found_more, found_all, next_in}
+use Rattle.walls.proofs.find_next.Given as goal
+
+abbrev pub invariant-loop-k : goal.invariant-loop-k
+invariant-loop-k l = Found l.n l.table l.marks l.hs l.next l.k × (l.k ≤ l.size) × (length l.next ≡ length l.initial.next)
+
+abbrev pub decreases-loop-k : goal.decreases-loop-k
+decreases-loop-k l = l.size - l.k

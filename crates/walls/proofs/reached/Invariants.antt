@@ -1,0 +1,23 @@
+-- `walls::reached` meets its contract. The loop's invariant: `Flooded`, and the queue's darts before head have gone their steps.
+use Prim.Native.Nat.{ℕ, ◌+◌, ◌-◌, ◌≤◌, ◌<◌}
+use mathlib.Core.Path.{◌≡◌, refl, sym, ap, ◌∙◌}
+use mathlib.Core.Bool.{true}
+use mathlib.Core.List.{List}
+use native.Mathlib.Omega.{arith}
+use lib.ListN.{length, get_or, set, length-replicate}
+use Rattle.model.specs.Table.{slots}
+use Rattle.model.specs.Wall.{wall_reached}
+use Rattle.model.specs.Meaning.Sets.{Marked}
+use Rattle.reach.specs.Search.{Search, search_of}
+use Rattle.reach.proofs.Flooding.{Spread, Flooding, Gone, gone_none, flooding_space, flooding_fits, start_in, begun, found_on, turned, ended}
+use Rattle.walls.specs.Steps.{step}
+use Rattle.walls.proofs.Flooded.{Flooded, stepping, wall_spread}
+use Rattle.walls.proofs.reached.Given as goal
+
+abbrev pub invariant-loop-head : goal.invariant-loop-head
+invariant-loop-head l =
+    Flooded l.n l.table l.next l.d (search_of l.seen l.queue l.tail)
+    × Gone (λ _. true) (step l.n l.table l.next) (l.n + 1) (search_of l.seen l.queue l.tail) l.head × (length l.queue ≡ length l.initial.queue)
+
+abbrev pub decreases-loop-head : goal.decreases-loop-head
+decreases-loop-head l = slots l.table - l.head
