@@ -1,14 +1,13 @@
 -- What is known where a part fits, and where it does not.
 use Prim.Native.Nat.{ℕ, ◌≤◌, ◌<◌}
-use mathlib.Core.Path.{◌≡◌}
+use mathlib.Core.Path.{◌≡◌, refl}
+use mathlib.Core.Logic.{◌≢◌}
 use mathlib.Core.Bool.{Bool, true, false}
 use mathlib.Core.List.{List, [], ◌∷◌}
 use mathlib.Core.Option.{Option, none, some}
 use native.Mathlib.Omega.{arith}
 use lib.ListN.{length, drop}
 use lib.Dec.{eqb}
-use denote.Enum.Declared
-use types.Run
 use Rattle.model.specs.Lists.{all_of}
 use Rattle.model.specs.Vtk.{words, Counted, numbers, Rows as RowsRead, points_of, cells_of, grid_of}
 use Rattle.model.specs.Meaning.Vtk.{rows_from}
@@ -16,7 +15,6 @@ use Rattle.theorems.proofs.Lists.Scan.{clash}
 use Rattle.vtk_words.specs.Words.{number_at, large}
 use Rattle.vtk_words.specs.declared.Place.{Place}
 use Rattle.vtk_words.specs.declared.Place.TheVariants as place
-use Rattle.vtk_words.specs.contracts.Place as place_tags
 use Rattle.vtk_form.specs.Parts.{LineOf, PointsOf, all_named, RowFits, RowOf, RowsFit, RowsOf, CellsFit, CellsOf, types_left, CountOf, TypeOf, TypesOf}
 use Rattle.vtk_form.specs.Form.{FormOf}
 use Rattle.vtk_form.specs.declared.Points.{Points}
@@ -30,26 +28,21 @@ use Rattle.vtk_form.specs.declared.CellType.TheVariants as type
 use Rattle.vtk_form.specs.declared.Types.{Types}
 use Rattle.vtk_form.specs.declared.Types.TheVariants as all
 use Rattle.vtk_form.specs.declared.Form.{Form}
-use Rattle.vtk_form.specs.contracts.Points as points_tags
-use Rattle.vtk_form.specs.contracts.Rows as rows_tags
-use Rattle.vtk_form.specs.contracts.Cells as cells_tags
-use Rattle.vtk_form.specs.contracts.CellType as type_tags
-use Rattle.vtk_form.specs.contracts.Types as types_tags
 
 module _ (text : List ℕ) (o : Option (List ℕ)) where
   pub line_at : {r : Place} {p : ℕ} → r ≡ place.At p → LineOf text o r → (p ≤ length text) × (o ≡ some (drop p text))
   line_at e h = rw e at h
 
-  pub line_unfit : (r : Place) → Run.OneOf (1 ∷ []) (Declared.tag_of place_tags.the_type r) → LineOf text o r → o ≡ none
-  line_unfit (place.At p) h r = absurd (omega arith)
+  pub line_unfit : (r : Place) → ((p : ℕ) → r ≢ place.At p) → LineOf text o r → o ≡ none
+  line_unfit (place.At p) h r = absurd (h p refl)
   line_unfit place.Unfit h r = r
 
   pub count_at : (n : ℕ) {r : Place} {p : ℕ} → r ≡ place.At p → CountOf text n o r
       → (p ≤ length text) × (o ≡ types_left n (words (drop p text)))
   count_at n e h = rw e at h
 
-  pub count_unfit : (n : ℕ) (r : Place) → Run.OneOf (1 ∷ []) (Declared.tag_of place_tags.the_type r) → CountOf text n o r → o ≡ none
-  count_unfit n (place.At p) h r = absurd (omega arith)
+  pub count_unfit : (n : ℕ) (r : Place) → ((p : ℕ) → r ≢ place.At p) → CountOf text n o r → o ≡ none
+  count_unfit n (place.At p) h r = absurd (h p refl)
   count_unfit n place.Unfit h r = r
 
 module _ (text : List ℕ) (at : ℕ) where
@@ -57,9 +50,9 @@ module _ (text : List ℕ) (at : ℕ) where
       → (p ≤ length text) × (points_of (words (drop at text)) ≡ some (number_at text n p)) × (n < large)
   points_at e h = rw e at h
 
-  pub points_unfit : (r : Points) → Run.OneOf (1 ∷ []) (Declared.tag_of points_tags.the_type r) → PointsOf text at r
+  pub points_unfit : (r : Points) → ((n : ℕ) (p : ℕ) → r ≢ points.At n p) → PointsOf text at r
       → (p : Counted) → points_of (words (drop at text)) ≡ some p → (c : RowsRead) → cells_of p.rest ≡ some c → ⊥
-  points_unfit (points.At n p) h r = absurd (omega arith)
+  points_unfit (points.At n p) h r = absurd (h n p refl)
   points_unfit points.Unfit h r = r
 
 module _ (text : List ℕ) (at k n base room : ℕ) (before after : List ℕ) where
@@ -67,9 +60,9 @@ module _ (text : List ℕ) (at k n base room : ℕ) (before after : List ℕ) wh
       → RowFits text at k n base room before after p
   row_at e h = rw e at h
 
-  pub row_unfit : (r : Place) → Run.OneOf (1 ∷ []) (Declared.tag_of place_tags.the_type r) → RowOf text at k n base room before after r
+  pub row_unfit : (r : Place) → ((p : ℕ) → r ≢ place.At p) → RowOf text at k n base room before after r
       → (row : List ℕ) → numbers k (words (drop at text)) ≡ some row → all_named n row ≡ true → ⊥
-  row_unfit (place.At p) h r = absurd (omega arith)
+  row_unfit (place.At p) h r = absurd (h p refl)
   row_unfit place.Unfit h r = r
 
 module _ (text : List ℕ) (at m size n : ℕ) (buffer : List ℕ) where
@@ -77,9 +70,9 @@ module _ (text : List ℕ) (at m size n : ℕ) (buffer : List ℕ) where
       → RowsFit text at m size n buffer eight p
   rows_at e h = rw e at h
 
-  pub rows_unfit : (r : Rows) → Run.OneOf (1 ∷ []) (Declared.tag_of rows_tags.the_type r) → RowsOf text at m size n buffer r
+  pub rows_unfit : (r : Rows) → ((eight : Bool) (p : ℕ) → r ≢ rows.At eight p) → RowsOf text at m size n buffer r
       → (rows : List (List ℕ)) → rows_from m size (words (drop at text)) ≡ some rows → all_of (all_named n) rows ≡ true → ⊥
-  rows_unfit (rows.At eight p) h r = absurd (omega arith)
+  rows_unfit (rows.At eight p) h r = absurd (h eight p refl)
   rows_unfit rows.Unfit h r = r
 
 module _ (text : List ℕ) (at n : ℕ) (buffer : List ℕ) where
@@ -87,9 +80,9 @@ module _ (text : List ℕ) (at n : ℕ) (buffer : List ℕ) where
       → CellsFit text at n buffer m first eight p
   cells_at e h = rw e at h
 
-  pub cells_unfit : (r : Cells) → Run.OneOf (1 ∷ []) (Declared.tag_of cells_tags.the_type r) → CellsOf text at n buffer r
+  pub cells_unfit : (r : Cells) → ((m : ℕ) (first : ℕ) (eight : Bool) (p : ℕ) → r ≢ cells.At m first eight p) → CellsOf text at n buffer r
       → (c : RowsRead) → cells_of (words (drop at text)) ≡ some c → all_of (all_named n) c.rows ≡ true → ⊥
-  cells_unfit (cells.At m first eight p) h r = absurd (omega arith)
+  cells_unfit (cells.At m first eight p) h r = absurd (h m first eight p refl)
   cells_unfit cells.Unfit h r = r
 
 module _ (text : List ℕ) (o : Option Counted) where
@@ -97,8 +90,8 @@ module _ (text : List ℕ) (o : Option Counted) where
       → (p ≤ length text) × ((v : ℕ) × (o ≡ some (number_at text v p)) × (twelve ≡ eqb v 12))
   type_at e h = rw e at h
 
-  pub type_unfit : (r : CellType) → Run.OneOf (1 ∷ []) (Declared.tag_of type_tags.the_type r) → TypeOf text o r → o ≡ none
-  type_unfit (type.At twelve p) h r = absurd (omega arith)
+  pub type_unfit : (r : CellType) → ((twelve : Bool) (p : ℕ) → r ≢ type.At twelve p) → TypeOf text o r → o ≡ none
+  type_unfit (type.At twelve p) h r = absurd (h twelve p refl)
   type_unfit type.Unfit h r = r
 
 module _ (o : Option (List ℕ)) where
@@ -106,8 +99,8 @@ module _ (o : Option (List ℕ)) where
       → (ts : List ℕ) × (o ≡ some ts) × (twelve ≡ all_of (λ x. eqb x 12) ts)
   types_at e h = rw e at h
 
-  pub types_unfit : (r : Types) → Run.OneOf (1 ∷ []) (Declared.tag_of types_tags.the_type r) → TypesOf o r → o ≡ none
-  types_unfit (all.All twelve) h r = absurd (omega arith)
+  pub types_unfit : (r : Types) → ((twelve : Bool) → r ≢ all.All twelve) → TypesOf o r → o ≡ none
+  types_unfit (all.All twelve) h r = absurd (h twelve refl)
   types_unfit all.Unfit h r = r
 
 pub form_unfit : (text buffer : List ℕ) (f : Form) → f.fits ≡ false → grid_of text ≡ none → FormOf text buffer f

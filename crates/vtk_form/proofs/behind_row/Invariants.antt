@@ -1,0 +1,26 @@
+-- `vtk_form::behind_row` meets its contract. The loop's invariant: i of the numbers are read (`Gone`), name points, and are kept.
+use Prim.Native.Nat.{ℕ, ◌-◌, ◌≤◌}
+use mathlib.Core.Path.{◌≡◌, refl}
+use mathlib.Core.Bool.{true}
+use mathlib.Core.List.{List, [], ◌∷◌, ◌++◌}
+use native.Mathlib.Omega.{arith}
+use lib.ListN.{length, drop, length-append}
+use borrow.Author.Rules.{rules}
+use Rattle.model.specs.Lists.{all_of}
+use Rattle.model.specs.Vtk.{words}
+use Rattle.vtk_words.proofs.Counting.{same_value}
+use Rattle.vtk_words.proofs.Told.{number_at_lem, number_unfit}
+use Rattle.vtk_form.specs.Parts.{all_named, Kept}
+use Rattle.vtk_form.proofs.Gone.{Gone, gone_start, gone_more, gone_next, gone_end}
+use Rattle.vtk_form.proofs.Keeping.{kept_start, kept_more}
+use Rattle.vtk_form.proofs.Named.{named_next, named_more}
+use Rattle.vtk_form.proofs.behind_row.Given as goal
+
+abbrev pub invariant-loop-i : goal.invariant-loop-i
+invariant-loop-i l =
+    (l.i ≤ l.k) × (l.p ≤ length l.text) × (length l.rows ≡ length l.initial.rows)
+    × ((done : List ℕ) × Gone l.k (words (drop l.at l.text)) l.i done (words (drop l.p l.text)) × (all_named l.points done ≡ true)
+    × (length done ≡ l.i) × Kept l.initial.rows l.rows l.base l.room done)
+
+abbrev pub decreases-loop-i : goal.decreases-loop-i
+decreases-loop-i l = l.k - l.i

@@ -1,0 +1,28 @@
+-- `vtk_form::eights_beside` meets its contract. The loop's invariant: i rows and types are passed (`Beside`).
+use Prim.Native.Nat.{ℕ, ◌-◌, ◌≤◌, ◌<◌}
+use mathlib.Core.Path.{◌≡◌, sym, ap, ◌∙◌}
+use mathlib.Core.Bool.{Bool, not, ◌&&◌}
+use mathlib.Core.List.{List}
+use mathlib.Core.Option.{some}
+use native.Mathlib.Omega.{arith}
+use lib.ListN.{length, drop}
+use lib.Dec.{eqb}
+use borrow.Author.Rules.{rules}
+use Rattle.model.specs.Vtk.{words, numbers}
+use Rattle.model.specs.Meaning.Vtk.{rows_from}
+use Rattle.vtk_words.specs.Words.{large}
+use Rattle.vtk_words.proofs.Counting.{none_some}
+use Rattle.vtk_words.proofs.Told.{number_at_lem, number_unfit}
+use Rattle.vtk_form.proofs.Beside.{Beside, beside_start, beside_row, beside_type, beside_more, beside_stop, beside_end}
+use Rattle.vtk_form.proofs.Told.{type_at, type_unfit}
+use Rattle.vtk_form.proofs.eights_beside.Given as goal
+
+abbrev pub invariant-loop-i : goal.invariant-loop-i
+invariant-loop-i l =
+    (l.i ≤ l.n) × (l.p ≤ length l.text) × (l.q ≤ length l.text)
+    × ((rows : List (List ℕ)) → (size : ℕ) → size < large → rows_from l.n size (words (drop l.at l.text)) ≡ some rows
+    → (ts : List ℕ) → numbers l.n (words (drop l.first l.text)) ≡ some ts
+    → Beside l.n l.i (words (drop l.p l.text)) (words (drop l.q l.text)) rows ts)
+
+abbrev pub decreases-loop-i : goal.decreases-loop-i
+decreases-loop-i l = l.n - l.i

@@ -1,0 +1,19 @@
+-- `vtk_rows::read_row` meets its contract. The loop's invariant: i numbers of the row are read (`Going`).
+use Prim.Native.Nat.{ℕ, ◌-◌, ◌≤◌}
+use mathlib.Core.Path.{◌≡◌}
+use mathlib.Core.List.{List}
+use native.Mathlib.Omega.{arith}
+use lib.ListN.{length, length-set}
+use borrow.Author.Rules.{rules}
+use Rattle.vtk_words.proofs.Told.{number_at_lem, number_unfit}
+use Rattle.vtk_rows.specs.Rows.{RowAt}
+use Rattle.vtk_rows.proofs.Reading.{Going, going_start, going_next, going_more, going_read}
+use Rattle.vtk_rows.proofs.read_row.Given as goal
+
+abbrev pub invariant-loop-i : goal.invariant-loop-i
+invariant-loop-i l =
+    (l.i ≤ 8) × (l.p ≤ length l.text) × (length l.rows ≡ length l.initial.rows)
+    × ((row : List ℕ) → RowAt l.text l.at row → Going l.text l.at row l.initial.rows l.rows l.base l.p l.i)
+
+abbrev pub decreases-loop-i : goal.decreases-loop-i
+decreases-loop-i l = 8 - l.i

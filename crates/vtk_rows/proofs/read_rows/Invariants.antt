@@ -1,0 +1,19 @@
+-- `vtk_rows::read_rows` meets its contract. The loop's invariant: c of the rows are read (`Along`).
+use Prim.Native.Nat.{ℕ, ◌-◌, ◌≤◌}
+use mathlib.Core.Path.{◌≡◌}
+use mathlib.Core.List.{List, []}
+use native.Mathlib.Omega.{arith}
+use lib.ListN.{length, get_or}
+use borrow.Author.Rules.{rules}
+use Rattle.vtk_words.proofs.Told.{number_at_lem, number_unfit}
+use Rattle.vtk_rows.specs.Rows.{EightsAt}
+use Rattle.vtk_rows.proofs.Rows.{Along, along_start, along_next, along_row, along_more, along_read}
+use Rattle.vtk_rows.proofs.read_rows.Given as goal
+
+abbrev pub invariant-loop-c : goal.invariant-loop-c
+invariant-loop-c l =
+    (l.c ≤ l.k) × (l.p ≤ length l.text) × (length l.rows ≡ length l.initial.rows)
+    × ((rs : List (List ℕ)) → EightsAt l.text l.at l.k rs → Along l.text rs l.initial.rows l.rows l.p l.c)
+
+abbrev pub decreases-loop-c : goal.decreases-loop-c
+decreases-loop-c l = l.k - l.c
