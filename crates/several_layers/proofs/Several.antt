@@ -60,7 +60,7 @@ unfolding remove_each
 each_kept B [] (with l o rest) = record { table = B; lives = l }
 each_kept {n} {t} {e} B (d ∷ ds) (with le oe (with ld od rest)) =
     let D = dart B d ld in
-    each_kept (remove_block D) ds
+    each_kept {t = remove_table n t d} (remove_block D) ds
     (parted_after B D (λ f i. ⊎_elim (λ q. rw q (share_turn n t e d (oe d (here refl)))) (od f) (in-cons i)) (with le (λ f i. oe f (there i)) rest))
 
 -- ---- another order
@@ -88,7 +88,7 @@ pub each_order : {n : ℕ} {t ds es : List ℕ} → BlockTable n t → Permutes 
 unfolding remove_each
 each_order B nil lone = refl
 each_order {n} {t} B (cons {a = a} {l₂ = es} e p) (with l o rest) =
-    each_order (remove_block (dart B a l)) p (parted_after B (dart B a l) o rest)
+    each_order {t = remove_table n t a} (remove_block (dart B a l)) p (parted_after B (dart B a l) o rest)
     ∙ ap (λ (z : ℕ). remove_each n (remove_table n t z) es) e
 each_order {n} {t} B (swap {a = a} {b = b} {l = ds} e f) (with la oa (with lb ob rest)) =
     ap (λ (u : List ℕ). remove_each n u ds) (remove_order (dart B a la) (dart B b lb) (oa b (here refl)))

@@ -1,0 +1,44 @@
+-- `answers::opening_layer` meets its contract: `opening`, and above it the checks 7 and 8.
+use mathlib.Core.Bool.{not}
+use mathlib.Core.Path.{ap, refl}
+use mathlib.Core.List.{List}
+use borrow.Author.Rules.{rules}
+use Rattle.model.specs.Checks.{Check, map_checks}
+use Rattle.answers.specs.Openings.{opening_checks, layer_checks}
+use Rattle.answers.proofs.Ladder.{Rung, rise, up, out}
+use Rattle.answers.proofs.Verdicts.{passes, refuses, dart_test}
+use Rattle.answers.proofs.Settled.{settles_refusal, settles_front, settles_last}
+use Rattle.answers.proofs.Given.{rules_given, map_given}
+use Rattle.answers.proofs.layer.opening_layer.Goals as goal
+use Rattle.answers.proofs.layer.opening_layer.Goals.{Else-not-live, Else-opened-ne0, Start}
+
+abbrev checks : Start → List Check
+checks p = layer_checks p.args.marks p.args.journal p.args.n p.args.table.now p.args.d
+
+abbrev opened : Else-opened-ne0 → Rung checks 8
+unfolding layer_checks opening_checks map_checks
+opened c = rise 8 (goal.at.Else-opened-ne0 c).Start (c.opening-opened.ensures.passes c.if-opened-ne0.false)
+
+abbrev dart : Else-not-live → Rung checks 9
+unfolding layer_checks opening_checks map_checks
+dart c = up (opened (goal.at.Else-not-live c).Else-opened-ne0) (passes _ 7 (dart_test _ _ c.live.ensures) (ap not c.if-not-live.false))
+
+pub returns-then-opened-ne0 : goal.returns-then-opened-ne0
+unfolding layer_checks opening_checks map_checks
+returns-then-opened-ne0 c = settles_front _ 8 c.opening-opened.ensures c.if-opened-ne0.true
+
+pub returns-then-not-live : goal.returns-then-not-live
+unfolding layer_checks opening_checks map_checks
+returns-then-not-live c =
+    settles_refusal 6
+    (out (opened (goal.at.returns-then-not-live c).Else-opened-ne0) (refuses _ 7 (dart_test _ _ c.live.ensures) (ap not c.if-not-live.true)))
+
+pub blocks-requires : goal.blocks-requires
+unfolding layer_checks opening_checks map_checks
+blocks-requires c =
+    let p = (dart c).passed in
+    (search, search, map_given _ _ (search) (rules_given _ _ p.1.1.1.1))
+
+pub returns : goal.returns
+unfolding layer_checks opening_checks map_checks
+returns c = settles_last (dart (goal.at.returns c).Else-not-live) refl c.blocks-2.ensures

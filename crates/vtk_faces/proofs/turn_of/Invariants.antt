@@ -1,0 +1,15 @@
+-- `vtk_faces::turn_of` meets its contract. The loop's invariant: two readings for each turn are compared (`Seeking`).
+use Prim.Native.Nat.{◌-◌, ◌≤◌}
+use mathlib.Core.Path.{sym, ◌∙◌}
+use mathlib.Core.List.{[], ◌∷◌}
+use native.Mathlib.Omega.{arith}
+use borrow.Author.Rules.{rules}
+use Rattle.vtk_faces.specs.Faces.{four}
+use Rattle.vtk_faces.proofs.Turning.{Seeking, seeking_first, seeking_more, found_here, found_across, found_none}
+use Rattle.vtk_faces.proofs.turn_of.Given as goal
+
+abbrev pub invariant-loop-turn : goal.invariant-loop-turn
+invariant-loop-turn l = (l.turn ≤ 4) × (Seeking (l.initial.a ∷ l.initial.b ∷ l.initial.c ∷ l.initial.d ∷ []) (four l.want) (l.a ∷ l.b ∷ l.c ∷ l.d ∷ []) l.turn)
+
+abbrev pub decreases-loop-turn : goal.decreases-loop-turn
+decreases-loop-turn l = 4 - l.turn
