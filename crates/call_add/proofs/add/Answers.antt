@@ -1,0 +1,131 @@
+-- `call_add::add` meets its contract: its opening, check 14 by the slots listed, 15 by the number of changes; the record drafted and
+-- carried out.
+use mathlib.Core.List.{List}
+use native.Mathlib.Omega.{arith}
+use borrow.Author.Rules.{rules}
+use borrow.Author.Tests.{not-true, not-false}
+use Rattle.model.specs.Checks.{Check, add_checks, map_checks}
+use Rattle.model.specs.Meaning.Maps.{MapTable}
+use Rattle.model.specs.Meaning.Numbers.{JournalRule}
+use Rattle.theorems.proofs.Calls.Pass.{journal_pass, table_of}
+use Rattle.numbering.proofs.Orders.{size_few}
+use Rattle.drafts.proofs.Commits.{fits_room}
+use Rattle.answers.proofs.Ladder.{Rung, up, out, all_passed}
+use Rattle.answers.proofs.Verdicts.{equal_passes, equal_refuses}
+use Rattle.answers.proofs.Settled.{Opening, opened, handed_on}
+use Rattle.answers.proofs.Opened.{opened_journal}
+use Rattle.answers.proofs.Given.{rules_given, told_given}
+use Rattle.answers.proofs.Commits.{commit_full, commit_done}
+use Rattle.call_add.specs.NewCell.{NewCell}
+use Rattle.call_add.proofs.Ends.{add_refused, add_goes, room_test, first_slot, changes_number, new_cell, cell_drafted, first_few}
+use Rattle.call_add.proofs.add.Goals as goal
+use Rattle.call_add.proofs.add.Goals.{After-struct_known-1, Else-list_unused-size, Else-not-record_fits, Else-opened-ne0, Start}
+
+-- ---- the rungs
+abbrev checks : Start → List Check
+checks p = add_checks p.args.n p.args.table.now p.args.journal.now
+
+abbrev opening : After-struct_known-1 → Opening checks 7
+unfolding add_checks map_checks
+opening c = record {
+  entry = (goal.at.After-struct_known-1 c).Start;
+  answer = _;
+  settles = opened_journal _ _ _ _ c.journal_fits.ensures c.opening-opened.ensures;
+}
+
+abbrev map : Else-opened-ne0 → Rung checks 7
+unfolding add_checks map_checks
+map c = opened (opening (goal.at.Else-opened-ne0 c).After-struct_known-1) c.if-opened-ne0.false
+
+abbrev room : Else-list_unused-size → Rung checks 8
+unfolding add_checks map_checks
+room c =
+    up (map (goal.at.Else-list_unused-size c).Else-opened-ne0)
+    (equal_passes _ _ 14 (room_test _ _ c.cell_size-size.ensures c.list_unused.ensures) c.if-list_unused-size.false)
+
+table : (c : Else-opened-ne0) → MapTable c.args.n c.args.table.now
+unfolding add_checks map_checks
+table c = let p = (map c).passed in table_of _ _ (search) (search) (rules_given _ _ p.1.1.1)
+
+rule : (c : Else-opened-ne0) → JournalRule c.args.journal.now
+unfolding add_checks map_checks
+rule c = let p = (map c).passed in journal_pass _ (search)
+
+pub returns-then-opened-ne0 : goal.returns-then-opened-ne0
+unfolding add_checks map_checks
+returns-then-opened-ne0 c = handed_on (opening (goal.at.returns-then-opened-ne0 c).After-struct_known-1) c.if-opened-ne0.true (add_refused _ _ _ _)
+
+pub list_unused-requires : goal.list_unused-requires
+unfolding add_checks map_checks
+list_unused-requires c =
+    let p = (map (goal.at.list_unused-requires c).Else-opened-ne0).passed in
+    let T = table (goal.at.list_unused-requires c).Else-opened-ne0 in
+    let few = size_few _ T.dim in
+    let is = c.cell_size-size.ensures in
+    record { table_value = (search, told_given T); table_in_bounds = omega arith }
+
+pub returns-then-list_unused-size : goal.returns-then-list_unused-size
+unfolding add_checks map_checks
+returns-then-list_unused-size c =
+    add_refused _ _ _ _ (out (map (goal.at.returns-then-list_unused-size c).Else-opened-ne0)
+    (equal_refuses _ _ 14 (room_test _ _ c.cell_size-size.ensures c.list_unused.ensures) c.if-list_unused-size.true))
+
+pub overflow_mul-changes : goal.overflow_mul-changes
+overflow_mul-changes c =
+    let few = size_few _ (table (goal.at.overflow_mul-changes c).Else-opened-ne0).dim in
+    let is = c.cell_size-size.ensures in
+    omega arith
+
+pub record_fits-requires : goal.record_fits-requires
+record_fits-requires c =
+    let r = rule (goal.at.record_fits-requires c).Else-opened-ne0 in
+    let long = r.long in
+    let ends = r.ends in
+    let within = r.within in
+    (omega arith, omega arith)
+
+pub returns-then-not-record_fits : goal.returns-then-not-record_fits
+unfolding add_checks map_checks
+returns-then-not-record_fits c =
+    commit_full _ _ _ _ _ _ _ (add_goes _ _ _ _ (all_passed _ (room (goal.at.returns-then-not-record_fits c).Else-list_unused-size).passed))
+    (changes_number _ _ c.cell_size-size.ensures c.list_unused.ensures (table (goal.at.returns-then-not-record_fits c).Else-opened-ne0) c.if-list_unused-size.false)
+    c.record_fits.ensures (c.if-not-record_fits.true)
+
+-- what the record is drafted from
+cell : (c : Else-not-record_fits) →
+    let a = c.args in
+    NewCell a.n a.table.now c.list_unused.new.words c.cell_size-size.result a.journal.now
+cell c =
+    let T = table (goal.at.Else-not-record_fits c).Else-opened-ne0 in
+    let few = size_few _ T.dim in
+    let is = c.cell_size-size.ensures in
+    let slots = c.list_unused.ensures in
+    let long = slots.long in
+    let number = changes_number _ _ is slots T c.if-list_unused-size.false in
+    new_cell _ _ is slots T c.if-list_unused-size.false _ (omega arith) (rule (goal.at.Else-not-record_fits c).Else-opened-ne0)
+    (fits_room _ _ _ _ number _ c.record_fits.ensures (c.if-not-record_fits.false))
+
+pub write_cell-requires : goal.write_cell-requires
+write_cell-requires c = record { t = _; is = cell (goal.at.write_cell-requires c).Else-not-record_fits }
+
+pub carry_out-requires : goal.carry_out-requires
+carry_out-requires c =
+    let C = cell (goal.at.carry_out-requires c).Else-not-record_fits in
+    record { u = _; j = _; drafted = cell_drafted C _ (c.write_cell.ensures _ C) }
+
+pub overflow_cast-result : goal.overflow_cast-result
+overflow_cast-result c =
+    let few = first_few (cell (goal.at.overflow_cast-result c).Else-not-record_fits) in
+    omega arith
+
+pub returns : goal.returns
+unfolding add_checks map_checks
+returns c =
+    let C = cell (goal.at.returns c).Else-not-record_fits in
+    let is = c.cell_size-size.ensures in
+    let slots = c.list_unused.ensures in
+    let T = table (goal.at.returns c).Else-opened-ne0 in
+    commit_done _ _ _ _ _ _ _ (add_goes _ _ _ _ (all_passed _ (room (goal.at.returns c).Else-list_unused-size).passed))
+    (changes_number _ _ is slots T c.if-list_unused-size.false) c.record_fits.ensures (c.if-not-record_fits.false)
+    (c.carry_out.ensures _ _ (cell_drafted C _ (c.write_cell.ensures _ C)))
+    (first_slot _ _ is slots T c.if-list_unused-size.false) is

@@ -1,0 +1,7 @@
+-- `call_read_vtk::open_read` meets its contract.
+use borrow.Author.Rules.{rules}
+use Rattle.answers.proofs.Settled.{settles_pass}
+use Rattle.call_read_vtk.proofs.open_read.Goals as goal
+
+pub returns-then-opens_empty : goal.returns-then-opens_empty
+returns-then-opens_empty c = settles_pass (c.opens_empty.ensures c.if-opens_empty.true)

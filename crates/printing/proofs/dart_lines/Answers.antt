@@ -1,0 +1,15 @@
+-- `printing::dart_lines` meets its contract: its parts, one behind the other.
+use native.Mathlib.Omega.{arith}
+use Rattle.model.specs.Session.{dart_lines}
+use Rattle.texts.proofs.Writing.{appended_then}
+use borrow.Author.Rules.{rules}
+use Rattle.printing.proofs.dart_lines.Goals as goal
+
+pub to_line-requires : goal.to_line-requires
+to_line-requires c =
+    omega (arith, c.say-to.ensures.1, c.say-to.auto.out, c.requires)
+
+pub returns : goal.returns
+unfolding dart_lines
+returns c =
+    (appended_then c.say-to.ensures.0 c.to_line.ensures.0, omega (arith, c.to_line.ensures.1, c.say-to.ensures.1))

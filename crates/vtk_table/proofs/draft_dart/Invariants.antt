@@ -1,0 +1,23 @@
+-- `vtk_table::draft_dart` meets its contract. The loop's invariant: the links below i are met.
+use Prim.Native.Nat.{ℕ, ◌+◌, ◌*◌, ◌-◌, ◌≤◌, ◌<◌}
+use mathlib.Core.Path.{◌≡◌, sym, ap, ◌∙◌}
+use mathlib.Core.List.{List}
+use native.Mathlib.Omega.{arith}
+use lib.ListN.{get_or, replicate, get_or-replicate}
+use borrow.Author.Rules.{rules}
+use Rattle.model.specs.Table.{unused}
+use Rattle.drafts.specs.Passes.{Met, Pass, FourLinks}
+use Rattle.drafts.proofs.Passes.{slot_none, slot_room, slot_more, slot_length, slot_met, pass_length}
+use Rattle.vtk_table.specs.Cells.{shifts, dart_links}
+use Rattle.vtk_table.proofs.Words.{word_entry, word_old, word_shifted, links_few}
+use Rattle.vtk_table.proofs.Drafting.{wrote_as}
+use Rattle.vtk_table.proofs.draft_dart.Given as goal
+
+abbrev pub invariant-loop-i : goal.invariant-loop-i
+invariant-loop-i l =
+    (l.i ≤ 4)
+    × ((t u j : List ℕ) → Pass t u j (l.cell + l.k) l.w l.initial.journal → FourLinks t u (l.cell + l.k) (replicate 4 unused) (dart_links l.cell l.third l.k)
+    → Met t u j (4 * (l.cell + l.k) + l.i) (l.w + 3 * l.i) l.journal)
+
+abbrev pub decreases-loop-i : goal.decreases-loop-i
+decreases-loop-i l = 4 - l.i
