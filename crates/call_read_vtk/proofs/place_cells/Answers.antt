@@ -16,7 +16,7 @@ use Rattle.answers.proofs.Commits.{commit_full, commit_done}
 use Rattle.call_read_vtk.specs.Formed.{Checked}
 use Rattle.call_read_vtk.proofs.Ends.{rule, read_few, read_goes, read_number, new_cells, cells_drafted}
 use Rattle.call_read_vtk.proofs.place_cells.Goals as goal
-use Rattle.call_read_vtk.proofs.place_cells.Goals.{Else-not-record_fits}
+use Rattle.call_read_vtk.proofs.place_cells.Goals.{After-write_cells, Else-not-record_fits}
 
 pub returns-then-table-cells : goal.returns-then-table-cells
 returns-then-table-cells c text C = read_few C.pass _ c.if-table-cells.true
@@ -46,15 +46,25 @@ write_cells-requires c =
     let some = c.requires.0 in
     record { rows = _; are = new_cells some.are c.if-table-cells.false (fits (goal.at.write_cells-requires c).Else-not-record_fits _ some.are) }
 
+-- table and record are written
+left : (c : After-write_cells) (text : List ℕ) → (C : let a = c.args in
+    Checked a.table.now a.journal.now text a.mates.now a.cells)
+    → let t = c.args.table.now in
+    let j = c.args.journal.now in
+    let u = vtk_table t C.pass.grid.rows in
+    (c.write_cells.new.table ≡ u) × (c.write_cells.new.journal ≡ drafted j (changes_from 0 t u))
+left c text C =
+    c.write_cells.ensures _ (new_cells C c.if-table-cells.false (fits (goal.at.After-write_cells c).Else-not-record_fits text C))
+
 pub close_record-requires : goal.close_record-requires
 close_record-requires c =
     let C = c.requires.0.are in
-    draft_closes (cells_drafted C.pass (room (goal.at.close_record-requires c).After-write_cells _ C) (fits (goal.at.close_record-requires c).Else-not-record_fits _ C) _ (left (goal.at.close_record-requires c).After-write_cells _ C).1)
+    draft_closes (cells_drafted C.pass c.if-table-cells.false (fits (goal.at.close_record-requires c).Else-not-record_fits _ C) _ (left (goal.at.close_record-requires c).After-write_cells _ C).1)
 
 pub returns : goal.returns
 unfolding darts
 returns c text C =
-    commit_done _ _ _ _ _ _ _ (read_goes C.pass (room (goal.at.returns c).After-write_cells text C) _) (read_number C.pass (room (goal.at.returns c).After-write_cells text C)) c.record_fits.ensures
+    commit_done _ _ _ _ _ _ _ (read_goes C.pass c.if-table-cells.false _) (read_number C.pass c.if-table-cells.false) c.record_fits.ensures
     (c.if-not-record_fits.false)
-    ((left (goal.at.returns c).After-write_cells text C).0, c.close_record.ensures _ _ (left (goal.at.returns c).After-write_cells text C).1 (read_number C.pass (room (goal.at.returns c).After-write_cells text C)))
+    ((left (goal.at.returns c).After-write_cells text C).0, c.close_record.ensures _ _ (left (goal.at.returns c).After-write_cells text C).1 (read_number C.pass c.if-table-cells.false))
     refl (ap (λ (k : ℕ). 48 * k) C.pass.number)

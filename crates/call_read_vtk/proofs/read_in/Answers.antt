@@ -24,7 +24,7 @@ empty c = rise 8 (goal.at.After-struct_known-1 c).Start c.requires.0
 
 -- what the form gives
 given : (c : Else-not-form) → let a = c.args in Gives a.text.now a.rows.now a.form
-given c = c.requires.1.fit (c.if-not-form.false)
+given c = c.requires.1.fit (not-false _ c.if-not-form.false)
 
 abbrev form : Else-not-form → Rung checks 9
 unfolding empty_checks vtk_checks map_checks grid_checks
@@ -34,7 +34,7 @@ abbrev types : Else-not-form-2 → Rung checks 10
 unfolding empty_checks vtk_checks map_checks grid_checks
 types c =
     let g = given (goal.at.Else-not-form-2 c).Else-not-form in
-    up (form (goal.at.Else-not-form-2 c).Else-not-form) (passes _ 20 (types_test _ _ g.is g.twelve) (ap not c.if-not-form-2.false))
+    up (form (goal.at.Else-not-form-2 c).Else-not-form) (passes _ 20 (types_test _ _ g.is g.twelve) c.if-not-form-2.false)
 
 cells : (c : Else-not-form-2) →
     let a = c.args in
@@ -46,13 +46,13 @@ cells c = formed _ _ _ _ _ (given (goal.at.Else-not-form-2 c).Else-not-form) (al
 pub returns-then-not-form : goal.returns-then-not-form
 unfolding empty_checks vtk_checks map_checks grid_checks
 returns-then-not-form c =
-    vtk_ends _ _ _ _ _ (out (empty (goal.at.returns-then-not-form c).After-struct_known-1) (form_refuses _ (c.requires.1.unfit (c.if-not-form.true))))
+    vtk_ends _ _ _ _ _ (out (empty (goal.at.returns-then-not-form c).After-struct_known-1) (form_refuses _ (c.requires.1.unfit (not-true _ c.if-not-form.true))))
 
 pub returns-then-not-form-2 : goal.returns-then-not-form-2
 unfolding empty_checks vtk_checks map_checks grid_checks
 returns-then-not-form-2 c =
     let g = given (goal.at.returns-then-not-form-2 c).Else-not-form in
-    vtk_ends _ _ _ _ _ (out (form (goal.at.returns-then-not-form-2 c).Else-not-form) (refuses _ 20 (types_test _ _ g.is g.twelve) (ap not c.if-not-form-2.true)))
+    vtk_ends _ _ _ _ _ (out (form (goal.at.returns-then-not-form-2 c).Else-not-form) (refuses _ 20 (types_test _ _ g.is g.twelve) c.if-not-form-2.true))
 
 pub read_formed-requires : goal.read_formed-requires
 read_formed-requires c = (cells (goal.at.read_formed-requires c).Else-not-form-2, c.requires.2)

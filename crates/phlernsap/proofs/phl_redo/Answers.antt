@@ -1,0 +1,7 @@
+-- `phlernsap::phl_redo` meets its contract, by that of `kernel::redo`.
+use borrow.Author.Rules.{rules}
+use Rattle.phlernsap.proofs.Gives.{gives}
+use Rattle.phlernsap.proofs.phl_redo.Goals as goal
+
+pub returns : goal.returns
+returns c = gives _ c.give.ensures (search)
