@@ -1,0 +1,21 @@
+-- `lines::taking::fresh` meets its contract.
+use mathlib.Core.Path.{sym}
+use native.Mathlib.Omega.{arith}
+use lib.Seq.{length-take-le}
+use Rattle.lines.proofs.Fresh.{fresh_lent}
+use borrow.Author.Rules.{rules}
+use Rattle.lines.proofs.taking.fresh.Goals as goal
+
+pub slice_bounds-fill_words-end-2 : goal.slice_bounds-fill_words-end-2
+slice_bounds-fill_words-end-2 c =
+    sym (length-take-le _ _ (omega (arith, c.requires.0, c.requires.3)))
+
+pub slice_bounds-fill_bytes-end-2 : goal.slice_bounds-fill_bytes-end-2
+slice_bounds-fill_bytes-end-2 c =
+    sym (length-take-le _ _ (omega (arith, c.requires.1, c.requires.3)))
+
+pub returns : goal.returns
+returns c =
+    fresh_lent c.args.slots c.args.table.now _ c.args.marks.now _ _ (omega (arith, c.requires.0, c.requires.3))
+    c.fill_words.ensures (omega (arith, c.requires.1, c.requires.3)) c.fill_bytes.ensures
+    (rw c.requires.2 at c.fresh_journal.ensures)
