@@ -3,9 +3,11 @@
 #![tactic(auto)]
 
 ghost use Rattle.std.specs.Prelude.{◌+◌, ◌<◌, ◌≤◌, length};
+ghost use Rattle.io.specs.Counts.{IsPrefixLen};
 ghost use Rattle.lines.specs.Held.{Room, Kept};
 
 use lines::Session;
+use std::io::{Read, Stdin};
 
 // A session after a piece, and whether there may be more of the input.
 #[derive(Clone, Copy)]
@@ -14,9 +16,21 @@ struct Going {
     more: bool,
 }
 
-// Reads a piece, and writes what is printed for it. A read that fails is the end of the input.
+// How many bytes of the next piece are read. A read that fails is the end of the input.
+fn read_piece(input: Stdin, piece: &mut [u8]) -> usize
+    ensures { IsPrefixLen result piece.new }
+{
+    let mut reader = input;
+    match reader.read(piece) {
+        Ok(n) => n,
+        Err(_) => 0,
+    }
+}
+
+// Reads a piece, and writes what is printed for it.
 fn turn(
     s: Session,
+    input: Stdin,
     text: &mut [u8],
     table: &mut [u32],
     marks: &mut [u8],
@@ -28,7 +42,7 @@ fn turn(
     ensures { (Kept result.session) × (result.session.line ≤ s.line + 2048) }
 {
     let mut piece = [0u8; 2048];
-    let n = io::count(libc::read(0, &mut piece), &piece);
+    let n = read_piece(input, &mut piece);
     if n == 0 {
         return Going {
             session: s,
@@ -46,13 +60,20 @@ fn turn(
 }
 
 // Nothing says that the input ends, so the turns are counted down, from a number that no input uses up.
-fn run(text: &mut [u8], table: &mut [u32], marks: &mut [u8], journal: &mut [u32], out: &mut [u8])
+fn run(
+    input: Stdin,
+    text: &mut [u8],
+    table: &mut [u32],
+    marks: &mut [u8],
+    journal: &mut [u32],
+    out: &mut [u8],
+)
     requires { (Room text.old table.old marks.old journal.old) × (163840 ≤ length out.old) }
 {
     let mut s = lines::start();
     let mut turns: u64 = 1125899906842624;
     while turns > 0 {
-        let t = turn(s, text, table, marks, journal, out);
+        let t = turn(s, input, text, table, marks, journal, out);
         s = t.session;
         if t.more {
             turns -= 1;
@@ -64,11 +85,18 @@ fn run(text: &mut [u8], table: &mut [u32], marks: &mut [u8], journal: &mut [u32]
     io::write_all(1, &out[..end]);
 }
 
-fn main() {
+fn main(rt: HostRuntime) {
     let mut text = [0u8; 15];
     let mut table = [0u32; 3840];
     let mut marks = [0u8; 960];
     let mut journal = [0u32; 16384];
     let mut out = [0u8; 163840];
-    run(&mut text, &mut table, &mut marks, &mut journal, &mut out);
+    run(
+        rt.stdin(),
+        &mut text,
+        &mut table,
+        &mut marks,
+        &mut journal,
+        &mut out,
+    );
 }

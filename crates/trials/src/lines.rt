@@ -85,7 +85,7 @@ pub struct Row {
 // The next byte, or 0 if there is none.
 fn byte() -> u8 {
     let mut piece = [0u8; 1];
-    if io::count(libc::read(0, &mut piece), &piece) == 0 {
+    if io::read_full(0, &mut piece) == 0 {
         return 0;
     }
     if piece[0] != b'\n' {

@@ -2,11 +2,7 @@
 use Prim.Native.Nat.{ℕ}
 use mathlib.Core.Path.{sym}
 use lib.ListN.{length-replicate}
-use Rattle.import.proofs.text_buffer.Statement.{statement}
-use Rattle.import.proofs.text_buffer.Tie as tie
+use Rattle.import.proofs.text_buffer.Goals as goal
 
-returns : tie.Need-returns
+pub returns : goal.returns
 returns c = sym (length-replicate {A = ℕ} 2097152 0)
-
-pub text-buffer-spec : {M : Type 1} → statement M
-text-buffer-spec = tie.close (tie.spec returns)

@@ -1,0 +1,20 @@
+-- `session::run` is safe and ends. The loop's invariant: the lines are few enough for the turns that are left.
+use mathlib.Core.List.{[]}
+use Prim.Native.Nat.{◌+◌, ◌*◌, ◌≤◌}
+use mathlib.Core.Path.{◌≡◌, refl, sym, ◌∙◌}
+use native.Mathlib.Omega.{arith}
+use borrow.Author.Rules.{rules}
+use lib.ListN.{length}
+use lib.Seq.{length-take-le}
+use Rattle.lines.specs.Held.{Room, Kept}
+use Rattle.lines.proofs.Feeding.{room_kept}
+use Rattle.texts.proofs.Writing.{appended_inside}
+use Rattle.session.proofs.run.Given as goal
+
+abbrev pub invariant-loop-turns : goal.invariant-loop-turns
+invariant-loop-turns l =
+    Room l.initial.turns l.text l.table l.marks × Kept l.out × (l.out.line + 2048 * l.s ≤ 2305843009213693953) × (length l.initial.turns ≡ length l.input)
+    × (length l.text ≡ length l.initial.text) × (length l.table ≡ length l.initial.table) × (length l.marks ≡ length l.initial.marks) × (length l.journal ≡ length l.initial.journal)
+
+abbrev pub decreases-loop-turns : goal.decreases-loop-turns
+decreases-loop-turns l = l.s
