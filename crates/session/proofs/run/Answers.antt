@@ -28,14 +28,14 @@ pub loop-turns-preserved-then-t : goal.loop-turns-preserved-then-t
 loop-turns-preserved-then-t c =
     let g = c.loop-turns.invariant in
     let k = c.turn-t.auto in (
-      room_kept g.0 k.1.0 k.1.1.0 k.1.1.1.0 k.1.1.1.1.0,
+      room_kept g.0 k.text k.table k.marks k.journal,
       c.turn-t.ensures.0,
       omega (arith, c.turn-t.ensures.1, g.2, c.loop-turns-test.true),
-      k.1.0 ∙ g.3,
-      k.1.1.0 ∙ g.4,
-      k.1.1.1.0 ∙ g.5,
-      k.1.1.1.1.0 ∙ g.6,
-      k.1.1.1.1.1.0 ∙ g.7,
+      k.text ∙ g.3,
+      k.table ∙ g.4,
+      k.marks ∙ g.5,
+      k.journal ∙ g.6,
+      k.out ∙ g.7,
     )
 
 pub loop-turns-smaller : goal.loop-turns-smaller
@@ -45,14 +45,14 @@ pub loop-turns-preserved : goal.loop-turns-preserved
 loop-turns-preserved c =
     let g = c.loop-turns.invariant in
     let k = c.turn-t.auto in (
-      room_kept g.0 k.1.0 k.1.1.0 k.1.1.1.0 k.1.1.1.1.0,
+      room_kept g.0 k.text k.table k.marks k.journal,
       c.turn-t.ensures.0,
       omega (arith, c.turn-t.ensures.1, g.2, c.loop-turns-test.true),
-      k.1.0 ∙ g.3,
-      k.1.1.0 ∙ g.4,
-      k.1.1.1.0 ∙ g.5,
-      k.1.1.1.1.0 ∙ g.6,
-      k.1.1.1.1.1.0 ∙ g.7,
+      k.text ∙ g.3,
+      k.table ∙ g.4,
+      k.marks ∙ g.5,
+      k.journal ∙ g.6,
+      k.out ∙ g.7,
     )
 
 pub finish-end-requires : goal.finish-end-requires

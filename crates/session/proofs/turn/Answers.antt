@@ -8,14 +8,14 @@ use Rattle.session.proofs.turn.Goals as goal
 pub slice_bounds-write_all-end : goal.slice_bounds-write_all-end
 slice_bounds-write_all-end c =
     let told = c.feed-step.ensures in
-    omega (arith, told.few, c.feed-step.auto.out, (goal.at.slice_bounds-write_all-end c).After-feed-arg-5-1, c.requires.line_bound.1)
+    omega (arith, told.few, c.feed-step.auto.out, c.requires.line_bound.1)
 
 pub slice_bounds-write_all-end-2 : goal.slice_bounds-write_all-end-2
 slice_bounds-write_all-end-2 c =
     let told = c.feed-step.ensures in
-    sym (length-take-le _ _ (omega (arith, told.few, c.feed-step.auto.out, (goal.at.slice_bounds-write_all-end-2 c).After-feed-arg-4-1, c.requires.line_bound.1)))
+    sym (length-take-le _ _ (omega (arith, told.few, c.feed-step.auto.out, c.requires.line_bound.1)))
 
 pub returns : goal.returns
 returns c =
     let told = c.feed-step.ensures in
-    (told.kept, omega (arith, told.line, (goal.at.returns c).After-feed-arg-4-1))
+    (told.kept, omega (arith, told.line))
