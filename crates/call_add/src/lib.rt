@@ -16,6 +16,13 @@ ghost use Rattle.call_add.specs.NewCell.{NewCell, SomeCell};
 use answers::{Answer, numbers};
 use reading::UNUSED;
 
+// How many darts a cell has: 8 or 48.
+fn cell_size(n: u32) -> u32
+    ensures { result ≡ cell_size n }
+{
+    if n == 3 { 48 } else { 8 }
+}
+
 // Link i of the k-th dart of the new cell, whose slots are `fresh`.
 fn cell_slot(n: u32, fresh: &[u16], i: u32, k: u32) -> u32
     requires { (Dim n) × (i < 4) × (k < cell_size n) × (cell_size n ≤ length fresh.now) }
@@ -53,7 +60,7 @@ pub fn add(n: u32, table: &mut [u32], journal: &mut [u32], tag: u32) -> Answer
     if opened.number != 0 {
         return opened;
     }
-    let size = numbering::cell_size(n);
+    let size = cell_size(n);
     let mut fresh = [0u16; 48];
     if scans::list_unused(table, &mut fresh, size) != size {
         return numbers::TOO_FEW_SLOTS;

@@ -20,12 +20,12 @@ use Rattle.model.specs.Meaning.Worked.{changes, live_are, restores, as_calls, be
 use Rattle.model.specs.Meaning.Worked.{failing, ListCase, holds_list, failing_lists, PickCase, holds_pick, failing_picks}
 
 -- operations that all have one tag
-tagged : ℕ → List Op → List Call
+unfoldable pub tagged : ℕ → List Op → List Call
 tagged tag [] = []
 tagged tag (p ∷ ps) = Call.op tag p ∷ tagged tag ps
 
 -- Q: one add
-quad : List Op
+unfoldable pub quad : List Op
 quad = Op.add ∷ []
 
 -- T: three quads from 0, 8, 16, sewn by link 2: (5,12), (13,20)
@@ -33,50 +33,50 @@ unfoldable pub three : List Op
 three = Op.add ∷ Op.add ∷ Op.add ∷ Op.sew 2 5 12 ∷ Op.sew 2 13 20 ∷ []
 
 -- Q split in two, as in 3
-halves : List Op
+unfoldable pub halves : List Op
 halves = Op.add ∷ Op.split 0 ∷ []
 
 -- Q's edge of 5 sewn to its edge of 2
-bent : List Op
+unfoldable pub bent : List Op
 bent = Op.add ∷ Op.sew 2 5 2 ∷ []
 
 -- Q with link 0 between 0 and 1 undone
-unlinked : List Op
+unfoldable pub unlinked : List Op
 unlinked = Op.add ∷ Op.unsew 0 0 ∷ []
 
 -- R-3: a quad, and a hexahedron, that fill their table
-quad_table : List ℕ
+unfoldable pub quad_table : List ℕ
 quad_table = add_table 2 (replicate 32 unused)
 
-hexahedron_table : List ℕ
+unfoldable pub hexahedron_table : List ℕ
 hexahedron_table = add_table 3 (replicate 192 unused)
 
 -- R-3: d.i leads to e
-damaged : ℕ → ℕ → ℕ → List ℕ → List ℕ
+unfoldable pub damaged : ℕ → ℕ → ℕ → List ℕ → List ℕ
 damaged d i e t = set t (4 * d + i) e
 
 -- R-4: a quad whose edge of 5 and 7 is sewn onto itself
-folded_edge : List ℕ
+unfoldable pub folded_edge : List ℕ
 folded_edge =
     1 ∷ 4 ∷ 0 ∷ 0 ∷ 0 ∷ 5 ∷ 1 ∷ 1 ∷ 3 ∷ 6 ∷ 2 ∷ 2 ∷ 2 ∷ 7 ∷ 3 ∷ 3
     ∷ 6 ∷ 0 ∷ 4 ∷ 4 ∷ 7 ∷ 1 ∷ 7 ∷ 5 ∷ 4 ∷ 2 ∷ 6 ∷ 6 ∷ 5 ∷ 3 ∷ 5 ∷ 7 ∷ []
 
 -- R-4: a hexahedron whose face of 0 is sewn onto itself, turned about its middle: link 1 is undone at two corners, the halves
 -- of the face are sewn to each other, and link 1 is sewn again
-folded_face : List Op
+unfoldable pub folded_face : List Op
 folded_face = Op.add ∷ Op.unsew 1 0 ∷ Op.unsew 1 19 ∷ Op.sew 3 0 3 ∷ Op.sew 1 0 16 ∷ []
 
 -- R-10: the marks of T's middle layer: 3 on 5, 7, 20 and 22
-middle : List ℕ
+unfoldable pub middle : List ℕ
 middle =
     0 ∷ 0 ∷ 0 ∷ 0 ∷ 0 ∷ 3 ∷ 0 ∷ 3 ∷ 1 ∷ 1 ∷ 1 ∷ 1 ∷ 2 ∷ 2 ∷ 2 ∷ 2 ∷ 0 ∷ 0 ∷ 0 ∷ 0 ∷ 3 ∷ 0 ∷ 3 ∷ 0 ∷ []
 
 -- R-10: Q's edge of 5 sewn to the edge that it faces, so that the layer of 0 touches itself
-ring : List Op
+unfoldable pub ring : List Op
 ring = Op.add ∷ Op.sew 2 5 4 ∷ []
 
 -- R-11: Q with the tag 7, split with the tag 4294967295
-named : List Call
+unfoldable pub named : List Call
 named = Call.op 7 Op.add ∷ Call.op 4294967295 (Op.split 0) ∷ []
 
 -- R-5: what operations make of a table, and of unused slots
@@ -88,88 +88,88 @@ unfoldable pub made : ℕ → ℕ → List Op → List ℕ
 made n slots ps = made_of n (replicate (4 * slots) unused) ps
 
 -- R-5: the marks of a wall, and insert along it
-wall : ℕ → List ℕ → List ℕ
+unfoldable pub wall : ℕ → List ℕ → List ℕ
 wall slots hs = tabulate slots (λ x. elim (member hs x) [ true ↦ 1 | false ↦ 0 ])
 
-insert_at : ℕ → List ℕ → Call
+unfoldable pub insert_at : ℕ → List ℕ → Call
 insert_at slots hs = Call.op 0 (Op.insert (wall slots hs))
 
 -- R-5: the darts of T's wall between its first two quads, whose turns end free; and of both its walls
-between : List ℕ
+unfoldable pub between : List ℕ
 between = 5 ∷ 7 ∷ 12 ∷ 14 ∷ []
 
-both : List ℕ
+unfoldable pub both : List ℕ
 both = 13 ∷ 15 ∷ 20 ∷ 22 ∷ between
 
 -- R-5: two rings, one round the other; round : the wall between them
-rings : List Op
+unfoldable pub rings : List Op
 rings = Op.add ∷ Op.sew 2 5 4 ∷ Op.add ∷ Op.sew 2 13 12 ∷ Op.sew 2 2 8 ∷ []
 
-round : List ℕ
+unfoldable pub round : List ℕ
 round = 2 ∷ 3 ∷ 8 ∷ 9 ∷ []
 
 -- R-5: a ring whose other two edges are sewn too, one turned: next leads over them
-torus : List Op
+unfoldable pub torus : List Op
 torus = Op.add ∷ Op.sew 2 5 4 ∷ Op.sew 2 0 2 ∷ []
 
 -- R-5: two quads side by side, each with its other two edges sewn, so that they are a tube; the wall of these, one only by next
-tube : List Op
+unfoldable pub tube : List Op
 tube = Op.add ∷ Op.add ∷ Op.sew 2 5 12 ∷ Op.sew 2 0 2 ∷ Op.sew 2 8 10 ∷ []
 
-seams : List ℕ
+unfoldable pub seams : List ℕ
 seams = 0 ∷ 1 ∷ 2 ∷ 3 ∷ 8 ∷ 9 ∷ 10 ∷ 11 ∷ []
 
 -- R-5: a bent quad as in 8, and a ring beside it; the walls of both
-bent_and_ring : List Op
+unfoldable pub bent_and_ring : List Op
 bent_and_ring = bent ++ (Op.add ∷ Op.sew 2 13 12 ∷ [])
 
-apart : List ℕ
+unfoldable pub apart : List ℕ
 apart = 2 ∷ 3 ∷ 5 ∷ 7 ∷ 12 ∷ 13 ∷ 14 ∷ 15 ∷ []
 
 -- R-5: three quads round a vertex at the border; of the two walls there, one side ends free and the other has a next
-fan : List Op
+unfoldable pub fan : List Op
 fan = Op.add ∷ Op.add ∷ Op.add ∷ Op.sew 2 5 12 ∷ Op.sew 2 8 20 ∷ []
 
-corner : List ℕ
+unfoldable pub corner : List ℕ
 corner = 8 ∷ 9 ∷ 20 ∷ 22 ∷ between
 
 -- R-5, in 3D: a hexahedron whose two faces at an edge are sewn, with the edge turned round: next(h) is h.0.n there
-hinge : List Op
+unfoldable pub hinge : List Op
 hinge = Op.add ∷ Op.sew 3 0 9 ∷ []
 
-hinge_faces : List ℕ
+unfoldable pub hinge_faces : List ℕ
 hinge_faces = 0 ∷ 1 ∷ 2 ∷ 3 ∷ 8 ∷ 9 ∷ 12 ∷ 13 ∷ 16 ∷ 17 ∷ 18 ∷ 19 ∷ 32 ∷ 33 ∷ 36 ∷ 37 ∷ []
 
 -- our own: Q with link 0 between 2 and 3 undone
-cut : List ℕ
+unfoldable pub cut : List ℕ
 cut = damaged 2 0 2 (damaged 3 0 3 quad_table)
 
 -- our own: the record of that, with the tag 7
-cut_record : List ℕ
+unfoldable pub cut_record : List ℕ
 cut_record = 2 ∷ 7 ∷ 8 ∷ 3 ∷ 2 ∷ 12 ∷ 2 ∷ 3 ∷ 2 ∷ []
 
 -- our own: two darts that link i joins, and no other link
-joined : ℕ → List ℕ
+unfoldable pub joined : ℕ → List ℕ
 joined i = damaged 0 i 1 (damaged 1 i 0 (replicate 4 0 ++ replicate 4 1))
 
 -- label, dimension, slots, words of the journal, the operations before, the call, what is seen
-row : ℕ → ℕ → ℕ → ℕ → List Op → Call → List Seen → Case
+unfoldable pub row : ℕ → ℕ → ℕ → ℕ → List Op → Call → List Seen → Case
 row l n s w ps c ss = record { label = l; dim = n; start = begin s w; before = tagged 0 ps; call = c; seen = ss }
 
 -- the same after calls of any kind
-row_after : ℕ → ℕ → ℕ → ℕ → List Call → Call → List Seen → Case
+unfoldable pub row_after : ℕ → ℕ → ℕ → ℕ → List Call → Call → List Seen → Case
 row_after l n s w before c ss = record { label = l; dim = n; start = begin s w; before = before; call = c; seen = ss }
 
 -- the same of a table that is given, with no calls before
-row_on : ℕ → ℕ → List ℕ → ℕ → Call → List Seen → Case
+unfoldable pub row_on : ℕ → ℕ → List ℕ → ℕ → Call → List Seen → Case
 row_on l n t w c ss = record { label = l; dim = n; start = begin_on t w; before = []; call = c; seen = ss }
 
 -- the same in 2D, of a table and a journal that are given: its cursor, its end, and the words behind
-row_with : ℕ → List ℕ → ℕ → ℕ → List ℕ → Call → List Seen → Case
+unfoldable pub row_with : ℕ → List ℕ → ℕ → ℕ → List ℕ → Call → List Seen → Case
 row_with l t c e ws call ss =
     record { label = l; dim = 2; start = lent t (replicate (slots t) 0) (c ∷ e ∷ ws); before = []; call = call; seen = ss }
 
-pub cases : List Case
+unfoldable pub cases : List Case
 cases =
     row 101 2 8 200 quad (Call.sheet 0) (gives 0 0 4 ∷ marks_are (1 ∷ 1 ∷ 1 ∷ 1 ∷ 2 ∷ 2 ∷ 2 ∷ 2 ∷ []) ∷ [])
     ∷ row 201 2 7 200 [] (Call.op 0 Op.add) (gives 14 0 0 ∷ [])
@@ -314,26 +314,22 @@ cases =
     ∷ row_on 10526 3 (made 3 48 hinge) 2 (insert_at 48 hinge_faces) (gives 31 0 0 ∷ [])
     ∷ []
 
-pub all_hold : failing cases ≡ []
-unfolding everything live_count cases row row_after row_on row_with tagged made_of made effect quad three halves bent unlinked quad_table hexahedron_table damaged folded_edge folded_face middle ring named cut cut_record joined wall insert_at between both rings round torus tube seams bent_and_ring apart fan corner hinge hinge_faces member failing holds holds_from sees_all sees begin begin_on do_all do_call keeping equal
-all_hold = refl
-
 -- ---- R-9: lists of sews, with the tag 7
 
 -- the quads of T, not sewn; and Q with link 0 between 0 and 1 undone, with a quad beside it
-parts : List ℕ
+unfoldable pub parts : List ℕ
 parts = made 2 24 (Op.add ∷ Op.add ∷ Op.add ∷ [])
 
-unlinked_parts : List ℕ
+unfoldable pub unlinked_parts : List ℕ
 unlinked_parts = made 2 16 (unlinked ++ quad)
 
 -- label, table, words of the journal, list, what is seen
-list_row : ℕ → List ℕ → ℕ → List ℕ → List Seen → ListCase
+unfoldable pub list_row : ℕ → List ℕ → ℕ → List ℕ → List Seen → ListCase
 list_row l t w list ss = record { label = l; dim = 2; start = begin_on t w; tag = 7; list = list; seen = ss }
 
 -- both sews of T, with just room, and a word less; none; an item refused, the first, one between others, the last; 38, before an item
 -- that is wrong, and behind a rule of a map
-pub list_cases : List ListCase
+unfoldable pub list_cases : List ListCase
 list_cases =
     list_row 10901 parts 32 (2 ∷ 5 ∷ 12 ∷ 2 ∷ 13 ∷ 20 ∷ [])
     (gives 0 0 8 ∷ goes 5 2 12 ∷ goes 15 2 22 ∷ changes 8 ∷ words_are 0 (32 ∷ 32 ∷ 4 ∷ 7 ∷ 22 ∷ 5 ∷ 12 ∷ []) ∷ words_are 16 (4 ∷ 4 ∷ 7 ∷ [])
@@ -351,14 +347,10 @@ list_cases =
     ∷ list_row 10911 (damaged 1 2 unused quad_table) 32 (2 ∷ 5 ∷ []) (gives 25 0 0 ∷ changes 0 ∷ [])
     ∷ []
 
-pub lists_hold : failing_lists list_cases ≡ []
-unfolding everything list_cases list_row parts unlinked_parts tagged made_of made effect quad unlinked quad_table damaged failing_lists holds_list sees_all sees begin begin_on do_all do_call keeping equal
-lists_hold = refl
-
 -- ---- R-13: pick, with marks of 9 and a queue of junk
 
 -- label, dimension, table, words of the queue, dart, what is seen: number, place, count and taken, the marks
-pick_row : ℕ → ℕ → List ℕ → ℕ → ℕ → List ℕ → List ℕ → PickCase
+unfoldable pub pick_row : ℕ → ℕ → List ℕ → ℕ → ℕ → List ℕ → List ℕ → PickCase
 pick_row l n t w d a ms = record {
   label = l;
   dim = n;
@@ -372,7 +364,7 @@ pick_row l n t w d a ms = record {
 
 -- T's middle layer; a sheet that is everything; one that touches itself; a hexahedron's. A queue that is shorter, longer, none; 37 before a rule
 -- of a map, and 3 before 37; then no map, no live dart, no block map
-pub pick_cases : List PickCase
+unfoldable pub pick_cases : List PickCase
 pick_cases =
     pick_row 11301 2 (made 2 24 three) 24 8 (0 ∷ 0 ∷ 4 ∷ 4 ∷ []) middle
     ∷ pick_row 11302 2 (made 2 8 bent) 8 0 (0 ∷ 0 ∷ 8 ∷ 8 ∷ []) (replicate 8 1)
@@ -397,51 +389,25 @@ pick_cases =
     ∷ pick_row 11312 2 (made 2 8 unlinked) 8 5 (8 ∷ 0 ∷ 0 ∷ 0 ∷ []) (replicate 8 9)
     ∷ []
 
-pub picks_hold : failing_picks pick_cases ≡ []
-unfolding everything pick_cases pick_row tagged made_of made effect quad three bent unlinked ring quad_table hexahedron_table damaged middle failing_picks holds_pick equal
-picks_hold = refl
-
--- 14: "262,144 entries pass check 2, 262,148 don't"
-pub longest_passes : (t : List ℕ) → length t ≡ 262144 → table_ok t ≡ pass
-unfolding table_ok must
-longest_passes t long = rw long
-
-pub longer_refused : (t : List ℕ) → length t ≡ 262148 → table_ok t ≡ refuse 2 0 0
-unfolding table_ok must
-longer_refused t long = rw long
-
--- "lent u32 words, 2 to 1,048,576"
-pub longer_journal_refused : (j : List ℕ) → length j ≡ 1048577 → journal_ok j ≡ refuse 4 0 0
-unfolding journal_ok must
-longer_journal_refused j long = rw long
-
 -- our own, in 3D: the two hexahedra that split makes of one; and where the first is removed, the other's side there is free, as the
 -- walk goes on from a free side and comes back
-pub two_hexahedra : List ℕ
+unfoldable pub two_hexahedra : List ℕ
 two_hexahedra = split_table 3 (add_table 3 (replicate 384 unused)) 0
-
-pub solid_split : (link two_hexahedra 0 48 ≡ 0) × (link two_hexahedra 2 49 ≡ 50) × (link two_hexahedra 3 50 ≡ 53)
-unfolding everything two_hexahedra
-solid_split = (refl, refl, refl)
-
-pub solid_remove : link (remove_table 3 two_hexahedra 0) 3 53 ≡ 53
-unfolding everything two_hexahedra
-solid_remove = refl
 
 -- R-5, in 3D: a hexahedron with two pairs of opposite faces sewn; the wall is one of them. From 0 next leads over the other, from 16 the
 -- turn ends free
-pub solid_torus : List ℕ
+unfoldable pub solid_torus : List ℕ
 solid_torus = sew_table 3 (sew_table 3 (add_table 3 (replicate 384 unused)) 3 0 4) 3 8 10
 
-pub seam : List ℕ
+unfoldable pub seam : List ℕ
 seam = wall 96 (0 ∷ 1 ∷ 2 ∷ 3 ∷ 4 ∷ 5 ∷ 6 ∷ 7 ∷ 16 ∷ 17 ∷ 18 ∷ 19 ∷ 20 ∷ 21 ∷ 22 ∷ 23 ∷ [])
 
-pub four_links : List ℕ → ℕ → List ℕ
+unfoldable pub four_links : List ℕ → ℕ → List ℕ
 four_links t d = link t 0 d ∷ link t 1 d ∷ link t 2 d ∷ link t 3 d ∷ []
 
 -- of the table t and the wall's marks w: 28 to 32 pass; after insert the links of 0, of its p, q and r, 48 to 50, and of q and r of 16, 73 and 74,
 -- are these, and remove at 50 gives t back
-pub thickens : List ℕ → List ℕ → List ℕ → Bool
+unfoldable pub thickens : List ℕ → List ℕ → List ℕ → Bool
 thickens t w ls =
     let u = insert_table 3 t w in
     let v = remove_table 3 u 50 in
@@ -451,9 +417,3 @@ thickens t w ls =
           && equal v t
       | refuse k p q ↦ false
     ]
-
-pub solid_insert : thickens solid_torus seam
-    ((1 ∷ 16 ∷ 8 ∷ 48 ∷ []) ++ (51 ∷ 72 ∷ 49 ∷ 0 ∷ []) ++ (52 ∷ 50 ∷ 48 ∷ 55 ∷ []) ++ (62 ∷ 49 ∷ 74 ∷ 56 ∷ [])
-    ++ (79 ∷ 74 ∷ 72 ∷ 73 ∷ []) ++ (86 ∷ 73 ∷ 50 ∷ 74 ∷ [])) ≡ true
-unfolding everything member solid_torus seam wall four_links thickens equal
-solid_insert = refl

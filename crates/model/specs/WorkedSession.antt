@@ -23,10 +23,10 @@ failing [] = []
 failing (t ∷ ts) =
     elim (equal (session (bytes t.input)) (bytes t.output)) [ true ↦ failing ts | false ↦ t.input ∷ failing ts ]
 
-row : String → String → Talk
+unfoldable pub row : String → String → Talk
 row input output = record { input = input; output = output }
 
-pub talks : List Talk
+unfoldable pub talks : List Talk
 talks =
     -- the whole case
     row "dim=2\nslots=8\nop=add\ni=0\nd=0\ne=0\nop=sheet\ni=0\nd=0\ne=0\n" "no=0\nat=0\nn=8\nno=0\nat=0\nn=4\nlive=8\ndart=0\nto=1,4,0,0\ndart=1\nto=0,5,1,1\ndart=2\nto=3,6,2,2\ndart=3\nto=2,7,3,3\ndart=4\nto=6,0,4,4\ndart=5\nto=7,1,5,5\ndart=6\nto=4,2,6,6\ndart=7\nto=5,3,7,7\n"
@@ -82,49 +82,21 @@ talks =
     ∷ row "dim=3\nslots=48\nop=add\ni=0\nd=0\ne=0\nop=undo\ni=0\nd=0\ne=0\n" "no=0\nat=0\nn=48\nno=0\nat=0\nn=192\nlive=0\n"
     ∷ []
 
-unfoldable open_text : Unit {0}
+unfoldable pub open_text : Unit {0}
 unfolding begins is_digit digits number up_to last_digits decimal said
 open_text = tt
 
-unfoldable open_lines : Unit {0}
+unfoldable pub open_lines : Unit {0}
 unfolding names calls call_of place_from behind reads left taken answered printed to_line dart_lines darts_from ending bad closing
 open_lines = tt
-
-pub all_printed : failing talks ≡ []
-unfolding everything live_count begin equal do_call keeping open_text open_lines talk session failing talks row
-all_printed = refl
 
 -- ---- what would take too long a session, or a table that none has
 
 -- the journal where a request is due
-pub journal_at : Due → List ℕ
+unfoldable pub journal_at : Due → List ℕ
 journal_at dim_due = []
 journal_at (slots_due n) = []
 journal_at (op_due n o) = o.journal
 journal_at (i_due n o p) = []
 journal_at (d_due n o p i) = []
 journal_at (e_due n o p i d) = []
-
--- "The journal has 16,384 words.", and is fresh before the first request
-pub journal_words : length (journal_at (taken (slots_due 2) 8)) ≡ 16384
-unfolding taken begin journal_at
-journal_words = refl
-
-pub journal_fresh : take 2 (journal_at (taken (slots_due 2) 8)) ≡ 2 ∷ 2 ∷ []
-unfolding taken begin journal_at
-journal_fresh = refl
-
--- "`dart=` and `to=` with its four links, parted by commas"
-pub links_printed :
-    dart_lines (7 ∷ 7 ∷ 7 ∷ 7 ∷ 0 ∷ 9 ∷ 10 ∷ 4294967295 ∷ []) 1 ≡ bytes "dart=1\nto=0,9,10,4294967295\n"
-unfolding everything open_text open_lines
-links_printed = refl
-
--- what import prints of a table's first slots, and of a refusal
-pub map_printed : map_lines 3 2 (1 ∷ 0 ∷ 0 ∷ 4 ∷ 10 ∷ 1 ∷ 1 ∷ 99 ∷ 7 ∷ 7 ∷ 7 ∷ 7 ∷ []) ≡ bytes "dim=3\nslots=2\nto=1,0,0,4\nto=10,1,1,99\n"
-unfolding everything open_text open_lines to_lines map_lines
-map_printed = refl
-
-pub refusal_told : told (refused 19 0 0 [] [] []) ≡ bytes "no=19\nat=0\nn=0\n"
-unfolding everything open_text open_lines told
-refusal_told = refl

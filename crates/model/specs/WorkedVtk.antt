@@ -10,30 +10,30 @@ use Rattle.model.specs.Meaning.Worked.{Case, Seen, gives, goes, cursor_is, end_i
 use Rattle.model.specs.Meaning.Worked.{do_all, sees, sees_all, holds_from, holds, failing}
 
 -- k points, all at one place
-zeros : ℕ → List ℕ
+unfoldable pub zeros : ℕ → List ℕ
 zeros zero = []
 zeros (suc k) = bytes "0 0 0\n" ++ zeros k
 
 -- a text with k points, and these words behind them
-file : ℕ → String → List ℕ
+unfoldable pub file : ℕ → String → List ℕ
 file k s =
     bytes "# vtk DataFile Version 3.0\n\nASCII\nDATASET UNSTRUCTURED_GRID\nPOINTS " ++ decimal k ++ bytes " float\n" ++ zeros k
     ++ bytes s
 
 -- one cell
-one : List ℕ
+unfoldable pub one : List ℕ
 one = file 8 "CELLS 1 9\n8 0 1 2 3 4 5 6 7\nCELL_TYPES 1\n12\n"
 
 -- label, dimension, slots, words of the journal, the calls before, the tag, the text, what is seen
-row : ℕ → ℕ → ℕ → ℕ → List Call → ℕ → List ℕ → List Seen → Case
+unfoldable pub row : ℕ → ℕ → ℕ → ℕ → List Call → ℕ → List ℕ → List Seen → Case
 row l n s w before tag text ss =
     record { label = l; dim = n; start = begin s w; before = before; call = Call.op tag (Op.vtk text); seen = ss }
 
 -- a text that is refused by the number k
-refuses : ℕ → ℕ → List ℕ → Case
+unfoldable pub refuses : ℕ → ℕ → List ℕ → Case
 refuses l k text = row l 3 96 2000 [] 0 text (gives k 0 0 ∷ changes 0 ∷ cursor_is 2 ∷ [])
 
-pub texts : List Case
+unfoldable pub texts : List Case
 texts =
     -- one cell is as by add; its record
     row 10101 3 50 600 [] 0 one (gives 0 0 48 ∷ changes 192 ∷ live_are 48 ∷ as_calls (Call.op 0 Op.add ∷ []) ∷ [])
@@ -67,7 +67,7 @@ texts =
     }
     ∷ []
 
-pub refusals : List Case
+unfoldable pub refusals : List Case
 refusals =
     refuses 10120 20 (file 8 "CELLS 2 14 8 0 1 2 3 4 5 6 7 4 0 1 2 3 CELL_TYPES 2 12 10")
     ∷ refuses 10121 21 (file 8 "CELLS 1 9 8 0 1 2 3 4 5 6 6 CELL_TYPES 1 12")
@@ -97,11 +97,3 @@ refusals =
     ∷ refuses 10142 19 (bytes "# vtk DataFile Version 4.2\n\nASCII DATASET UNSTRUCTURED_GRID POINTS 0 float CELLS 1 1 0 CELL_TYPES 1 1")
     ∷ refuses 10143 19 []
     ∷ []
-
-pub texts_hold : failing texts ≡ []
-unfolding everything live_count texts row file zeros one last_digits decimal failing holds holds_from sees_all sees begin do_all do_call keeping
-texts_hold = refl
-
-pub refusals_hold : failing refusals ≡ []
-unfolding everything refusals refuses row file zeros last_digits decimal failing holds holds_from sees_all sees begin do_all do_call keeping
-refusals_hold = refl

@@ -62,24 +62,13 @@ failing_orders [] = []
 failing_orders (c ∷ cs) = elim (holds_order c) [ true ↦ failing_orders cs | false ↦ c.label ∷ failing_orders cs ]
 
 -- label, darts in one order, in another, what the removals answer, what is seen
-order_row : ℕ → List ℕ → List ℕ → List ℕ → List Seen → OrderCase
+unfoldable pub order_row : ℕ → List ℕ → List ℕ → List ℕ → List Seen → OrderCase
 order_row l ds es a ss = record { label = l; order = ds; other = es; answers = a; seen = ss }
 
-pub order_cases : List OrderCase
+unfoldable pub order_cases : List OrderCase
 order_cases =
     order_row 11401 (0 ∷ 16 ∷ []) (16 ∷ 0 ∷ []) (0 ∷ 8 ∷ 0 ∷ 8 ∷ [])
     (live_are 8 ∷ goes 12 2 12 ∷ goes 14 2 14 ∷ goes 13 2 13 ∷ goes 15 2 15 ∷ goes 12 0 14 ∷ [])
     ∷ order_row 11402 (0 ∷ 8 ∷ []) (8 ∷ 0 ∷ []) (0 ∷ 8 ∷ 0 ∷ 8 ∷ []) (live_are 8 ∷ goes 20 2 20 ∷ goes 22 2 22 ∷ goes 20 0 22 ∷ [])
     ∷ order_row 11403 (0 ∷ 8 ∷ 16 ∷ []) (16 ∷ 0 ∷ 8 ∷ []) (0 ∷ 8 ∷ 0 ∷ 8 ∷ 0 ∷ 8 ∷ []) (live_are 0 ∷ [])
     ∷ []
-
-pub orders_hold : failing_orders order_cases ≡ []
-unfolding everything live_count apart parted in_turn holds_order failing_orders three_quads order_row order_cases begin begin_on sees sees_all equal
-orders_hold = refl
-
--- the marks of the first layer: 3 is on darts of the middle one, and when that is removed on darts of the last
-pub touching_moves : (marks_of 2 three_quads 0 ≡ replicate 4 1 ++ replicate 4 2 ++ (0 ∷ 0 ∷ 0 ∷ 0 ∷ 3 ∷ 0 ∷ 3 ∷ 0 ∷ replicate 8 0))
-    × (marks_of 2 (remove_table 2 three_quads 8) 0
-    ≡ replicate 4 1 ++ replicate 4 2 ++ replicate 8 0 ++ (0 ∷ 0 ∷ 0 ∷ 0 ∷ 3 ∷ 0 ∷ 3 ∷ 0 ∷ []))
-unfolding everything three_quads
-touching_moves = (refl, refl)

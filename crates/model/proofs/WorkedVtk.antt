@@ -1,0 +1,18 @@
+-- Worked texts (02, R-1): one cell, cells that share a face, how a text may be laid out, and each of the numbers 1, 14, 15 and 18 to 23, as
+use Rattle.std.specs.Prelude.{ℕ, zero, suc, ◌≡◌, refl, List, [], ◌∷◌, ◌++◌}
+use Prim.Native.String.{String}
+use Rattle.model.specs.Table.{live_count}
+use Rattle.model.specs.Text.{bytes, last_digits, decimal}
+use Rattle.model.specs.Runs.{Op, Call, do_call, keeping, begin}
+use Rattle.model.specs.Everything.{everything}
+use Rattle.model.specs.Meaning.Worked.{Case, Seen, gives, goes, cursor_is, end_is, words_are, changes, live_are, as_calls}
+use Rattle.model.specs.Meaning.Worked.{do_all, sees, sees_all, holds_from, holds, failing}
+use Rattle.model.specs.WorkedVtk.{zeros, file, one, row, refuses, texts, refusals}
+
+pub texts_hold : failing texts ≡ []
+unfolding everything live_count texts row file zeros one last_digits decimal failing holds holds_from sees_all sees begin do_all do_call keeping
+texts_hold = refl
+
+pub refusals_hold : failing refusals ≡ []
+unfolding everything refusals refuses row file zeros last_digits decimal failing holds holds_from sees_all sees begin do_all do_call keeping
+refusals_hold = refl

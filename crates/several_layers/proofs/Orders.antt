@@ -1,0 +1,23 @@
+-- Layers of T, 01's three quads in a row, removed in two orders, computed from the definitions (`orders_hold`): the two outer layers;
+use Rattle.std.specs.Prelude.{ℕ, ◌≡◌, refl, Bool, true, false, not, ◌&&◌, List, [], ◌∷◌, ◌++◌, replicate}
+use Rattle.model.specs.Lists.{all_below, all_of, equal}
+use Rattle.model.specs.Table.{slots, live, live_count}
+use Rattle.model.specs.Remove.{marked, remove_table}
+use Rattle.model.specs.Calls.{Outcome, remove_call}
+use Rattle.model.specs.Runs.{effect, begin}
+use Rattle.model.specs.Everything.{everything}
+use Rattle.model.specs.Meaning.Sheets.{marks_of}
+use Rattle.model.specs.Meaning.Worked.{Seen, goes, live_are, begin_on, sees, sees_all}
+use Rattle.model.specs.Worked.{three, made_of, made}
+use Rattle.several_layers.specs.Worked.{three_quads, apart, parted, in_turn, holds_order, failing_orders, order_row, order_cases}
+
+pub orders_hold : failing_orders order_cases ≡ []
+unfolding everything live_count apart parted in_turn holds_order failing_orders three_quads order_row order_cases begin begin_on sees sees_all equal
+orders_hold = refl
+
+-- the marks of the first layer: 3 is on darts of the middle one, and when that is removed on darts of the last
+pub touching_moves : (marks_of 2 three_quads 0 ≡ replicate 4 1 ++ replicate 4 2 ++ (0 ∷ 0 ∷ 0 ∷ 0 ∷ 3 ∷ 0 ∷ 3 ∷ 0 ∷ replicate 8 0))
+    × (marks_of 2 (remove_table 2 three_quads 8) 0
+    ≡ replicate 4 1 ++ replicate 4 2 ++ replicate 8 0 ++ (0 ∷ 0 ∷ 0 ∷ 0 ∷ 3 ∷ 0 ∷ 3 ∷ 0 ∷ []))
+unfolding everything three_quads
+touching_moves = (refl, refl)
