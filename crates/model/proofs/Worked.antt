@@ -1,4 +1,4 @@
--- The small maps that document 01 has worked, 1 to 14, and some of 02's requests: each fact of them, as one table with one
+-- The worked maps hold, each computed from the definitions: `all_hold`, `lists_hold`, `picks_hold`; and what is too long or too large to compute.
 use Rattle.std.specs.Prelude.{ℕ, ◌+◌, ◌*◌, ◌≡◌, refl, Bool, true, false, ◌&&◌, List, [], ◌∷◌, ◌++◌, length, set, replicate}
 use Rattle.model.specs.Lists.{tabulate, equal}
 use Rattle.model.specs.Table.{unused, slots, link, live_count}

@@ -1,4 +1,4 @@
--- Worked sessions: the whole case of 01, lines that do not fit, and each op, as one table with one statement.
+-- The worked sessions print what they must, each computed from the definitions: `all_printed`.
 use Rattle.std.specs.Prelude.{ℕ, ◌≡◌, refl, true, false, List, [], ◌∷◌, length, take}
 use Prim.Native.String.{String}
 use Rattle.model.specs.Lists.{equal}

@@ -1,4 +1,4 @@
--- Worked texts (02, R-1): one cell, cells that share a face, how a text may be laid out, and each of the numbers 1, 14, 15 and 18 to 23, as
+-- The worked texts are read or refused as they must be, each computed from the definitions: `texts_hold`, `refusals_hold`.
 use Rattle.std.specs.Prelude.{ℕ, zero, suc, ◌≡◌, refl, List, [], ◌∷◌, ◌++◌}
 use Prim.Native.String.{String}
 use Rattle.model.specs.Table.{live_count}

@@ -1,4 +1,4 @@
--- Layers of T, 01's three quads in a row, removed in two orders, computed from the definitions (`orders_hold`): the two outer layers;
+-- The worked orders hold, computed from the definitions: `orders_hold`; and why marks 3 are left out: `touching_moves`.
 use Rattle.std.specs.Prelude.{ℕ, ◌≡◌, refl, Bool, true, false, not, ◌&&◌, List, [], ◌∷◌, ◌++◌, replicate}
 use Rattle.model.specs.Lists.{all_below, all_of, equal}
 use Rattle.model.specs.Table.{slots, live, live_count}
