@@ -8,8 +8,8 @@
  *
  * 1. To build
  *
- *     rt staticlib phlernsap               proves the kernel, writes target/staticlib/libphlernsap.a
- *     cc -I include program.c target/staticlib/libphlernsap.a -o program
+ *     scripts/prove library phlernsap      proves the kernel, writes crates/phlernsap/out/libphlernsap.a
+ *     cc -I include program.c crates/phlernsap/out/libphlernsap.a -o program
  *
  * The library is x86-64 code for Linux. Of the C library it takes memcpy and memset, and no more. It
  * allocates nothing, keeps nothing between calls and has no global state: calls on different buffers

@@ -12,5 +12,5 @@ else
     kit=$(dirname "$(dirname "$(readlink -f "$(command -v rt)")")")
     cc=x86_64-linux-gnu-gcc link=-static run="$kit/on/$machine/toolchain/bin/qemu-x86_64"
 fi
-lib=$root/target/staticlib/libphlernsap.a
-make_library() { "$root/scripts/prove" staticlib phlernsap; }
+lib=$root/crates/phlernsap/out/libphlernsap.a
+make_library() { "$root/scripts/prove" library phlernsap; }

@@ -1,20 +1,14 @@
 -- The worked maps hold, each computed from the definitions: `all_hold`, `lists_hold`, `picks_hold`; and what is too long or too large to compute.
-use Rattle.std.specs.Prelude.{ℕ, ◌+◌, ◌*◌, ◌≡◌, refl, Bool, true, false, ◌&&◌, List, [], ◌∷◌, ◌++◌, length, set, replicate}
-use Rattle.model.specs.Lists.{tabulate, equal}
-use Rattle.model.specs.Table.{unused, slots, link, live_count}
-use Rattle.model.specs.Add.{add_table}
-use Rattle.model.specs.Sew.{sew_table}
+use Rattle.std.specs.Prelude.{ℕ, ◌≡◌, refl, true, List, [], ◌∷◌, ◌++◌, length}
+use Rattle.model.specs.Lists.{equal}
+use Rattle.model.specs.Table.{link, live_count}
 use Rattle.model.specs.Remove.{remove_table}
-use Rattle.model.specs.Split.{split_table}
-use Rattle.model.specs.Insert.{insert_table}
-use Rattle.model.specs.Checks.{pass, refuse, table_ok, journal_ok, must, in_order, wall_checks}
-use Rattle.model.specs.Runs.{Op, Call, do_call, effect, keeping, begin}
+use Rattle.model.specs.Checks.{pass, refuse, table_ok, journal_ok, must}
+use Rattle.model.specs.Runs.{do_call, effect, keeping, begin}
 use Rattle.model.specs.Everything.{everything}
-use Rattle.model.specs.Meaning.Ends.{lent}
 use Rattle.model.specs.Meaning.Lists.{member}
-use Rattle.model.specs.Meaning.Worked.{Case, Seen, gives, goes, marks_are, marked_are, cursor_is, end_is, words_are, frees}
-use Rattle.model.specs.Meaning.Worked.{changes, live_are, restores, as_calls, begin_on, do_all, sees, sees_all, holds_from, holds}
-use Rattle.model.specs.Meaning.Worked.{failing, ListCase, holds_list, failing_lists, PickCase, holds_pick, failing_picks}
+use Rattle.model.specs.Meaning.Worked.{begin_on, do_all, sees, sees_all, holds_from, holds}
+use Rattle.model.specs.Meaning.Worked.{failing, holds_list, failing_lists, holds_pick, failing_picks}
 use Rattle.model.specs.Worked.{tagged, quad, three, halves, bent, unlinked, quad_table, hexahedron_table, damaged, folded_edge, folded_face, middle}
 use Rattle.model.specs.Worked.{ring, named, made_of, made, wall, insert_at, between, both, rings, round, torus, tube}
 use Rattle.model.specs.Worked.{seams, bent_and_ring, apart, fan, corner, hinge, hinge_faces, cut, cut_record, joined, row, row_after}

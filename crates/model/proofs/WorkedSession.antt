@@ -1,14 +1,13 @@
 -- The worked sessions print what they must, each computed from the definitions: `all_printed`.
-use Rattle.std.specs.Prelude.{ℕ, ◌≡◌, refl, true, false, List, [], ◌∷◌, length, take}
-use Prim.Native.String.{String}
+use Rattle.std.specs.Prelude.{◌≡◌, refl, [], ◌∷◌, length, take}
 use Rattle.model.specs.Lists.{equal}
 use Rattle.model.specs.Table.{live_count}
-use Rattle.model.specs.Text.{bytes, begins, is_digit, digits, number, up_to, last_digits, decimal, said}
+use Rattle.model.specs.Text.{bytes}
 use Rattle.model.specs.Calls.{refused}
 use Rattle.model.specs.Runs.{do_call, keeping, begin}
-use Rattle.model.specs.Session.{Due, dim_due, slots_due, op_due, i_due, d_due, e_due}
-use Rattle.model.specs.Session.{names, calls, call_of, place_from, behind, reads, left, taken, answered, printed, to_line, dart_lines}
-use Rattle.model.specs.Session.{darts_from, ending, bad, closing, talk, session}
+use Rattle.model.specs.Session.{slots_due}
+use Rattle.model.specs.Session.{taken, dart_lines}
+use Rattle.model.specs.Session.{talk, session}
 use Rattle.model.specs.Import.{to_lines, map_lines, told}
 use Rattle.model.specs.Everything.{everything}
 use Rattle.model.specs.WorkedSession.{failing, row, talks, open_text, open_lines, journal_at}

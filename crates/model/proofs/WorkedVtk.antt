@@ -1,11 +1,9 @@
 -- The worked texts are read or refused as they must be, each computed from the definitions: `texts_hold`, `refusals_hold`.
-use Rattle.std.specs.Prelude.{ℕ, zero, suc, ◌≡◌, refl, List, [], ◌∷◌, ◌++◌}
-use Prim.Native.String.{String}
+use Rattle.std.specs.Prelude.{◌≡◌, refl, []}
 use Rattle.model.specs.Table.{live_count}
-use Rattle.model.specs.Text.{bytes, last_digits, decimal}
-use Rattle.model.specs.Runs.{Op, Call, do_call, keeping, begin}
+use Rattle.model.specs.Text.{last_digits, decimal}
+use Rattle.model.specs.Runs.{do_call, keeping, begin}
 use Rattle.model.specs.Everything.{everything}
-use Rattle.model.specs.Meaning.Worked.{Case, Seen, gives, goes, cursor_is, end_is, words_are, changes, live_are, as_calls}
 use Rattle.model.specs.Meaning.Worked.{do_all, sees, sees_all, holds_from, holds, failing}
 use Rattle.model.specs.WorkedVtk.{zeros, file, one, row, refuses, texts, refusals}
 

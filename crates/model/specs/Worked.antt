@@ -2,22 +2,21 @@
 -- statement. 3 to 5 have the figures of R-11. Where nothing is said of tags they are 0. 1204 is our own, a side of two darts unsewn,
 -- and so are those from 20101 on.
 -- The lengths of case 14, too long to compute with, follow from the check.
-use Rattle.std.specs.Prelude.{ℕ, ◌+◌, ◌*◌, ◌≡◌, refl, Bool, true, false, ◌&&◌, List, [], ◌∷◌, ◌++◌, length, set, replicate}
+use Rattle.std.specs.Prelude.{ℕ, ◌+◌, ◌*◌, Bool, true, false, ◌&&◌, List, [], ◌∷◌, ◌++◌, set, replicate}
 use Rattle.model.specs.Lists.{tabulate, equal}
-use Rattle.model.specs.Table.{unused, slots, link, live_count}
+use Rattle.model.specs.Table.{unused, slots, link}
 use Rattle.model.specs.Add.{add_table}
 use Rattle.model.specs.Sew.{sew_table}
 use Rattle.model.specs.Remove.{remove_table}
 use Rattle.model.specs.Split.{split_table}
 use Rattle.model.specs.Insert.{insert_table}
-use Rattle.model.specs.Checks.{pass, refuse, table_ok, journal_ok, must, in_order, wall_checks}
-use Rattle.model.specs.Runs.{Op, Call, do_call, effect, keeping, begin}
-use Rattle.model.specs.Everything.{everything}
+use Rattle.model.specs.Checks.{pass, refuse, in_order, wall_checks}
+use Rattle.model.specs.Runs.{Op, Call, effect, begin}
 use Rattle.model.specs.Meaning.Ends.{lent}
 use Rattle.model.specs.Meaning.Lists.{member}
 use Rattle.model.specs.Meaning.Worked.{Case, Seen, gives, goes, marks_are, marked_are, cursor_is, end_is, words_are, frees}
-use Rattle.model.specs.Meaning.Worked.{changes, live_are, restores, as_calls, begin_on, do_all, sees, sees_all, holds_from, holds}
-use Rattle.model.specs.Meaning.Worked.{failing, ListCase, holds_list, failing_lists, PickCase, holds_pick, failing_picks}
+use Rattle.model.specs.Meaning.Worked.{changes, live_are, restores, as_calls, begin_on}
+use Rattle.model.specs.Meaning.Worked.{ListCase, PickCase}
 
 -- operations that all have one tag
 unfoldable pub tagged : ℕ → List Op → List Call

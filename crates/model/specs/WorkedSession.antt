@@ -1,16 +1,11 @@
 -- Worked sessions: the whole case of 01, lines that do not fit, and each op, as one table with one statement.
-use Rattle.std.specs.Prelude.{ℕ, ◌≡◌, refl, true, false, List, [], ◌∷◌, length, take}
+use Rattle.std.specs.Prelude.{ℕ, true, false, List, [], ◌∷◌}
 use Prim.Native.String.{String}
 use Rattle.model.specs.Lists.{equal}
-use Rattle.model.specs.Table.{live_count}
 use Rattle.model.specs.Text.{bytes, begins, is_digit, digits, number, up_to, last_digits, decimal, said}
-use Rattle.model.specs.Calls.{refused}
-use Rattle.model.specs.Runs.{do_call, keeping, begin}
 use Rattle.model.specs.Session.{Due, dim_due, slots_due, op_due, i_due, d_due, e_due}
 use Rattle.model.specs.Session.{names, calls, call_of, place_from, behind, reads, left, taken, answered, printed, to_line, dart_lines}
-use Rattle.model.specs.Session.{darts_from, ending, bad, closing, talk, session}
-use Rattle.model.specs.Import.{to_lines, map_lines, told}
-use Rattle.model.specs.Everything.{everything}
+use Rattle.model.specs.Session.{darts_from, ending, bad, closing, session}
 
 -- an input, and what is printed for it
 pub record Talk : Type 0 where

@@ -1,13 +1,10 @@
 -- Worked texts (02, R-1): one cell, cells that share a face, how a text may be laid out, and each of the numbers 1, 14, 15 and 18 to 23, as
 -- one table with one statement. The labels are those of Worked.antt: 10101 is the first of R-1.
-use Rattle.std.specs.Prelude.{ℕ, zero, suc, ◌≡◌, refl, List, [], ◌∷◌, ◌++◌}
+use Rattle.std.specs.Prelude.{ℕ, zero, suc, List, [], ◌∷◌, ◌++◌}
 use Prim.Native.String.{String}
-use Rattle.model.specs.Table.{live_count}
-use Rattle.model.specs.Text.{bytes, last_digits, decimal}
-use Rattle.model.specs.Runs.{Op, Call, do_call, keeping, begin}
-use Rattle.model.specs.Everything.{everything}
+use Rattle.model.specs.Text.{bytes, decimal}
+use Rattle.model.specs.Runs.{Op, Call, begin}
 use Rattle.model.specs.Meaning.Worked.{Case, Seen, gives, goes, cursor_is, end_is, words_are, changes, live_are, as_calls}
-use Rattle.model.specs.Meaning.Worked.{do_all, sees, sees_all, holds_from, holds, failing}
 
 -- k points, all at one place
 unfoldable pub zeros : ℕ → List ℕ

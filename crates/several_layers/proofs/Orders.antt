@@ -1,14 +1,12 @@
 -- The worked orders hold, computed from the definitions: `orders_hold`; and why marks 3 are left out: `touching_moves`.
-use Rattle.std.specs.Prelude.{ℕ, ◌≡◌, refl, Bool, true, false, not, ◌&&◌, List, [], ◌∷◌, ◌++◌, replicate}
-use Rattle.model.specs.Lists.{all_below, all_of, equal}
-use Rattle.model.specs.Table.{slots, live, live_count}
-use Rattle.model.specs.Remove.{marked, remove_table}
-use Rattle.model.specs.Calls.{Outcome, remove_call}
-use Rattle.model.specs.Runs.{effect, begin}
+use Rattle.std.specs.Prelude.{◌≡◌, refl, [], ◌∷◌, ◌++◌, replicate}
+use Rattle.model.specs.Lists.{equal}
+use Rattle.model.specs.Table.{live_count}
+use Rattle.model.specs.Remove.{remove_table}
+use Rattle.model.specs.Runs.{begin}
 use Rattle.model.specs.Everything.{everything}
 use Rattle.model.specs.Meaning.Sheets.{marks_of}
-use Rattle.model.specs.Meaning.Worked.{Seen, goes, live_are, begin_on, sees, sees_all}
-use Rattle.model.specs.Worked.{three, made_of, made}
+use Rattle.model.specs.Meaning.Worked.{begin_on, sees, sees_all}
 use Rattle.several_layers.specs.Worked.{three_quads, apart, parted, in_turn, holds_order, failing_orders, order_row, order_cases}
 
 pub orders_hold : failing_orders order_cases ≡ []

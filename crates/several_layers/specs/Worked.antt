@@ -1,15 +1,14 @@
 -- Layers of T, 01's three quads in a row, removed in two orders, computed from the definitions (`orders_hold`): the two outer layers;
 -- the first and the middle one, which touch; all three. `touching_moves`: what touches a layer can be other darts when the one
 -- beside it is removed.
-use Rattle.std.specs.Prelude.{ℕ, ◌≡◌, refl, Bool, true, false, not, ◌&&◌, List, [], ◌∷◌, ◌++◌, replicate}
+use Rattle.std.specs.Prelude.{ℕ, Bool, true, false, not, ◌&&◌, List, [], ◌∷◌}
 use Rattle.model.specs.Lists.{all_below, all_of, equal}
-use Rattle.model.specs.Table.{slots, live, live_count}
-use Rattle.model.specs.Remove.{marked, remove_table}
+use Rattle.model.specs.Table.{slots, live}
+use Rattle.model.specs.Remove.{marked}
 use Rattle.model.specs.Calls.{Outcome, remove_call}
-use Rattle.model.specs.Runs.{effect, begin}
-use Rattle.model.specs.Everything.{everything}
+use Rattle.model.specs.Runs.{effect}
 use Rattle.model.specs.Meaning.Sheets.{marks_of}
-use Rattle.model.specs.Meaning.Worked.{Seen, goes, live_are, begin_on, sees, sees_all}
+use Rattle.model.specs.Meaning.Worked.{Seen, goes, live_are, begin_on, sees_all}
 use Rattle.model.specs.Worked.{three, made_of, made}
 
 -- T, three quads in a row

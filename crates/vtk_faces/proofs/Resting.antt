@@ -1,6 +1,6 @@
 -- The cells of a text behind those of a block, some at a time.
 -- Main theorems: `read_face`, `eights_at`; `resting_none`, `resting_chunk`, `resting_more`, `resting_three`, `resting_all`.
-use Prim.Native.Nat.{ℕ, ◌+◌, ◌*◌, ◌-◌, ◌/◌, ◌%◌, ◌≤◌, ◌<◌}
+use Prim.Native.Nat.{ℕ, ◌+◌, ◌*◌, ◌/◌, ◌%◌, ◌≤◌, ◌<◌}
 use mathlib.Core.Path.{◌≡◌, sym, ap, ◌∙◌, subst}
 use mathlib.Core.Logic.{◌≢◌}
 use mathlib.Core.List.{List, []}

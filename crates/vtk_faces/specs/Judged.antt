@@ -1,6 +1,6 @@
 -- What is known of the faces F 0, .., F (i - 1), of which the first m are in chains and have mates.
 -- Main definitions: `Judged` (no three of them have the same four vertices), `Ordered` (two that have, have them in the same order).
-use Rattle.std.specs.Prelude.{ℕ, ◌+◌, ◌*◌, ◌-◌, ◌/◌, ◌≤◌, ◌<◌, ◌≡◌, ◌⊎◌, ◌≢◌, Bool, true, false, List, length, get_or, set}
+use Rattle.std.specs.Prelude.{ℕ, ◌+◌, ◌*◌, ◌/◌, ◌≤◌, ◌<◌, ◌≡◌, ◌⊎◌, ◌≢◌, Bool, true, false, List, length, get_or, set}
 use Rattle.model.specs.Faces.{same_four, same_order}
 use Rattle.vtk_faces.specs.Faces.{Sited, held_face}
 use Rattle.vtk_faces.specs.Turns.{Turned}

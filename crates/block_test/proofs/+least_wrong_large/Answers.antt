@@ -1,9 +1,7 @@
-use Prim.Native.Nat.{ℕ, ◌<◌}
+use Prim.Native.Nat.{ℕ}
 use mathlib.Core.Path.{◌≡◌, sym, ap, ◌∙◌}
 use mathlib.Core.Bool.{Bool, true, false}
 use native.Mathlib.Omega.{arith}
-use borrow.Author.Rules.{rules}
-use borrow.Author.Tests.{not-true}
 use lib.ListN.{get_or-replicate}
 use Rattle.theorems.proofs.Calls.Pass.{must_pass, table_pass}
 use Rattle.block_test.proofs.+least_wrong_large.Goals as goal

@@ -1,11 +1,9 @@
-use Prim.Native.Nat.{◌≤◌, ◌-◌}
 use mathlib.Core.Path.{◌≡◌, refl, sym, ◌∙◌}
 use native.Mathlib.Omega.{arith}
-use lib.ListN.{length}
 use Rattle.model.specs.Table.{slots}
 use Rattle.model.specs.Meaning.Maps.{MapTable}
 use Rattle.reading.proofs.Passed.{table_short}
-use Rattle.block_test.proofs.Scan.{checked, Scanned, scan_first, scan_next, scan_found, scan_none}
+use Rattle.block_test.proofs.Scan.{checked, scan_first, scan_next, scan_found, scan_none}
 use Rattle.block_test.proofs.first_wrong.Goals as goal
 use Rattle.block_test.proofs.first_wrong.Goals.{At-loop-d}
 

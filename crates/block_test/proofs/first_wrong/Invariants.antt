@@ -1,12 +1,8 @@
 -- `block_test::first_wrong` meets its contract. The loop's invariant: no slot passed, and no dart that is seen, is in a wrong cell.
 use Prim.Native.Nat.{◌≤◌, ◌-◌}
-use mathlib.Core.Path.{◌≡◌, refl, sym, ◌∙◌}
-use native.Mathlib.Omega.{arith}
+use mathlib.Core.Path.{◌≡◌}
 use lib.ListN.{length}
-use Rattle.model.specs.Table.{slots}
-use Rattle.model.specs.Meaning.Maps.{MapTable}
-use Rattle.reading.proofs.Passed.{table_short}
-use Rattle.block_test.proofs.Scan.{checked, Scanned, scan_first, scan_next, scan_found, scan_none}
+use Rattle.block_test.proofs.Scan.{Scanned}
 use Rattle.block_test.proofs.first_wrong.Given as goal
 
 abbrev pub invariant-loop-d : goal.invariant-loop-d

@@ -2,7 +2,6 @@
 use mathlib.Core.Path.{◌≡◌, sym, ◌∙◌}
 use mathlib.Core.Bool.{true}
 use native.Mathlib.Omega.{arith}
-use borrow.Author.Rules.{rules}
 use Rattle.model.specs.Table.{live}
 use Rattle.theorems.proofs.Maps.Rules.{live_by}
 use Rattle.block_test.proofs.Seen.{unused_right, visit_ready, visit_answers}

@@ -1,5 +1,4 @@
 -- `block_test::is_block` meets its contract.
-use borrow.Author.Rules.{rules}
 use Rattle.model.specs.Cell.{is_block}
 use Rattle.reading.proofs.Passed.{table_short}
 use Rattle.block_test.proofs.is_block.Goals as goal

@@ -1,6 +1,5 @@
 -- `block_test::least_wrong` meets its contract: the list has a 0 for each slot, or the table is larger.
 use native.Mathlib.Omega.{arith}
-use borrow.Author.Rules.{rules}
 use lib.ListN.{get_or-replicate}
 use Rattle.theorems.proofs.Calls.Pass.{table_pass}
 use Rattle.block_test.proofs.least_wrong.Goals as goal

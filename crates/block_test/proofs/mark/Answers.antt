@@ -1,9 +1,7 @@
-use Prim.Native.Nat.{◌≤◌, ◌<◌, ◌-◌}
-use mathlib.Core.Path.{◌≡◌, refl, ap, ◌∙◌}
+use Prim.Native.Nat.{◌<◌}
+use mathlib.Core.Path.{refl, ap, ◌∙◌}
 use native.Mathlib.Omega.{arith}
-use borrow.Author.Rules.{rules}
 use lib.ListN.{length, take}
-use Rattle.block_test.specs.Seen.{seen_with}
 use Rattle.block_test.proofs.Seen.{seen_first, seen_next, seen_all, seen_length}
 use Rattle.block_test.proofs.mark.Goals as goal
 

@@ -1,11 +1,8 @@
 -- `block_test::mark` meets its contract. The loop's invariant: the darts passed are marked.
-use Prim.Native.Nat.{◌≤◌, ◌<◌, ◌-◌}
-use mathlib.Core.Path.{◌≡◌, refl, ap, ◌∙◌}
-use native.Mathlib.Omega.{arith}
-use borrow.Author.Rules.{rules}
+use Prim.Native.Nat.{◌≤◌, ◌-◌}
+use mathlib.Core.Path.{◌≡◌}
 use lib.ListN.{length, take}
 use Rattle.block_test.specs.Seen.{seen_with}
-use Rattle.block_test.proofs.Seen.{seen_first, seen_next, seen_all, seen_length}
 use Rattle.block_test.proofs.mark.Given as goal
 
 abbrev pub invariant-loop-k : goal.invariant-loop-k

@@ -1,7 +1,5 @@
 -- `block_test::visit_2d` meets its contract.
 use mathlib.Core.Path.{sym, ◌∙◌}
-use borrow.Author.Rules.{rules}
-use borrow.Author.Tests.{not-true, not-false}
 use Rattle.block_test.proofs.Seen.{places_in, seen_listed}
 use Rattle.block_test.proofs.visit_2d.Goals as goal
 

@@ -2,7 +2,6 @@
 use Prim.Native.Nat.{◌<◌}
 use native.Mathlib.Omega.{arith}
 use lib.ListN.{length}
-use borrow.Author.Rules.{rules}
 use Rattle.model.specs.Numbering.{cell_link}
 use Rattle.theorems.proofs.Cells.Rows.{row_goes}
 use Rattle.call_add.proofs.cell_slot.Goals as goal

@@ -1,11 +1,7 @@
-use Prim.Native.Nat.{ℕ, ◌-◌, ◌≤◌}
-use mathlib.Core.List.{List}
 use native.Mathlib.Omega.{arith}
-use borrow.Author.Rules.{rules}
 use Rattle.model.specs.Journal.{cursor}
 use Rattle.drafts.proofs.Passes.{pass_length, pass_word}
-use Rattle.call_add.specs.NewCell.{NewCell}
-use Rattle.call_add.proofs.Drafting.{word_inside, new_links, Drafting, drafting_none, drafting_at, drafting_more, drafting_all}
+use Rattle.call_add.proofs.Drafting.{word_inside, new_links, drafting_none, drafting_at, drafting_more, drafting_all}
 use Rattle.call_add.proofs.write_cell.Goals as goal
 
 pub bounds-journal-0 : goal.bounds-journal-0

@@ -1,12 +1,8 @@
 -- `call_add::write_cell` meets its contract. The loop's invariant: the first k slots are drafted.
 use Prim.Native.Nat.{ℕ, ◌-◌, ◌≤◌}
 use mathlib.Core.List.{List}
-use native.Mathlib.Omega.{arith}
-use borrow.Author.Rules.{rules}
-use Rattle.model.specs.Journal.{cursor}
-use Rattle.drafts.proofs.Passes.{pass_length, pass_word}
 use Rattle.call_add.specs.NewCell.{NewCell}
-use Rattle.call_add.proofs.Drafting.{word_inside, new_links, Drafting, drafting_none, drafting_at, drafting_more, drafting_all}
+use Rattle.call_add.proofs.Drafting.{Drafting}
 use Rattle.call_add.proofs.write_cell.Given as goal
 
 abbrev pub invariant-loop-k : goal.invariant-loop-k

@@ -1,7 +1,6 @@
 -- `call_check::check` meets its contract: its opening, and behind it `block_test::is_block`.
 use mathlib.Core.Path.{sym, ◌∙◌}
 use mathlib.Core.List.{List}
-use borrow.Author.Rules.{rules}
 use Rattle.model.specs.Checks.{Check, check_checks, map_checks}
 use Rattle.answers.proofs.Ladder.{Rung, all_passed}
 use Rattle.answers.proofs.Settled.{Opening, opened, handed_on}

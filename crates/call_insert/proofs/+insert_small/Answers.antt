@@ -1,10 +1,8 @@
-use Prim.Native.Nat.{ℕ, ◌<◌}
+use Prim.Native.Nat.{ℕ}
 use mathlib.Core.Path.{◌≡◌, sym, ap, ◌∙◌}
 use mathlib.Core.Bool.{Bool, true, false}
 use native.Mathlib.Omega.{arith}
 use lib.ListN.{get_or-replicate}
-use borrow.Author.Rules.{rules}
-use borrow.Author.Tests.{not-true}
 use Rattle.theorems.proofs.Calls.Pass.{must_pass}
 use Rattle.call_insert.proofs.Ends.{opened}
 use Rattle.call_insert.proofs.+insert_small.Goals as goal

@@ -1,7 +1,6 @@
 -- `call_insert::insert` meets its contract: its opening, and behind it `insert_in` with buffers of one size.
 use mathlib.Core.Path.{◌≡◌}
 use mathlib.Core.List.{List}
-use borrow.Author.Rules.{rules}
 use Rattle.model.specs.Checks.{Check, pass, in_order, insert_checks, map_checks}
 use Rattle.answers.proofs.Settled.{Opening, handed_on}
 use Rattle.answers.proofs.Given.{room_small, room_given}

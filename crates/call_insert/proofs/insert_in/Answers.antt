@@ -1,12 +1,10 @@
 -- `call_insert::insert_in` meets its contract: the wall tested, 14 by the slots found, 15 by the number of changes; the darts listed, the
 -- record drafted and carried out.
 use Prim.Native.Nat.{◌+◌, ◌*◌, ◌≤◌}
-use mathlib.Core.Path.{refl, ◌∙◌}
+use mathlib.Core.Path.{refl}
 use mathlib.Core.Bool.{true}
 use native.Mathlib.Omega.{arith}
 use lib.ListN.{length, drop}
-use borrow.Author.Rules.{rules}
-use borrow.Author.Tests.{not-true, not-false}
 use Rattle.model.specs.Table.{slots}
 use Rattle.model.specs.Insert.{insert_table}
 use Rattle.theorems.proofs.Maps.Tables.{map_table}

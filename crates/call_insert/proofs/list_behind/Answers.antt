@@ -2,7 +2,6 @@
 use Prim.Native.Nat.{◌*◌, ◌≤◌}
 use native.Mathlib.Omega.{arith}
 use lib.ListN.{length, length-drop}
-use borrow.Author.Rules.{rules}
 use Rattle.call_insert.proofs.Parts.{behind, put_behind, put_before, put_long}
 use Rattle.call_insert.proofs.list_behind.Goals as goal
 use Rattle.call_insert.proofs.list_behind.Goals.{Start}

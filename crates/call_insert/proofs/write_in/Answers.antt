@@ -2,7 +2,6 @@
 use Prim.Native.Nat.{◌*◌, ◌≤◌}
 use native.Mathlib.Omega.{arith}
 use lib.ListN.{length}
-use borrow.Author.Rules.{rules}
 use Rattle.call_insert.proofs.Parts.{behind}
 use Rattle.call_insert.proofs.write_in.Goals as goal
 use Rattle.call_insert.proofs.write_in.Goals.{Start}

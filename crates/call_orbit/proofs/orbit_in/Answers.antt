@@ -1,5 +1,4 @@
 -- `call_orbit::orbit_in` meets its contract, by `reach::orbit`.
-use borrow.Author.Rules.{rules}
 use Rattle.model.specs.Checks.{orbit_checks, map_checks}
 use Rattle.answers.proofs.Ladder.{passed_all}
 use Rattle.call_orbit.proofs.Ends.{orbit_given, orbit_accepted}

@@ -1,7 +1,6 @@
 -- `call_pick::pick` meets its contract: `wrong_queue`, or the opening that sheet has, and behind it the engine.
 use mathlib.Core.Path.{◌≡◌, refl, ◌∙◌}
 use mathlib.Core.List.{List}
-use borrow.Author.Rules.{rules}
 use Rattle.model.specs.Table.{slots}
 use Rattle.model.specs.Checks.{Check, pass, in_order, sheet_checks, pick_checks}
 use Rattle.theorems.proofs.Calls.Picks.{pick_checks_lem}

@@ -2,7 +2,6 @@
 use mathlib.Core.Path.{ap, refl}
 use mathlib.Core.Bool.{not, false}
 use mathlib.Core.List.{List, [], ◌∷◌}
-use borrow.Author.Rules.{rules}
 use Rattle.model.specs.Checks.{Check, must, dim_ok, table_ok, marks_ok}
 use Rattle.answers.proofs.Ladder.{Rung, ground, up, out}
 use Rattle.answers.proofs.Verdicts.{passes, refuses}

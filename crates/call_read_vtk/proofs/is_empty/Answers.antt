@@ -1,10 +1,9 @@
-use Prim.Native.Nat.{◌-◌, ◌≤◌}
 use mathlib.Core.Path.{◌≡◌, refl}
 use native.Mathlib.Omega.{arith}
 use lib.ListN.{length}
 use borrow.Author.Rules.{rules}
 use Rattle.theorems.proofs.Calls.Pass.{table_pass}
-use Rattle.call_read_vtk.proofs.Empty.{Entries, entries_none, entries_more, entries_all}
+use Rattle.call_read_vtk.proofs.Empty.{entries_none, entries_more, entries_all}
 use Rattle.call_read_vtk.proofs.is_empty.Goals as goal
 
 pub loop-e-init : goal.loop-e-init

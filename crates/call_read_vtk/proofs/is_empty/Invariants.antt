@@ -1,11 +1,8 @@
 -- `call_read_vtk::is_empty` meets its contract. The loop's invariant: what the first e entries have in common.
 use Prim.Native.Nat.{◌-◌, ◌≤◌}
-use mathlib.Core.Path.{◌≡◌, refl}
-use native.Mathlib.Omega.{arith}
+use mathlib.Core.Path.{◌≡◌}
 use lib.ListN.{length}
-use borrow.Author.Rules.{rules}
-use Rattle.theorems.proofs.Calls.Pass.{table_pass}
-use Rattle.call_read_vtk.proofs.Empty.{Entries, entries_none, entries_more, entries_all}
+use Rattle.call_read_vtk.proofs.Empty.{Entries}
 use Rattle.call_read_vtk.proofs.is_empty.Given as goal
 
 abbrev pub invariant-loop-e : goal.invariant-loop-e

@@ -1,6 +1,5 @@
 -- `call_read_vtk::judge_few` meets its contract.
 use native.Mathlib.Omega.{arith}
-use borrow.Author.Rules.{rules}
 use Rattle.call_read_vtk.proofs.Judging.{once_passes, judged_repeated, judged_none, cells_in, judged_held}
 use Rattle.call_read_vtk.proofs.judge_few.Goals as goal
 

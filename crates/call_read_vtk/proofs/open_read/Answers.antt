@@ -1,5 +1,4 @@
 -- `call_read_vtk::open_read` meets its contract.
-use borrow.Author.Rules.{rules}
 use Rattle.answers.proofs.Settled.{settles_pass}
 use Rattle.call_read_vtk.proofs.open_read.Goals as goal
 

@@ -2,7 +2,6 @@
 use mathlib.Core.Bool.{not}
 use mathlib.Core.Path.{ap}
 use mathlib.Core.List.{List}
-use borrow.Author.Rules.{rules}
 use Rattle.model.specs.Checks.{Check, map_checks}
 use Rattle.answers.proofs.Ladder.{Rung, ground, rise, up, out, all_passed}
 use Rattle.answers.proofs.Verdicts.{passes, refuses, equal_refuses}

@@ -1,7 +1,6 @@
 -- `call_read_vtk::opens_empty` meets its contract.
 use mathlib.Core.Bool.{not}
 use mathlib.Core.Path.{ap, ◌≡◌, refl}
-use borrow.Author.Rules.{rules}
 use Rattle.model.specs.Checks.{pass, table_ok}
 use Rattle.theorems.proofs.Lists.Scan.{clash}
 use Rattle.theorems.proofs.Calls.Pass.{table_pass}

@@ -1,11 +1,8 @@
 -- `call_read_vtk::place_cells` meets its contract: 14, 15 by the number of changes; table and record written.
-use Prim.Native.Nat.{ℕ, ◌*◌, ◌≤◌}
+use Prim.Native.Nat.{ℕ, ◌*◌}
 use mathlib.Core.Path.{◌≡◌, refl, ap}
 use mathlib.Core.List.{List}
 use native.Mathlib.Omega.{arith}
-use lib.ListN.{length}
-use borrow.Author.Rules.{rules}
-use borrow.Author.Tests.{not-true, not-false}
 use Rattle.model.specs.Journal.{changes_from}
 use Rattle.model.specs.Faces.{darts, vtk_table}
 use Rattle.drafts.specs.Drafts.{drafted}

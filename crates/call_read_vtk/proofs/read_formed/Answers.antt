@@ -3,7 +3,6 @@
 use Prim.Native.Nat.{◌*◌, ◌≤◌}
 use native.Mathlib.Omega.{arith}
 use lib.ListN.{length}
-use borrow.Author.Rules.{rules}
 use Rattle.call_read_vtk.specs.Formed.{JudgedHeld, Checked}
 use Rattle.call_read_vtk.proofs.Ends.{cells_at, cells_held, judged_refused, judged_checked}
 use Rattle.call_read_vtk.proofs.read_formed.Goals as goal

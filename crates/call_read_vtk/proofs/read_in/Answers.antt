@@ -1,8 +1,5 @@
 -- `call_read_vtk::read_in` meets its contract: 19 and 20 by the form, all else by `read_formed`.
-use mathlib.Core.Bool.{not}
-use mathlib.Core.Path.{ap}
 use mathlib.Core.List.{List}
-use borrow.Author.Rules.{rules}
 use borrow.Author.Tests.{not-true, not-false}
 use Rattle.model.specs.Vtk.{grid_of}
 use Rattle.model.specs.Checks.{Check, map_checks, grid_checks, vtk_checks}

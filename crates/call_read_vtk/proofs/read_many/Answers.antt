@@ -1,5 +1,4 @@
 -- `call_read_vtk::read_many` meets its contract.
-use borrow.Author.Rules.{rules}
 use Rattle.call_read_vtk.proofs.Ends.{cells_at, judged_refused, judged_passed, read_many}
 use Rattle.call_read_vtk.proofs.read_many.Goals as goal
 

@@ -2,7 +2,6 @@
 use Prim.Native.Nat.{ℕ}
 use mathlib.Core.Path.{◌≡◌, sym, ap, ◌∙◌, subst}
 use mathlib.Core.List.{List}
-use borrow.Author.Rules.{rules}
 use Rattle.model.specs.Vtk.{grid_of}
 use Rattle.model.specs.Checks.{Check, pass, in_order, map_checks, grid_checks, vtk_checks}
 use Rattle.model.specs.Calls.{vtk_call}

@@ -1,10 +1,8 @@
-use Prim.Native.Nat.{◌+◌, ◌-◌, ◌≤◌, ◌<◌}
+use Prim.Native.Nat.{◌+◌, ◌<◌}
 use mathlib.Core.Path.{◌≡◌, refl}
-use mathlib.Core.Logic.{⊎_elim}
 use native.Mathlib.Omega.{arith}
 use lib.ListN.{length}
 use lib.Seq.{take_all}
-use borrow.Author.Rules.{rules}
 use Rattle.theorems.proofs.Lists.Scan.{clash}
 use Rattle.call_remove.proofs.Counting.{Counted, counted_none, counted_zero, counted_three, counted_inner}
 use Rattle.call_remove.proofs.Counting.{told_zero, told_three, told_other}

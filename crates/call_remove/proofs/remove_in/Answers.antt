@@ -4,8 +4,6 @@ use mathlib.Core.Path.{◌≡◌, refl}
 use mathlib.Core.List.{List}
 use native.Mathlib.Omega.{arith}
 use lib.ListN.{length}
-use borrow.Author.Rules.{rules}
-use borrow.Author.Tests.{not-true, not-false}
 use Rattle.model.specs.Journal.{changes_from}
 use Rattle.model.specs.Remove.{removed}
 use Rattle.drafts.proofs.Commits.{fits_room}

@@ -1,14 +1,12 @@
-use Prim.Native.Nat.{◌+◌, ◌≤◌, ◌<◌, ◌-◌}
+use Prim.Native.Nat.{◌+◌, ◌<◌}
 use mathlib.Core.Path.{◌≡◌}
-use mathlib.Core.Logic.{⊎_elim}
 use native.Mathlib.Omega.{arith}
 use lib.ListN.{length}
-use borrow.Author.Rules.{rules}
 use Rattle.model.specs.Table.{slots}
 use Rattle.model.specs.Journal.{cursor}
 use Rattle.call_remove.specs.Removing.{Clearing}
 use Rattle.call_remove.proofs.Clearings.{of_layer}
-use Rattle.call_remove.proofs.Clearings.{clearing_start, clearing_length, clearing_stays, clearing_over, clearing_end}
+use Rattle.call_remove.proofs.Clearings.{clearing_start, clearing_stays, clearing_over, clearing_end}
 use Rattle.call_remove.proofs.write_layer.Goals as goal
 use Rattle.call_remove.proofs.write_layer.Goals.{then-marks-x-ne0, else-marks-x-ne0}
 use Rattle.call_remove.proofs.write_layer.Goals.{Joined-marks-x-ne0, Start}

@@ -1,6 +1,5 @@
 -- `call_remove::write_one` meets its contract.
 use native.Mathlib.Omega.{arith}
-use borrow.Author.Rules.{rules}
 use Rattle.call_remove.proofs.Clearings.{of_layer, edge_out, edge_one, gone_four, clearing_word, clearing_more}
 use Rattle.call_remove.proofs.write_one.Goals as goal
 

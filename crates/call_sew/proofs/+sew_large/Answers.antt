@@ -1,7 +1,6 @@
 use mathlib.Core.Bool.{not}
-use Prim.Native.Nat.{ℕ, ◌<◌}
+use Prim.Native.Nat.{ℕ}
 use mathlib.Core.Path.{ap, sym, ◌∙◌}
-use borrow.Author.Rules.{rules}
 use Rattle.theorems.proofs.Calls.Checks.{not_pass}
 use Rattle.answers.proofs.Verdicts.{refuses}
 use Rattle.answers.proofs.Given.{room_given, room_small}

@@ -1,7 +1,6 @@
 -- `call_sew::sew` meets its contract: its opening, and behind it a list of one item.
 use mathlib.Core.Path.{◌≡◌, refl}
 use mathlib.Core.List.{List, [], ◌∷◌}
-use borrow.Author.Rules.{rules}
 use Rattle.model.specs.Checks.{Check, pass, in_order, sides_checks, list_checks, map_checks}
 use Rattle.model.specs.Meaning.SewLists.{Ready}
 use Rattle.answers.proofs.Settled.{Opening, handed_on}

@@ -1,8 +1,6 @@
-use Prim.Native.Nat.{◌+◌, ◌-◌, ◌≤◌}
-use mathlib.Core.Path.{◌∙◌}
+use Prim.Native.Nat.{◌+◌, ◌≤◌}
 use native.Mathlib.Omega.{arith}
 use lib.ListN.{length}
-use borrow.Author.Rules.{rules}
 use Rattle.call_sew.proofs.Going.{Going, going_starts, going_lent, going_few, going_inside, going_stops, going_on, going_ends}
 use Rattle.call_sew.proofs.sew_items.Goals as goal
 use Rattle.call_sew.proofs.sew_items.Goals.{Else-answer-ne0, In-loop-w}

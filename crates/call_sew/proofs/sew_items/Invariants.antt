@@ -1,10 +1,7 @@
 -- `call_sew::sew_items` meets its contract. The loop's invariant: the items before the word w stand.
-use Prim.Native.Nat.{◌+◌, ◌-◌, ◌≤◌}
-use mathlib.Core.Path.{◌∙◌}
-use native.Mathlib.Omega.{arith}
+use Prim.Native.Nat.{◌-◌}
 use lib.ListN.{length}
-use borrow.Author.Rules.{rules}
-use Rattle.call_sew.proofs.Going.{Going, going_starts, going_lent, going_few, going_inside, going_stops, going_on, going_ends}
+use Rattle.call_sew.proofs.Going.{Going}
 use Rattle.call_sew.proofs.sew_items.Given as goal
 
 abbrev pub invariant-loop-w : goal.invariant-loop-w

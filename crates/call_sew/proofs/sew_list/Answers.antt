@@ -1,7 +1,6 @@
 -- `call_sew::sew_list` meets its contract: its opening, the check 38, and behind them `sew_opened`.
 use mathlib.Core.Path.{refl}
 use mathlib.Core.List.{List}
-use borrow.Author.Rules.{rules}
 use Rattle.model.specs.Checks.{Check, map_checks, list_ok, list_checks}
 use Rattle.answers.proofs.Ladder.{Rung, up, out, all_passed}
 use Rattle.answers.proofs.Verdicts.{equal_passes, equal_refuses}

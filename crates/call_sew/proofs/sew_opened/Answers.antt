@@ -1,5 +1,4 @@
 -- `call_sew::sew_opened` meets its contract, by `sew_items` or `sew_large`.
-use borrow.Author.Rules.{rules}
 use Rattle.answers.proofs.Given.{room_small}
 use Rattle.call_sew.proofs.Ends.{list_ready}
 use Rattle.call_sew.proofs.Parts.{lent_new}

@@ -1,5 +1,5 @@
 use mathlib.Core.Bool.{not}
-use Prim.Native.Nat.{ℕ, ◌<◌}
+use Prim.Native.Nat.{ℕ}
 use mathlib.Core.Path.{ap, sym, ◌∙◌}
 use borrow.Author.Rules.{rules}
 use Rattle.theorems.proofs.Calls.Checks.{not_pass}

@@ -1,5 +1,4 @@
 -- `call_sheet::sheet_in` meets its contract, by `sheets::sheet`.
-use borrow.Author.Rules.{rules}
 use Rattle.answers.proofs.Layered.{sheet_given}
 use Rattle.call_sheet.proofs.Ends.{sheet_accepted}
 use Rattle.call_sheet.proofs.sheet_in.Goals as goal

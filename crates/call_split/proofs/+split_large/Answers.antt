@@ -1,9 +1,7 @@
-use Prim.Native.Nat.{ℕ, ◌<◌}
+use Prim.Native.Nat.{ℕ}
 use mathlib.Core.Path.{◌≡◌, sym, ap, ◌∙◌}
 use mathlib.Core.Bool.{Bool, true, false}
 use native.Mathlib.Omega.{arith}
-use borrow.Author.Rules.{rules}
-use borrow.Author.Tests.{not-true}
 use Rattle.theorems.proofs.Calls.Pass.{must_pass}
 use Rattle.answers.proofs.Given.{room_small, room_given}
 use Rattle.answers.proofs.Layered.{layered}

@@ -1,13 +1,10 @@
-use Prim.Native.Nat.{ℕ, ◌-◌, ◌<◌}
+use Prim.Native.Nat.{ℕ}
 use mathlib.Core.Path.{sym, ap, ◌∙◌}
-use mathlib.Core.Logic.{⊎_elim}
 use native.Mathlib.Omega.{arith}
-use lib.ListN.{length, get_or}
-use borrow.Author.Rules.{rules}
+use lib.ListN.{get_or}
 use Rattle.model.specs.Lists.{ones}
 use Rattle.model.specs.Table.{link}
 use Rattle.model.specs.Split.{crosses}
-use Rattle.model.specs.Meaning.Sets.{Marked}
 use Rattle.theorems.proofs.Lists.Scan.{test, if_eq, if_lt}
 use Rattle.theorems.proofs.Sets.Closure.{marked_in}
 use Rattle.theorems.proofs.Layers.Sheet.{crosses_some}

@@ -2,7 +2,6 @@
 use mathlib.Core.Path.{◌≡◌}
 use mathlib.Core.List.{List}
 use native.Mathlib.Omega.{arith}
-use borrow.Author.Rules.{rules}
 use Rattle.model.specs.Checks.{Check, pass, in_order, layer_checks, map_checks}
 use Rattle.answers.proofs.Settled.{Opening, handed_on}
 use Rattle.answers.proofs.Given.{room_small}

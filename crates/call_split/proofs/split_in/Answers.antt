@@ -5,8 +5,6 @@ use mathlib.Core.Path.{refl}
 use mathlib.Core.Bool.{false}
 use native.Mathlib.Omega.{arith}
 use lib.ListN.{length}
-use borrow.Author.Rules.{rules}
-use borrow.Author.Tests.{not-true, not-false}
 use Rattle.model.specs.Table.{slots}
 use Rattle.model.specs.Split.{split_table}
 use Rattle.theorems.proofs.Maps.Tables.{map_table}

@@ -3,7 +3,6 @@ use Prim.Native.Nat.{ℕ, ◌<◌}
 use mathlib.Core.List.{List}
 use native.Mathlib.Omega.{arith}
 use lib.ListN.{get_or}
-use borrow.Author.Rules.{rules}
 use Rattle.model.specs.Journal.{cursor, end}
 use Rattle.model.specs.Checks.{Check, step_checks, redo_ok, map_checks}
 use Rattle.model.specs.Meaning.Numbers.{JournalRule}

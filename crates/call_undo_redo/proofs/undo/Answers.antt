@@ -1,7 +1,6 @@
 -- `call_undo_redo::undo` meets its contract: its opening, check 16, and behind them `step`.
 use mathlib.Core.List.{List}
 use native.Mathlib.Omega.{arith}
-use borrow.Author.Rules.{rules}
 use Rattle.model.specs.Checks.{Check, step_checks, undo_ok, map_checks}
 use Rattle.model.specs.Meaning.Numbers.{JournalRule}
 use Rattle.theorems.proofs.Calls.Pass.{journal_pass}

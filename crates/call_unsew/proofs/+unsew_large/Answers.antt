@@ -1,8 +1,7 @@
 use mathlib.Core.Bool.{not}
-use Prim.Native.Nat.{ℕ, ◌<◌}
+use Prim.Native.Nat.{ℕ}
 use mathlib.Core.Path.{ap, sym, ◌∙◌}
 use native.Mathlib.Omega.{arith}
-use borrow.Author.Rules.{rules}
 use Rattle.theorems.proofs.Sets.Closure.{none_marked}
 use Rattle.theorems.proofs.Calls.Checks.{not_pass}
 use Rattle.answers.proofs.Verdicts.{refuses}

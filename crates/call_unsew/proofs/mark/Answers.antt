@@ -1,5 +1,4 @@
 -- `call_unsew::mark` meets its contract.
-use borrow.Author.Rules.{rules}
 use Rattle.call_unsew.proofs.Marks.{marking_old, marking_new}
 use Rattle.call_unsew.proofs.mark.Goals as goal
 

@@ -1,7 +1,6 @@
 -- `call_unsew::mark_couple` meets its contract.
 use mathlib.Core.Path.{sym, ◌∙◌}
 use native.Mathlib.Omega.{arith}
-use borrow.Author.Rules.{rules}
 use Rattle.theorems.proofs.Maps.Rules.{live_in}
 use Rattle.sides.proofs.Entries.{live_entry, link_low}
 use Rattle.call_unsew.proofs.Marks.{marking_few, marking_as, marking_both}

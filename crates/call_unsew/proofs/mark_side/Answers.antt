@@ -1,13 +1,11 @@
-use Prim.Native.Nat.{◌-◌}
 use mathlib.Core.Path.{◌≡◌, ap, ◌∙◌}
 use native.Mathlib.Omega.{arith}
-use borrow.Author.Rules.{rules}
-use Rattle.model.specs.Table.{slots, link}
+use Rattle.model.specs.Table.{link}
 use Rattle.sides.proofs.Entries.{live_entry}
 use Rattle.sides.proofs.SideTurns.{side_start_lem}
-use Rattle.sides.proofs.Standing.{turns_to, standing_live, standing_nearer}
+use Rattle.sides.proofs.Standing.{standing_live, standing_nearer}
 use Rattle.call_unsew.proofs.Marks.{marking_few, marking_both}
-use Rattle.call_unsew.proofs.Walking.{Going, going_first, going_on, going_round}
+use Rattle.call_unsew.proofs.Walking.{going_first, going_on, going_round}
 use Rattle.call_unsew.proofs.mark_side.Goals as goal
 use Rattle.call_unsew.proofs.mark_side.Goals.{After-link_in-x}
 

@@ -1,14 +1,8 @@
 -- `call_unsew::mark_side` meets its contract. The loop's invariant is `Going`; the measure: the slots, less the turns that lead to x.
 use Prim.Native.Nat.{◌-◌}
-use mathlib.Core.Path.{◌≡◌, ap, ◌∙◌}
-use native.Mathlib.Omega.{arith}
-use borrow.Author.Rules.{rules}
-use Rattle.model.specs.Table.{slots, link}
-use Rattle.sides.proofs.Entries.{live_entry}
-use Rattle.sides.proofs.SideTurns.{side_start_lem}
-use Rattle.sides.proofs.Standing.{turns_to, standing_live, standing_nearer}
-use Rattle.call_unsew.proofs.Marks.{marking_few, marking_both}
-use Rattle.call_unsew.proofs.Walking.{Going, going_first, going_on, going_round}
+use Rattle.model.specs.Table.{slots}
+use Rattle.sides.proofs.Standing.{turns_to}
+use Rattle.call_unsew.proofs.Walking.{Going}
 use Rattle.call_unsew.proofs.mark_side.Given as goal
 
 abbrev pub invariant-loop-x : goal.invariant-loop-x

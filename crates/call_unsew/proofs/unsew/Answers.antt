@@ -3,7 +3,6 @@ use Prim.Native.Nat.{◌<◌}
 use mathlib.Core.Path.{◌≡◌}
 use mathlib.Core.List.{List}
 use native.Mathlib.Omega.{arith}
-use borrow.Author.Rules.{rules}
 use Rattle.model.specs.Checks.{Check, pass, in_order, unsew_checks, map_checks}
 use Rattle.theorems.proofs.Sets.Closure.{none_marked}
 use Rattle.theorems.proofs.Calls.Pass.{dim_pass, index_pass}

@@ -2,7 +2,6 @@
 use Prim.Native.Nat.{◌<◌}
 use mathlib.Core.Path.{◌∙◌}
 use native.Mathlib.Omega.{arith}
-use borrow.Author.Rules.{rules}
 use Rattle.model.specs.Cell.{cell_size}
 use Rattle.model.specs.Numbering.{corners}
 use Rattle.numbering.specs.Orders.{orders, place_of}

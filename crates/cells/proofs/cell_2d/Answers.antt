@@ -1,7 +1,6 @@
 -- `cells::cell_2d` meets its contract. both ways round the quad, by computing.
 use mathlib.Core.Path.{◌∙◌}
 use native.Mathlib.Omega.{arith}
-use borrow.Author.Rules.{rules}
 use Rattle.model.specs.Numbering.{corners}
 use Rattle.numbering.specs.Orders.{orders, place_of}
 use Rattle.model.specs.Cell.{cell_size}

@@ -1,7 +1,6 @@
 -- `cells::cell_3d` meets its contract: vertex by vertex, by computing.
 use mathlib.Core.Path.{◌∙◌}
 use native.Mathlib.Omega.{arith}
-use borrow.Author.Rules.{rules}
 use Rattle.model.specs.Cell.{cell_size}
 use Rattle.model.specs.Numbering.{corners}
 use Rattle.numbering.specs.Orders.{place_of}

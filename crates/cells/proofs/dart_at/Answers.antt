@@ -1,6 +1,5 @@
 -- `cells::dart_at` meets its contract.
 use native.Mathlib.Omega.{arith}
-use borrow.Author.Rules.{rules}
 use Rattle.numbering.proofs.Orders.{place_low}
 use Rattle.cells.proofs.dart_at.Goals as goal
 

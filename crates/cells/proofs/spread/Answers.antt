@@ -1,11 +1,10 @@
 use Prim.Native.Nat.{suc, ◌+◌, ◌*◌, ◌-◌, ◌%◌, ◌^◌, ◌≤◌, ◌<◌}
-use mathlib.Core.Path.{◌≡◌, sym, ◌∙◌}
+use mathlib.Core.Path.{◌≡◌}
 use native.Mathlib.Omega.{arith}
-use borrow.Author.Rules.{rules}
 use Rattle.model.specs.Cell.{cell_size}
 use Rattle.model.specs.Numbering.{corners}
 use Rattle.numbering.specs.Orders.{orders, place_of}
-use Rattle.cells.specs.Listing.{Listing, spread}
+use Rattle.cells.specs.Listing.{Listing}
 use Rattle.cells.proofs.Listing.{walked_listing, around_listing, bit_few, bit_is, spread_next, spread_none}
 use Rattle.cells.proofs.spread.Goals as goal
 use Rattle.cells.proofs.spread.Goals.{After-slice_known-in-loop-vertex-2-1, After-walk, In-loop-vertex}

@@ -1,13 +1,7 @@
 -- `cells::spread` meets its contract. The loop's invariant: what is left ends where the whole ends.
-use Prim.Native.Nat.{suc, ◌+◌, ◌*◌, ◌-◌, ◌%◌, ◌^◌, ◌≤◌, ◌<◌}
-use mathlib.Core.Path.{◌≡◌, sym, ◌∙◌}
-use native.Mathlib.Omega.{arith}
-use borrow.Author.Rules.{rules}
-use Rattle.model.specs.Cell.{cell_size}
-use Rattle.model.specs.Numbering.{corners}
-use Rattle.numbering.specs.Orders.{orders, place_of}
+use Prim.Native.Nat.{◌-◌, ◌^◌, ◌≤◌}
+use mathlib.Core.Path.{◌≡◌}
 use Rattle.cells.specs.Listing.{Listing, spread}
-use Rattle.cells.proofs.Listing.{walked_listing, around_listing, bit_few, bit_is, spread_next, spread_none}
 use Rattle.cells.proofs.spread.Given as goal
 
 abbrev pub invariant-loop-vertex : goal.invariant-loop-vertex

@@ -1,13 +1,8 @@
 -- `cells::walk` meets its contract. The loop's invariant: what is left of the walk ends where the whole ends.
-use Prim.Native.Nat.{suc, ◌+◌, ◌-◌, ◌≤◌, ◌<◌}
-use mathlib.Core.Path.{◌≡◌, sym, ◌∙◌}
-use native.Mathlib.Omega.{arith}
-use borrow.Author.Rules.{rules}
-use Rattle.model.specs.Numbering.{corners}
-use Rattle.numbering.specs.Orders.{orders, place_of}
-use Rattle.numbering.proofs.Orders.{order_low, vertex_low, place_low}
+use Prim.Native.Nat.{◌-◌, ◌≤◌}
+use Rattle.numbering.specs.Orders.{place_of}
 use Rattle.cells.specs.Listing.{walked}
-use Rattle.cells.proofs.Listing.{Walking, walk_starts, walk_at, walk_next, walk_ends, link_there}
+use Rattle.cells.proofs.Listing.{Walking}
 use Rattle.cells.proofs.walk.Given as goal
 
 abbrev pub invariant-loop-step : goal.invariant-loop-step

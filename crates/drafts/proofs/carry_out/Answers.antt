@@ -1,6 +1,5 @@
 -- `carry_out` meets its contract: `close_record`, and `put_record` of the record that was closed.
 use native.Mathlib.Omega.{arith}
-use borrow.Author.Rules.{rules}
 use Rattle.model.specs.Journal.{cursor}
 use Rattle.drafts.proofs.Carrying.{draft_closes, closed_puts, carried}
 use Rattle.drafts.proofs.carry_out.Goals as goal

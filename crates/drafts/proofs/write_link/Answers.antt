@@ -1,6 +1,5 @@
 -- `write_link` meets its contract, by `link_met`.
 use native.Mathlib.Omega.{arith}
-use borrow.Author.Rules.{rules}
 use Rattle.drafts.proofs.Passes.{link_room, link_met}
 use Rattle.drafts.proofs.write_link.Goals as goal
 

@@ -1,9 +1,6 @@
-use Prim.Native.Nat.{ℕ, ◌+◌, ◌*◌, ◌-◌, ◌≤◌}
 use mathlib.Core.Path.{◌≡◌, sym, ◌∙◌}
-use mathlib.Core.List.{List}
 use native.Mathlib.Omega.{arith}
 use borrow.Author.Rules.{rules}
-use Rattle.drafts.specs.Passes.{Met, Pass, FourLinks}
 use Rattle.drafts.proofs.Passes.{slot_none, slot_room, slot_more, slot_length, slot_met, pass_length}
 use Rattle.drafts.proofs.write_slot.Goals as goal
 

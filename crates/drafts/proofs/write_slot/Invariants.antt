@@ -1,11 +1,7 @@
 -- `write_slot` meets its contract. The loop's invariant: the links below k are met.
 use Prim.Native.Nat.{ℕ, ◌+◌, ◌*◌, ◌-◌, ◌≤◌}
-use mathlib.Core.Path.{◌≡◌, sym, ◌∙◌}
 use mathlib.Core.List.{List}
-use native.Mathlib.Omega.{arith}
-use borrow.Author.Rules.{rules}
 use Rattle.drafts.specs.Passes.{Met, Pass, FourLinks}
-use Rattle.drafts.proofs.Passes.{slot_none, slot_room, slot_more, slot_length, slot_met, pass_length}
 use Rattle.drafts.proofs.write_slot.Given as goal
 
 abbrev pub invariant-loop-k : goal.invariant-loop-k

@@ -1,7 +1,6 @@
 -- `write_triple` meets its contract, by `draft_at`.
 use native.Mathlib.Omega.{arith}
 use lib.ListN.{length-set}
-use borrow.Author.Rules.{rules}
 use Rattle.drafts.proofs.Drafts.{draft_at}
 use Rattle.drafts.proofs.write_triple.Goals as goal
 

@@ -1,9 +1,7 @@
 -- `fresh::fill_bytes` meets its contract. The loop's invariant: the first `k` are filled.
 use Prim.Native.Nat.{◌-◌, ◌≤◌}
-use mathlib.Core.Path.{◌≡◌, refl}
-use native.Mathlib.Omega.{arith}
-use lib.ListN.{length, take, replicate, length-set}
-use Rattle.fresh.proofs.Filling.{filled_more, filled_all}
+use mathlib.Core.Path.{◌≡◌}
+use lib.ListN.{length, take, replicate}
 use Rattle.fresh.proofs.fill_bytes.Given as goal
 
 abbrev pub invariant-loop-k : goal.invariant-loop-k

@@ -1,6 +1,5 @@
 -- `fresh::fresh_journal` meets its contract.
 use Rattle.fresh.proofs.Filling.{journal_fresh}
-use borrow.Author.Rules.{rules}
 use Rattle.fresh.proofs.fresh_journal.Goals as goal
 
 pub returns : goal.returns

@@ -2,7 +2,7 @@
 use mathlib.Core.Path.{◌≡◌, sym, ◌∙◌}
 use mathlib.Core.Bool.{Bool, true, false}
 use native.Mathlib.Omega.{arith}
-use borrow.Author.Tests.{eq-eqb, ne_eqb, not-true, not-false}
+use borrow.Author.Tests.{eq-eqb, ne_eqb}
 use Rattle.numbering.proofs.Orders.{orders_some, orders_solid}
 use Rattle.good_cells.specs.Good.{follow_from, all_follow}
 use Rattle.good_cells.proofs.all_follow.Goals as goal

@@ -1,12 +1,8 @@
-use Prim.Native.Nat.{ℕ, ◌*◌, ◌≤◌, ◌<◌, ◌-◌}
-use mathlib.Core.Path.{◌≡◌, refl, sym, ◌∙◌}
-use mathlib.Core.Bool.{true}
+use mathlib.Core.Path.{refl, sym, ◌∙◌}
 use native.Mathlib.Omega.{arith}
 use borrow.Author.Count.{below_none, below_more}
-use borrow.Author.Rules.{rules}
-use borrow.Author.Tests.{not-true, not-false}
 use Rattle.theorems.proofs.Lists.Scan.{below_of}
-use Rattle.good_cells.specs.Good.{side_of, is_straight, all_straight}
+use Rattle.good_cells.specs.Good.{all_straight}
 use Rattle.good_cells.proofs.Good.{not_all}
 use Rattle.good_cells.proofs.all_straight.Goals as goal
 

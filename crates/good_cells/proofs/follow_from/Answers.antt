@@ -1,16 +1,14 @@
-use Prim.Native.Nat.{ℕ, ◌-◌, ◌≤◌, ◌<◌}
-use mathlib.Core.Path.{◌≡◌, sym, ◌∙◌}
-use mathlib.Core.Logic.{inl, inr, ⊎_elim}
-use mathlib.Core.Bool.{true, ◌||◌}
+use Prim.Native.Nat.{◌<◌}
+use mathlib.Core.Path.{sym, ◌∙◌}
+use mathlib.Core.Logic.{inl, inr}
 use native.Mathlib.Omega.{arith}
 use lib.Dec.{ltb}
 use borrow.Author.Count.{below_more}
-use borrow.Author.Rules.{rules}
-use borrow.Author.Tests.{lt-ltb, le-ltb, not-true, not-false}
+use borrow.Author.Tests.{lt-ltb, le-ltb}
 use Rattle.model.specs.Numbering.{corners}
 use Rattle.theorems.proofs.Lists.Scan.{or_i, below_of}
-use Rattle.numbering.specs.Orders.{next_vertex, place_of}
-use Rattle.good_cells.specs.Good.{follows_at, follow_from}
+use Rattle.numbering.specs.Orders.{next_vertex}
+use Rattle.good_cells.specs.Good.{follow_from}
 use Rattle.good_cells.proofs.Good.{not_all}
 use Rattle.good_cells.proofs.follow_from.Goals as goal
 use Rattle.good_cells.proofs.follow_from.Goals.{then-next_vertex-vertex+else-not-follows, else-next_vertex-vertex}

@@ -1,6 +1,5 @@
 -- `good_cells::follows` meets its contract.
 use native.Mathlib.Omega.{arith}
-use borrow.Author.Rules.{rules}
 use Rattle.numbering.proofs.Orders.{order_low, vertex_low, place_low, next_place}
 use Rattle.good_cells.specs.Good.{follows_at}
 use Rattle.cells.proofs.Listing.{link_there}

@@ -1,7 +1,5 @@
 -- `good_cells::is_good` meets its contract.
 use mathlib.Core.Path.{sym, ◌∙◌}
-use borrow.Author.Rules.{rules}
-use borrow.Author.Tests.{not-true, not-false}
 use Rattle.good_cells.proofs.Tested.{given_listing, wrong_link, wrong_again, good_by}
 use Rattle.good_cells.proofs.is_good.Goals as goal
 

@@ -1,12 +1,8 @@
-use Prim.Native.Nat.{ℕ, ◌<◌, ◌-◌}
 use mathlib.Core.Path.{◌≡◌, sym}
-use mathlib.Core.Bool.{true}
 use native.Mathlib.Omega.{arith}
 use borrow.Author.Count.{below_more}
-use borrow.Author.Rules.{rules}
-use lib.ListN.{length}
 use Rattle.theorems.proofs.Lists.Scan.{below_of}
-use Rattle.good_cells.specs.Good.{not_again, only_first}
+use Rattle.good_cells.specs.Good.{only_first}
 use Rattle.good_cells.proofs.Good.{not_all, not_again_first, not_again_lem, again}
 use Rattle.good_cells.proofs.only_first.Goals as goal
 

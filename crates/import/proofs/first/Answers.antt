@@ -1,6 +1,5 @@
 -- `import::first` meets its contract: the call's outcome is that of the model on a table with no live slot and a fresh journal.
 use native.Mathlib.Omega.{arith}
-use borrow.Author.Rules.{rules}
 use Rattle.texts.proofs.Writing.{appended_inside}
 use Rattle.import.proofs.Telling.{refused_whole, accepted_whole}
 use Rattle.import.proofs.first.Goals as goal

@@ -1,10 +1,7 @@
 -- `import::write_lines` is safe and ends. The loop's invariant: no more slots are passed than there are.
 use Prim.Native.Nat.{◌-◌, ◌≤◌}
-use mathlib.Core.Path.{◌≡◌, refl}
-use native.Mathlib.Omega.{arith}
+use mathlib.Core.Path.{◌≡◌}
 use lib.ListN.{length}
-use borrow.Author.Rules.{rules}
-use Rattle.texts.proofs.Writing.{appended_inside}
 use Rattle.import.proofs.write_lines.Given as goal
 
 abbrev pub invariant-loop-a : goal.invariant-loop-a

@@ -1,10 +1,9 @@
-use Prim.Native.Nat.{◌+◌, ◌*◌, ◌-◌, ◌<◌}
+use Prim.Native.Nat.{◌+◌, ◌-◌, ◌<◌}
 use mathlib.Core.Path.{◌≡◌, refl, ap, sym, ◌∙◌}
 use mathlib.Core.Bool.{true}
 use native.Mathlib.Omega.{arith}
 use lib.ListN.{length, get_or, drop, length-set}
-use borrow.Author.Rules.{rules}
-use Rattle.model.specs.Journal.{changes_at, read_changes, put}
+use Rattle.model.specs.Journal.{changes_at, read_changes}
 use Rattle.journal.specs.Records.{within}
 use Rattle.journal.proofs.Puts.{put_turn, within_turn, put_length, put_none}
 use Rattle.journal.proofs.put_record.Goals as goal

@@ -1,14 +1,11 @@
 -- `put_record` meets its contract. The loop's invariant: what is left to be put leads to what the whole record leads to, and
 -- lies within the table and the journal.
-use Prim.Native.Nat.{◌+◌, ◌*◌, ◌-◌, ◌<◌}
-use mathlib.Core.Path.{◌≡◌, refl, ap, sym, ◌∙◌}
+use Prim.Native.Nat.{◌+◌, ◌*◌, ◌<◌}
+use mathlib.Core.Path.{◌≡◌}
 use mathlib.Core.Bool.{true}
-use native.Mathlib.Omega.{arith}
-use lib.ListN.{length, get_or, drop, length-set}
-use borrow.Author.Rules.{rules}
+use lib.ListN.{length, drop}
 use Rattle.model.specs.Journal.{changes_at, read_changes, put}
 use Rattle.journal.specs.Records.{within}
-use Rattle.journal.proofs.Puts.{put_turn, within_turn, put_length, put_none}
 use Rattle.journal.proofs.put_record.Given as goal
 
 abbrev pub invariant-loop-left : goal.invariant-loop-left

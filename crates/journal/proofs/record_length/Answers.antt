@@ -1,6 +1,5 @@
 -- `record_length` meets its contract.
 use mathlib.Core.Path.{refl}
-use borrow.Author.Rules.{rules}
 use Rattle.journal.proofs.record_length.Goals as goal
 
 pub returns : goal.returns

@@ -2,7 +2,6 @@
 use mathlib.Core.Path.{ap, sym, ◌∙◌}
 use native.Mathlib.Omega.{arith}
 use lib.Dec.{eqb}
-use borrow.Author.Rules.{rules}
 use Rattle.journal.proofs.Breaks.{sound_low, sound_past, sound_alike, sound_differs}
 use Rattle.journal.proofs.sound_change.Goals as goal
 

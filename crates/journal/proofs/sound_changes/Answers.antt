@@ -1,9 +1,5 @@
-use Prim.Native.Nat.{◌+◌, ◌*◌, ◌<◌}
 use mathlib.Core.Path.{◌≡◌, refl, sym, ◌∙◌}
 use native.Mathlib.Omega.{arith}
-use lib.ListN.{length, drop}
-use borrow.Author.Rules.{rules}
-use borrow.Author.Tests.{not-true, not-false}
 use Rattle.model.specs.Journal.{changes_at, read_changes, sound}
 use Rattle.journal.proofs.Breaks.{sound_stops, sound_goes}
 use Rattle.journal.proofs.sound_changes.Goals as goal

@@ -1,12 +1,8 @@
 -- `sound_changes` meets its contract. The loop's invariant: the tests of the changes that are left decide.
 use Prim.Native.Nat.{◌+◌, ◌*◌, ◌<◌}
-use mathlib.Core.Path.{◌≡◌, refl, sym, ◌∙◌}
-use native.Mathlib.Omega.{arith}
+use mathlib.Core.Path.{◌≡◌}
 use lib.ListN.{length, drop}
-use borrow.Author.Rules.{rules}
-use borrow.Author.Tests.{not-true, not-false}
 use Rattle.model.specs.Journal.{changes_at, read_changes, sound}
-use Rattle.journal.proofs.Breaks.{sound_stops, sound_goes}
 use Rattle.journal.proofs.sound_changes.Given as goal
 
 abbrev pub invariant-loop-left : goal.invariant-loop-left

@@ -1,7 +1,6 @@
 -- `unbroken` meets its contract: each `return false` by the test that fails.
 use mathlib.Core.Path.{sym}
 use native.Mathlib.Omega.{arith}
-use borrow.Author.Rules.{rules}
 use Rattle.model.specs.Journal.{end}
 use Rattle.model.specs.Meaning.Records.{no_change, passes_2, passes_end, counts_differ}
 use Rattle.theorems.proofs.History.Broken.{unbroken_exactly}

@@ -1,5 +1,4 @@
 -- `value_put` meets its contract.
-use borrow.Author.Rules.{rules}
 use Rattle.journal.specs.Records.{change_at, value_put}
 use Rattle.journal.proofs.value_put.Goals as goal
 

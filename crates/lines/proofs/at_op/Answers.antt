@@ -1,6 +1,5 @@
 -- `lines::at_op` meets its contract.
 use Rattle.lines.specs.Held.{at_op}
-use borrow.Author.Rules.{rules}
 use Rattle.lines.proofs.at_op.Goals as goal
 
 pub returns-in-Op : goal.returns-in-Op

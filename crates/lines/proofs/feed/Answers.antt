@@ -1,9 +1,6 @@
-use Prim.Native.Nat.{◌-◌}
-use mathlib.Core.Path.{◌≡◌, refl, ◌∙◌}
+use mathlib.Core.Path.{refl, ◌∙◌}
 use native.Mathlib.Omega.{arith}
-use lib.ListN.{length}
-use Rattle.lines.specs.Held.{machine_of}
-use Rattle.lines.proofs.Feeding.{Feeding, room_kept, feeding_start, feeding_on, fed_whole}
+use Rattle.lines.proofs.Feeding.{room_kept, feeding_start, feeding_on, fed_whole}
 use Rattle.lines.proofs.feed.Goals as goal
 
 pub loop-k-init : goal.loop-k-init

@@ -1,10 +1,9 @@
 -- `lines::feed` meets its contract. The loop's invariant is `Feeding`.
 use Prim.Native.Nat.{◌-◌}
-use mathlib.Core.Path.{◌≡◌, refl, ◌∙◌}
-use native.Mathlib.Omega.{arith}
+use mathlib.Core.Path.{◌≡◌}
 use lib.ListN.{length}
 use Rattle.lines.specs.Held.{machine_of}
-use Rattle.lines.proofs.Feeding.{Feeding, room_kept, feeding_start, feeding_on, fed_whole}
+use Rattle.lines.proofs.Feeding.{Feeding}
 use Rattle.lines.proofs.feed.Given as goal
 
 abbrev pub invariant-loop-k : goal.invariant-loop-k

@@ -1,6 +1,5 @@
 -- `lines::feed_byte` meets its contract.
 use Rattle.lines.proofs.Steps.{done_told, held_told}
-use borrow.Author.Rules.{rules}
 use Rattle.lines.proofs.feed_byte.Goals as goal
 
 pub returns-then-s : goal.returns-then-s

@@ -4,12 +4,10 @@ use mathlib.Core.Path.{sym, ◌∙◌}
 use native.Mathlib.Omega.{arith}
 use lib.ListN.{length}
 use lib.Seq.{length-take-le}
-use borrow.Author.Tests.{not-true, not-false}
 use Rattle.model.specs.Session.{bad}
 use Rattle.texts.proofs.Writing.{appended_none}
 use Rattle.lines.proofs.Fresh.{slots_part}
 use Rattle.lines.proofs.Steps.{ends_done, ends_held, ends_other, ends_op}
-use borrow.Author.Rules.{rules}
 use Rattle.lines.proofs.finish.Goals as goal
 
 pub returns-then-s : goal.returns-then-s

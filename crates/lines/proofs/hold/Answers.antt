@@ -1,7 +1,6 @@
 -- `lines::hold` meets its contract.
 use native.Mathlib.Omega.{arith}
 use Rattle.lines.proofs.Steps.{hold_more, hold_full}
-use borrow.Author.Rules.{rules}
 use Rattle.lines.proofs.hold.Goals as goal
 
 pub returns-then-held-lt15 : goal.returns-then-held-lt15

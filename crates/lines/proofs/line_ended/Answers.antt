@@ -6,7 +6,6 @@ use lib.Seq.{length-take-le}
 use Rattle.texts.specs.Texts.{given_by}
 use Rattle.lines.specs.Held.{lent}
 use Rattle.lines.proofs.Steps.{fits_read, taken_told, bad_told}
-use borrow.Author.Rules.{rules}
 use Rattle.lines.proofs.line_ended.Goals as goal
 
 pub slice_bounds-given-end : goal.slice_bounds-given-end

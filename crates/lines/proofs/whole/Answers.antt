@@ -2,7 +2,6 @@
 use Rattle.texts.proofs.Writing.{appended_inside}
 use native.Mathlib.Omega.{arith}
 use Rattle.lines.proofs.Printed.{printed_whole}
-use borrow.Author.Rules.{rules}
 use Rattle.lines.proofs.whole.Goals as goal
 
 pub finish-requires : goal.finish-requires

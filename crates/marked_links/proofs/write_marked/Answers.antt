@@ -1,12 +1,8 @@
-use Prim.Native.Nat.{ℕ, ◌-◌, ◌≤◌}
-use mathlib.Core.Path.{◌≡◌}
-use mathlib.Core.List.{List}
+use Prim.Native.Nat.{◌≤◌}
 use native.Mathlib.Omega.{arith}
-use borrow.Author.Rules.{rules}
 use Rattle.model.specs.Table.{slots}
 use Rattle.model.specs.Journal.{cursor}
-use Rattle.marked_links.specs.Marked.{MarkedRecord}
-use Rattle.marked_links.proofs.MarkedPass.{marked_start, marked_length, marked_end, Skipped, skipped_here, skipped_all}
+use Rattle.marked_links.proofs.MarkedPass.{marked_start, marked_end, skipped_here, skipped_all}
 use Rattle.marked_links.proofs.write_marked.Goals as goal
 use Rattle.marked_links.proofs.write_marked.Goals.{After-block_end-y, At-loop-x}
 

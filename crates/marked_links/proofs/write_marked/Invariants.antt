@@ -1,13 +1,10 @@
 -- `marked_links::write_marked` meets its contract. The loop's invariant: the slots below x are met, or skipped.
-use Prim.Native.Nat.{ℕ, ◌-◌, ◌≤◌}
+use Prim.Native.Nat.{ℕ, ◌-◌}
 use mathlib.Core.Path.{◌≡◌}
 use mathlib.Core.List.{List}
-use native.Mathlib.Omega.{arith}
-use borrow.Author.Rules.{rules}
 use Rattle.model.specs.Table.{slots}
-use Rattle.model.specs.Journal.{cursor}
 use Rattle.marked_links.specs.Marked.{MarkedRecord}
-use Rattle.marked_links.proofs.MarkedPass.{marked_start, marked_length, marked_end, Skipped, skipped_here, skipped_all}
+use Rattle.marked_links.proofs.MarkedPass.{Skipped}
 use Rattle.marked_links.proofs.write_marked.Given as goal
 
 abbrev pub invariant-loop-x : goal.invariant-loop-x

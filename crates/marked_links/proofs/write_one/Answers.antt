@@ -1,6 +1,5 @@
 -- `marked_links::write_one` meets its contract.
 use native.Mathlib.Omega.{arith}
-use borrow.Author.Rules.{rules}
 use Rattle.marked_links.proofs.MarkedPass.{marked_one, marked_stays, marked_more, marked_word, marked_length}
 use Rattle.marked_links.proofs.write_one.Goals as goal
 

@@ -1,10 +1,5 @@
-use Prim.Native.Nat.{ℕ, ◌-◌, ◌≤◌}
-use mathlib.Core.Path.{◌≡◌, sym, ◌∙◌}
-use mathlib.Core.List.{List}
+use mathlib.Core.Path.{◌≡◌}
 use native.Mathlib.Omega.{arith}
-use borrow.Author.Rules.{rules}
-use Rattle.marked_links.specs.Marked.{MarkedPass}
-use Rattle.marked_links.proofs.MarkedPass.{marked_length}
 use Rattle.marked_links.proofs.write_some.Goals as goal
 
 pub loop-z-init : goal.loop-z-init

@@ -1,11 +1,7 @@
 -- `marked_links::write_some` meets its contract. The loop's invariant: the slots below z are met.
 use Prim.Native.Nat.{ℕ, ◌-◌, ◌≤◌}
-use mathlib.Core.Path.{◌≡◌, sym, ◌∙◌}
 use mathlib.Core.List.{List}
-use native.Mathlib.Omega.{arith}
-use borrow.Author.Rules.{rules}
 use Rattle.marked_links.specs.Marked.{MarkedPass}
-use Rattle.marked_links.proofs.MarkedPass.{marked_length}
 use Rattle.marked_links.proofs.write_some.Given as goal
 
 abbrev pub invariant-loop-z : goal.invariant-loop-z

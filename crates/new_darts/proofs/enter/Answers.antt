@@ -1,6 +1,5 @@
 -- `new_darts::enter` meets its contract.
 use mathlib.Core.Path.{refl}
-use borrow.Author.Rules.{rules}
 use Rattle.new_darts.proofs.enter.Goals as goal
 
 -- src/lib.rt:43:1

@@ -1,10 +1,7 @@
 -- `new_darts::list_darts` meets its contract. The loop's invariant: the darts before x are listed.
-use Prim.Native.Nat.{◌-◌, ◌≤◌, ◌<◌}
-use mathlib.Core.Path.{refl}
-use native.Mathlib.Omega.{arith}
+use Prim.Native.Nat.{◌-◌, ◌≤◌}
 use lib.ListN.{length}
-use Rattle.theorems.proofs.Layers.Splitting.{slot_low}
-use Rattle.new_darts.proofs.Placing.{Placing, placing_none, placing_more, placing_over, placing_left, placing_all, enters_few}
+use Rattle.new_darts.proofs.Placing.{Placing}
 use Rattle.new_darts.proofs.list_darts.Given as goal
 
 abbrev pub invariant-loop-r : goal.invariant-loop-r

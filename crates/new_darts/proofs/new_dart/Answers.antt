@@ -2,7 +2,6 @@
 use Prim.Native.Nat.{◌+◌}
 use native.Mathlib.Omega.{arith}
 use lib.ListN.{get_or}
-use borrow.Author.Rules.{rules}
 use Rattle.new_darts.proofs.new_dart.Goals as goal
 
 pub overflow_cast-result-4 : goal.overflow_cast-result-4

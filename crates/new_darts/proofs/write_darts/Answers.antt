@@ -1,16 +1,15 @@
-use Prim.Native.Nat.{ℕ, ◌+◌, ◌*◌, ◌-◌, ◌≤◌, ◌<◌}
-use mathlib.Core.Path.{◌≡◌, refl, sym, ◌∙◌}
+use Prim.Native.Nat.{ℕ, ◌*◌, ◌≤◌, ◌<◌}
+use mathlib.Core.Path.{refl}
 use mathlib.Core.List.{List}
 use native.Mathlib.Omega.{arith}
 use lib.ListN.{get_or}
-use borrow.Author.Rules.{rules}
 use Rattle.drafts.specs.Passes.{OneLink}
 use Rattle.drafts.proofs.Passes.{pass_word, pass_length}
 use Rattle.new_darts.specs.News.{Made}
 use Rattle.new_darts.specs.Drafting.{Drafting}
 use Rattle.new_darts.proofs.News.{new_asked, new_found}
 use Rattle.new_darts.proofs.Lists.{spreads, dart_in, dart_inside, news, dart_link}
-use Rattle.new_darts.proofs.Passing.{draft_length, draft_dart, draft_dart_more, darts_met}
+use Rattle.new_darts.proofs.Passing.{draft_dart, draft_dart_more, darts_met}
 use Rattle.new_darts.proofs.write_darts.Goals as goal
 use Rattle.new_darts.proofs.write_darts.Goals.{After-new_dart, At-loop-k, Else-g-x}
 

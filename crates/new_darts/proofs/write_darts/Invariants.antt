@@ -1,17 +1,10 @@
 -- `new_darts::write_darts` meets its contract. The loop's invariant: k old darts are behind the pass, whose next triple is at v.
 use Prim.Native.Nat.{ℕ, ◌+◌, ◌*◌, ◌-◌, ◌≤◌, ◌<◌}
-use mathlib.Core.Path.{◌≡◌, refl, sym, ◌∙◌}
+use mathlib.Core.Path.{◌≡◌}
 use mathlib.Core.List.{List}
-use native.Mathlib.Omega.{arith}
 use lib.ListN.{get_or}
-use borrow.Author.Rules.{rules}
-use Rattle.drafts.specs.Passes.{OneLink}
-use Rattle.drafts.proofs.Passes.{pass_word, pass_length}
 use Rattle.new_darts.specs.News.{Made}
 use Rattle.new_darts.specs.Drafting.{Drafting}
-use Rattle.new_darts.proofs.News.{new_asked, new_found}
-use Rattle.new_darts.proofs.Lists.{spreads, dart_in, dart_inside, news, dart_link}
-use Rattle.new_darts.proofs.Passing.{draft_length, draft_dart, draft_dart_more, darts_met}
 use Rattle.new_darts.proofs.write_darts.Given as goal
 
 abbrev pub invariant-loop-k : goal.invariant-loop-k

@@ -1,5 +1,4 @@
 -- `new_darts::write_layer` meets its contract, by that of `write`.
-use borrow.Author.Rules.{rules}
 use Rattle.new_darts.proofs.write_layer.Goals as goal
 
 pub write-requires : goal.write-requires

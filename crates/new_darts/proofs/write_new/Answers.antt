@@ -1,13 +1,11 @@
 -- `new_darts::write_new` meets its contract.
 use Prim.Native.Nat.{ℕ, ◌+◌, ◌*◌, ◌-◌, ◌≤◌, ◌<◌}
-use mathlib.Core.Path.{sym, ◌∙◌}
 use mathlib.Core.List.{List}
 use native.Mathlib.Omega.{arith}
 use lib.ListN.{get_or, replicate}
-use borrow.Author.Rules.{rules}
 use Rattle.model.specs.Table.{unused}
 use Rattle.drafts.specs.Passes.{Pass, FourLinks}
-use Rattle.drafts.proofs.Passes.{pass_word, pass_length}
+use Rattle.drafts.proofs.Passes.{pass_word}
 use Rattle.new_darts.specs.News.{Made}
 use Rattle.new_darts.specs.Drafting.{Drafting, DartsMet}
 use Rattle.new_darts.proofs.Lists.{spreads, dart_inside, new_inside, new_few, role_at, new_links_change}

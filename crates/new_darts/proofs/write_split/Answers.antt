@@ -1,5 +1,4 @@
 -- `new_darts::write_split` meets its contract, by that of `write`.
-use borrow.Author.Rules.{rules}
 use Rattle.new_darts.proofs.write_split.Goals as goal
 
 pub write-requires : goal.write-requires

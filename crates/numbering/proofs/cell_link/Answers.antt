@@ -1,7 +1,6 @@
 -- `numbering::cell_link` meets its contract.
 use Prim.Native.Nat.{◌/◌, ◌%◌, ◌<◌}
 use mathlib.Core.Path.{◌≡◌, ap, ◌∙◌}
-use borrow.Author.Rules.{rules}
 use Rattle.model.specs.Numbering.{corners, cell_link}
 use Rattle.numbering.specs.Orders.{orders, place_of}
 use Rattle.numbering.proofs.Orders.{corners_some, order_in, vertex_in, place_is, order_low, vertex_low, next_place}

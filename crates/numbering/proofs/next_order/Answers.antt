@@ -1,7 +1,6 @@
 -- `numbering::next_order` meets its contract.
 use mathlib.Core.Path.{◌∙◌}
 use native.Mathlib.Omega.{arith}
-use borrow.Author.Rules.{rules}
 use borrow.Author.Tests.{eqb-true}
 use lib.Dec.{eqb}
 use Rattle.theorems.proofs.Lists.Scan.{and_r}

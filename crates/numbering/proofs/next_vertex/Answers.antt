@@ -1,6 +1,5 @@
 -- `numbering::next_vertex` meets its contract.
 use mathlib.Core.Path.{◌∙◌}
-use borrow.Author.Rules.{rules}
 use Rattle.numbering.proofs.Orders.{axis_few, flip_axis, vertex_zero, vertex_rest}
 use Rattle.numbering.proofs.next_vertex.Goals as goal
 

@@ -1,5 +1,4 @@
 -- `numbering::order_of` meets its contract.
-use borrow.Author.Rules.{rules}
 use Rattle.numbering.proofs.Orders.{order_lower, order_higher}
 use Rattle.numbering.proofs.order_of.Goals as goal
 

@@ -1,7 +1,6 @@
 -- `numbering::place` meets its contract.
 use Prim.Native.Nat.{◌+◌, ◌*◌, ◌<◌}
 use native.Mathlib.Omega.{arith}
-use borrow.Author.Rules.{rules}
 use Rattle.numbering.specs.Orders.{place_of}
 use Rattle.numbering.proofs.Orders.{size_few, place_low}
 use Rattle.numbering.proofs.place.Goals as goal

@@ -1,5 +1,4 @@
 -- `numbering::second_axis` meets its contract.
-use borrow.Author.Rules.{rules}
 use Rattle.numbering.proofs.Orders.{second_lower, second_higher}
 use Rattle.numbering.proofs.second_axis.Goals as goal
 

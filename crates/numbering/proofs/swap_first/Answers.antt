@@ -1,7 +1,6 @@
 -- `numbering::swap_first` meets its contract.
 use mathlib.Core.Path.{◌∙◌}
 use native.Mathlib.Omega.{arith}
-use borrow.Author.Rules.{rules}
 use Rattle.numbering.proofs.Orders.{orders_solid, orders_flat, second_low, second_other, swap_first_three, swap_first_flat}
 use Rattle.numbering.proofs.swap_first.Goals as goal
 

@@ -1,5 +1,4 @@
 -- `phlernsap::phl_add` meets its contract, by that of `kernel::add`.
-use borrow.Author.Rules.{rules}
 use Rattle.phlernsap.proofs.Gives.{gives}
 use Rattle.phlernsap.proofs.phl_add.Goals as goal
 

@@ -1,5 +1,4 @@
 -- `phlernsap::phl_check` meets its contract, by that of `kernel::check`.
-use borrow.Author.Rules.{rules}
 use Rattle.phlernsap.proofs.Gives.{gives}
 use Rattle.phlernsap.proofs.phl_check.Goals as goal
 

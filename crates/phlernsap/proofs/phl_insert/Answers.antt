@@ -1,5 +1,4 @@
 -- `phlernsap::phl_insert` meets its contract, by that of `kernel::insert`.
-use borrow.Author.Rules.{rules}
 use Rattle.phlernsap.proofs.Gives.{gives}
 use Rattle.phlernsap.proofs.phl_insert.Goals as goal
 

@@ -1,5 +1,4 @@
 -- `phlernsap::phl_orbit` meets its contract, by that of `kernel::orbit`.
-use borrow.Author.Rules.{rules}
 use Rattle.phlernsap.proofs.Gives.{gives}
 use Rattle.phlernsap.proofs.phl_orbit.Goals as goal
 

@@ -1,6 +1,5 @@
 -- `phlernsap::phl_pick` meets its contract, by that of `kernel::pick`.
 use mathlib.Core.Path.{◌∙◌}
-use borrow.Author.Rules.{rules}
 use Rattle.phlernsap.proofs.Gives.{gives}
 use Rattle.phlernsap.proofs.phl_pick.Goals as goal
 

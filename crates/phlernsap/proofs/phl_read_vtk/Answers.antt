@@ -1,5 +1,4 @@
 -- `phlernsap::phl_read_vtk` meets its contract, by that of `kernel::read_vtk`.
-use borrow.Author.Rules.{rules}
 use Rattle.phlernsap.proofs.Gives.{gives}
 use Rattle.phlernsap.proofs.phl_read_vtk.Goals as goal
 

@@ -1,5 +1,4 @@
 -- `phlernsap::phl_redo` meets its contract, by that of `kernel::redo`.
-use borrow.Author.Rules.{rules}
 use Rattle.phlernsap.proofs.Gives.{gives}
 use Rattle.phlernsap.proofs.phl_redo.Goals as goal
 

@@ -1,5 +1,4 @@
 -- `phlernsap::phl_remove` meets its contract, by that of `kernel::remove`.
-use borrow.Author.Rules.{rules}
 use Rattle.phlernsap.proofs.Gives.{gives}
 use Rattle.phlernsap.proofs.phl_remove.Goals as goal
 

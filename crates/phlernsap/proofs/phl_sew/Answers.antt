@@ -1,5 +1,4 @@
 -- `phlernsap::phl_sew` meets its contract, by that of `kernel::sew`.
-use borrow.Author.Rules.{rules}
 use Rattle.phlernsap.proofs.Gives.{gives}
 use Rattle.phlernsap.proofs.phl_sew.Goals as goal
 

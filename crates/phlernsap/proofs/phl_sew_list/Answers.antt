@@ -1,5 +1,4 @@
 -- `phlernsap::phl_sew_list` meets its contract, by that of `kernel::sew_list`.
-use borrow.Author.Rules.{rules}
 use Rattle.phlernsap.proofs.Gives.{gives}
 use Rattle.phlernsap.proofs.phl_sew_list.Goals as goal
 

@@ -1,5 +1,4 @@
 -- `phlernsap::phl_sheet` meets its contract, by that of `kernel::sheet`.
-use borrow.Author.Rules.{rules}
 use Rattle.phlernsap.proofs.Gives.{gives}
 use Rattle.phlernsap.proofs.phl_sheet.Goals as goal
 

@@ -1,5 +1,4 @@
 -- `phlernsap::phl_split` meets its contract, by that of `kernel::split`.
-use borrow.Author.Rules.{rules}
 use Rattle.phlernsap.proofs.Gives.{gives}
 use Rattle.phlernsap.proofs.phl_split.Goals as goal
 

@@ -1,5 +1,4 @@
 -- `phlernsap::phl_undo` meets its contract, by that of `kernel::undo`.
-use borrow.Author.Rules.{rules}
 use Rattle.phlernsap.proofs.Gives.{gives}
 use Rattle.phlernsap.proofs.phl_undo.Goals as goal
 

@@ -1,5 +1,4 @@
 -- `phlernsap::phl_unsew` meets its contract, by that of `kernel::unsew`.
-use borrow.Author.Rules.{rules}
 use Rattle.phlernsap.proofs.Gives.{gives}
 use Rattle.phlernsap.proofs.phl_unsew.Goals as goal
 

@@ -1,5 +1,4 @@
 -- `picks::enter` meets its contract.
-use borrow.Author.Rules.{rules}
 use Rattle.picks.proofs.Entering.{entered_one}
 use Rattle.picks.proofs.enter.Goals as goal
 

@@ -1,10 +1,9 @@
-use Prim.Native.Nat.{◌+◌, ◌-◌, ◌≤◌}
+use Prim.Native.Nat.{◌+◌, ◌≤◌}
 use mathlib.Core.Path.{◌≡◌, sym, ap, ◌∙◌}
 use native.Mathlib.Omega.{arith}
-use borrow.Author.Rules.{rules}
 use lib.ListN.{length, get_or}
 use Rattle.model.specs.Table.{link}
-use Rattle.picks.specs.Enter.{Dart, beside_at, Entered}
+use Rattle.picks.specs.Enter.{Dart, beside_at}
 use Rattle.picks.proofs.Darts.{dart_low, dart_there, dart_next}
 use Rattle.picks.proofs.Entering.{entered_none, entered_next}
 use Rattle.picks.proofs.enter_beside.Goals as goal

@@ -1,13 +1,6 @@
 -- `picks::enter_beside` meets its contract. The loop's invariant: what link 2 leads to from the words passed has entered.
 use Prim.Native.Nat.{◌+◌, ◌-◌, ◌≤◌}
-use mathlib.Core.Path.{◌≡◌, sym, ap, ◌∙◌}
-use native.Mathlib.Omega.{arith}
-use borrow.Author.Rules.{rules}
-use lib.ListN.{length, get_or}
-use Rattle.model.specs.Table.{link}
-use Rattle.picks.specs.Enter.{Dart, beside_at, Entered}
-use Rattle.picks.proofs.Darts.{dart_low, dart_there, dart_next}
-use Rattle.picks.proofs.Entering.{entered_none, entered_next}
+use Rattle.picks.specs.Enter.{beside_at, Entered}
 use Rattle.picks.proofs.enter_beside.Given as goal
 
 abbrev pub invariant-loop-k : goal.invariant-loop-k

@@ -1,9 +1,8 @@
 -- `picks::enter_side` meets its contract: dart by dart.
 use mathlib.Core.Path.{◌≡◌, refl, sym, ap, ◌∙◌}
 use native.Mathlib.Omega.{arith}
-use borrow.Author.Rules.{rules}
 use Rattle.model.specs.Table.{link}
-use Rattle.picks.specs.Enter.{Dart, across, side_at, Entered}
+use Rattle.picks.specs.Enter.{Dart, side_at, Entered}
 use Rattle.picks.proofs.Darts.{dart_low, dart_there, dart_next, dart_across}
 use Rattle.picks.proofs.Entering.{entered_as, entered_next}
 use Rattle.picks.proofs.enter_side.Goals as goal

@@ -1,13 +1,11 @@
-use Prim.Native.Nat.{ℕ, suc, ◌+◌, ◌-◌, ◌≤◌, ◌<◌}
+use Prim.Native.Nat.{ℕ, suc, ◌+◌, ◌≤◌, ◌<◌}
 use mathlib.Core.Path.{◌≡◌, refl, sym, ap, ◌∙◌}
 use mathlib.Core.Logic.{inl, inr}
 use native.Mathlib.Omega.{arith}
-use borrow.Author.Rules.{rules}
-use lib.ListN.{length, get_or}
+use lib.ListN.{get_or}
 use Rattle.model.specs.Table.{slots}
 use Rattle.picks.specs.Enter.{Dart}
 use Rattle.picks.specs.Queued.{group}
-use Rattle.picks.specs.Beside.{BesideTo}
 use Rattle.picks.proofs.Darts.{dart_of, dart_low, dart_there, dart_next}
 use Rattle.picks.proofs.mark_group.Goals as goal
 use Rattle.picks.proofs.mark_group.Goals.{After-link_in-y, In-loop-j, Start}

@@ -1,15 +1,10 @@
 -- `picks::mark_group` meets its contract. The loop's invariant: beside the words passed all is marked.
-use Prim.Native.Nat.{ℕ, suc, ◌+◌, ◌-◌, ◌≤◌, ◌<◌}
-use mathlib.Core.Path.{◌≡◌, refl, sym, ap, ◌∙◌}
-use mathlib.Core.Logic.{inl, inr}
-use native.Mathlib.Omega.{arith}
-use borrow.Author.Rules.{rules}
-use lib.ListN.{length, get_or}
+use Prim.Native.Nat.{◌-◌, ◌≤◌}
+use mathlib.Core.Path.{◌≡◌}
+use lib.ListN.{length}
 use Rattle.model.specs.Table.{slots}
-use Rattle.picks.specs.Enter.{Dart}
 use Rattle.picks.specs.Queued.{group}
 use Rattle.picks.specs.Beside.{BesideTo}
-use Rattle.picks.proofs.Darts.{dart_of, dart_low, dart_there, dart_next}
 use Rattle.picks.proofs.mark_group.Given as goal
 
 abbrev pub invariant-loop-j : goal.invariant-loop-j

@@ -1,15 +1,13 @@
-use Prim.Native.Nat.{ℕ, ◌+◌, ◌*◌, ◌-◌, ◌≤◌, ◌<◌}
-use mathlib.Core.Path.{◌≡◌, sym, ap, ◌∙◌}
+use Prim.Native.Nat.{◌+◌, ◌*◌, ◌-◌, ◌≤◌}
+use mathlib.Core.Path.{◌≡◌, ap, ◌∙◌}
 use native.Mathlib.Omega.{arith}
-use lib.ListN.{length, get_or}
-use Rattle.model.specs.Table.{slots}
+use lib.ListN.{length}
 use Rattle.theorems.proofs.Lists.Scan.{if_lt}
 use Rattle.theorems.proofs.Sets.Pigeon.{count_most}
 use Rattle.theorems.proofs.Layers.Sheet.{sheet_live}
-use Rattle.sheets.proofs.Layers.{Settling}
-use Rattle.picks.specs.Queued.{group, Listed}
+use Rattle.picks.specs.Queued.{group}
 use Rattle.picks.proofs.Alike.{group_in, group_next}
-use Rattle.picks.proofs.Settling.{Done, settling_none, settling_group, settled_all}
+use Rattle.picks.proofs.Settling.{settling_none, settling_group, settled_all}
 use Rattle.picks.proofs.mark_rest.Goals as goal
 use Rattle.picks.proofs.mark_rest.Goals.{At-loop-k, In-loop-k}
 

@@ -1,16 +1,10 @@
 -- `picks::mark_rest` meets its contract. The loop's invariant: the marks are settling, and beside the words of the groups passed all has a mark.
-use Prim.Native.Nat.{ℕ, ◌+◌, ◌*◌, ◌-◌, ◌≤◌, ◌<◌}
-use mathlib.Core.Path.{◌≡◌, sym, ap, ◌∙◌}
-use native.Mathlib.Omega.{arith}
-use lib.ListN.{length, get_or}
-use Rattle.model.specs.Table.{slots}
-use Rattle.theorems.proofs.Lists.Scan.{if_lt}
-use Rattle.theorems.proofs.Sets.Pigeon.{count_most}
-use Rattle.theorems.proofs.Layers.Sheet.{sheet_live}
+use Prim.Native.Nat.{ℕ, ◌*◌, ◌-◌, ◌≤◌, ◌<◌}
+use mathlib.Core.Path.{◌≡◌}
+use lib.ListN.{get_or}
 use Rattle.sheets.proofs.Layers.{Settling}
 use Rattle.picks.specs.Queued.{group, Listed}
-use Rattle.picks.proofs.Alike.{group_in, group_next}
-use Rattle.picks.proofs.Settling.{Done, settling_none, settling_group, settled_all}
+use Rattle.picks.proofs.Settling.{Done}
 use Rattle.picks.proofs.mark_rest.Given as goal
 
 abbrev pub invariant-loop-k : goal.invariant-loop-k

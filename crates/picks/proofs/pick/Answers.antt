@@ -1,7 +1,6 @@
 -- `picks::pick` meets its contract.
 use Prim.Native.Nat.{ℕ}
 use mathlib.Core.Path.{ap, sym, ◌∙◌}
-use borrow.Author.Rules.{rules}
 use lib.ListN.{replicate}
 use Rattle.model.specs.Lists.{count}
 use Rattle.model.specs.Sheet.{sheet_marks}

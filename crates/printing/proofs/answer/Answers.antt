@@ -2,7 +2,6 @@
 use native.Mathlib.Omega.{arith}
 use Rattle.model.specs.Session.{answered}
 use Rattle.texts.proofs.Writing.{appended_then}
-use borrow.Author.Rules.{rules}
 use Rattle.printing.proofs.answer.Goals as goal
 
 pub say-count-requires : goal.say-count-requires

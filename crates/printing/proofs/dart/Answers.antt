@@ -3,7 +3,6 @@ use mathlib.Core.Path.{sym, ◌∙◌}
 use native.Mathlib.Omega.{arith}
 use Rattle.printing.proofs.Rising.{darts_live, darts_dead}
 use Rattle.texts.proofs.Writing.{appended_none}
-use borrow.Author.Rules.{rules}
 use Rattle.printing.proofs.dart.Goals as goal
 
 pub returns-then-live : goal.returns-then-live

@@ -2,7 +2,6 @@
 use native.Mathlib.Omega.{arith}
 use Rattle.model.specs.Session.{dart_lines}
 use Rattle.texts.proofs.Writing.{appended_then}
-use borrow.Author.Rules.{rules}
 use Rattle.printing.proofs.dart_lines.Goals as goal
 
 pub to_line-requires : goal.to_line-requires

@@ -1,6 +1,5 @@
-use Prim.Native.Nat.{◌-◌}
 use native.Mathlib.Omega.{arith}
-use Rattle.printing.proofs.Rising.{Going, going_start, going_on, gone}
+use Rattle.printing.proofs.Rising.{going_start, going_on, gone}
 use Rattle.printing.proofs.darts.Goals as goal
 
 pub slots-end-requires : goal.slots-end-requires

@@ -1,7 +1,6 @@
 -- `printing::darts` meets its contract. The loop's invariant: with what is still to be written, the text is whole.
 use Prim.Native.Nat.{◌-◌}
-use native.Mathlib.Omega.{arith}
-use Rattle.printing.proofs.Rising.{Going, going_start, going_on, gone}
+use Rattle.printing.proofs.Rising.{Going}
 use Rattle.printing.proofs.darts.Given as goal
 
 abbrev pub invariant-loop-d : goal.invariant-loop-d

@@ -2,7 +2,6 @@
 use Rattle.model.specs.Session.{ending}
 use Rattle.texts.proofs.Writing.{appended_then}
 use native.Mathlib.Omega.{arith}
-use borrow.Author.Rules.{rules}
 use Rattle.printing.proofs.ending.Goals as goal
 
 pub darts-requires : goal.darts-requires

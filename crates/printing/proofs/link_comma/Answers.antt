@@ -1,7 +1,6 @@
 -- `printing::link_comma` meets its contract.
 use native.Mathlib.Omega.{arith}
 use Rattle.texts.proofs.Writing.{appended_then, decimal_length}
-use borrow.Author.Rules.{rules}
 use Rattle.printing.proofs.link_comma.Goals as goal
 
 pub put_decimal-end-requires : goal.put_decimal-end-requires

@@ -1,9 +1,8 @@
-use Prim.Native.Nat.{◌+◌, ◌-◌, ◌≤◌}
-use mathlib.Core.Path.{◌≡◌, sym, ◌∙◌}
-use mathlib.Core.Logic.{⊎_elim}
+use Prim.Native.Nat.{◌≤◌}
+use mathlib.Core.Path.{sym, ◌∙◌}
 use native.Mathlib.Omega.{arith}
-use Rattle.model.specs.Table.{slots, live_count}
-use Rattle.printing.proofs.Rising.{live_from, live_all, live_next, live_marked, dead_unmarked, live_end}
+use Rattle.model.specs.Table.{slots}
+use Rattle.printing.proofs.Rising.{live_all, live_next, live_marked, dead_unmarked, live_end}
 use Rattle.printing.proofs.live_count.Goals as goal
 use Rattle.printing.proofs.live_count.Goals.{then-live, else-live}
 use Rattle.printing.proofs.live_count.Goals.{At-loop-d}

@@ -1,10 +1,8 @@
 -- `printing::live_count` meets its contract. The loop's invariant: with what is still to be counted, the count is whole.
 use Prim.Native.Nat.{◌+◌, ◌-◌, ◌≤◌}
-use mathlib.Core.Path.{◌≡◌, sym, ◌∙◌}
-use mathlib.Core.Logic.{⊎_elim}
-use native.Mathlib.Omega.{arith}
+use mathlib.Core.Path.{◌≡◌}
 use Rattle.model.specs.Table.{slots, live_count}
-use Rattle.printing.proofs.Rising.{live_from, live_all, live_next, live_marked, dead_unmarked, live_end}
+use Rattle.printing.proofs.Rising.{live_from}
 use Rattle.printing.proofs.live_count.Given as goal
 
 abbrev pub invariant-loop-d : goal.invariant-loop-d

@@ -1,7 +1,6 @@
 -- `printing::map_head` meets its contract: two lines.
 use native.Mathlib.Omega.{arith}
 use Rattle.texts.proofs.Writing.{appended_then}
-use borrow.Author.Rules.{rules}
 use Rattle.printing.proofs.map_head.Goals as goal
 
 pub say-requires : goal.say-requires

@@ -1,7 +1,6 @@
 -- `printing::to_line` meets its contract: its parts, one behind the other.
 use native.Mathlib.Omega.{arith}
 use Rattle.printing.proofs.Rising.{to_whole}
-use borrow.Author.Rules.{rules}
 use Rattle.printing.proofs.to_line.Goals as goal
 
 pub link_comma-second-requires : goal.link_comma-second-requires

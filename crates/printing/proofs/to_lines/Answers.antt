@@ -1,9 +1,5 @@
-use Prim.Native.Nat.{◌+◌, ◌*◌, ◌-◌, ◌≤◌}
 use mathlib.Core.Path.{◌≡◌, refl, ◌∙◌}
 use native.Mathlib.Omega.{arith}
-use lib.ListN.{length}
-use Rattle.model.specs.Import.{to_lines}
-use Rattle.texts.specs.Texts.{Appended}
 use Rattle.printing.proofs.Rising.{lines_none, lines_more}
 use Rattle.printing.proofs.to_lines.Goals as goal
 

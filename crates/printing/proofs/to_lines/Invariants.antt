@@ -1,11 +1,9 @@
 -- `printing::to_lines` meets its contract. The loop's invariant: the lines before d are written.
 use Prim.Native.Nat.{◌+◌, ◌*◌, ◌-◌, ◌≤◌}
-use mathlib.Core.Path.{◌≡◌, refl, ◌∙◌}
-use native.Mathlib.Omega.{arith}
+use mathlib.Core.Path.{◌≡◌}
 use lib.ListN.{length}
 use Rattle.model.specs.Import.{to_lines}
 use Rattle.texts.specs.Texts.{Appended}
-use Rattle.printing.proofs.Rising.{lines_none, lines_more}
 use Rattle.printing.proofs.to_lines.Given as goal
 
 abbrev pub invariant-loop-d : goal.invariant-loop-d

@@ -1,10 +1,6 @@
-use Prim.Native.Nat.{◌-◌}
 use native.Mathlib.Omega.{arith}
-use borrow.Author.Rules.{rules}
 use Rattle.reach.specs.Search.{search_of}
-use Rattle.model.specs.Table.{slots, link}
-use Rattle.model.specs.Orbit.{bit}
-use Rattle.reach.proofs.Meeting.{Going, going_from, going_on, going_all, going_long, link_in}
+use Rattle.reach.proofs.Meeting.{going_from, going_on, going_all, going_long, link_in}
 use Rattle.reach.proofs.expand.Goals as goal
 
 pub loop-i-init : goal.loop-i-init

@@ -1,11 +1,9 @@
 -- `reach::expand` meets its contract. The loop's invariant is `Going`: the links below i have been followed.
 use Prim.Native.Nat.{◌-◌}
-use native.Mathlib.Omega.{arith}
-use borrow.Author.Rules.{rules}
 use Rattle.reach.specs.Search.{search_of}
 use Rattle.model.specs.Table.{slots, link}
 use Rattle.model.specs.Orbit.{bit}
-use Rattle.reach.proofs.Meeting.{Going, going_from, going_on, going_all, going_long, link_in}
+use Rattle.reach.proofs.Meeting.{Going}
 use Rattle.reach.proofs.expand.Given as goal
 
 abbrev pub invariant-loop-i : goal.invariant-loop-i

@@ -1,11 +1,10 @@
-use mathlib.Core.Path.{◌≡◌, refl, sym, ap, ◌∙◌}
-use Prim.Native.Nat.{◌-◌, ◌≤◌}
+use mathlib.Core.Path.{refl, sym, ap, ◌∙◌}
+use Prim.Native.Nat.{◌≤◌}
 use native.Mathlib.Omega.{arith}
 use lib.ListN.{length}
-use Rattle.model.specs.Table.{slots, link}
-use Rattle.model.specs.Orbit.{bit, orbit}
+use Rattle.model.specs.Table.{slots}
 use Rattle.reach.specs.Search.{Search, search_of}
-use Rattle.reach.proofs.Flooding.{Flooding, Gone, gone_none, flooding_space, flooding_fits, found_on, turned, ended}
+use Rattle.reach.proofs.Flooding.{gone_none, flooding_space, flooding_fits, found_on, turned, ended}
 use Rattle.reach.proofs.Meeting.{linked}
 use Rattle.reach.proofs.Reached.{spread, begin_asks, begins}
 use Rattle.reach.proofs.orbit.Goals as goal

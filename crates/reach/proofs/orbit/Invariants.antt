@@ -1,14 +1,11 @@
 -- `reach::orbit` meets its contract. The loop's invariant: `Flooding`, and the queue's darts before head have gone their links.
-use mathlib.Core.Path.{◌≡◌, refl, sym, ap, ◌∙◌}
-use Prim.Native.Nat.{◌-◌, ◌≤◌}
-use native.Mathlib.Omega.{arith}
+use mathlib.Core.Path.{◌≡◌}
+use Prim.Native.Nat.{◌-◌}
 use lib.ListN.{length}
 use Rattle.model.specs.Table.{slots, link}
 use Rattle.model.specs.Orbit.{bit, orbit}
-use Rattle.reach.specs.Search.{Search, search_of}
-use Rattle.reach.proofs.Flooding.{Flooding, Gone, gone_none, flooding_space, flooding_fits, found_on, turned, ended}
-use Rattle.reach.proofs.Meeting.{linked}
-use Rattle.reach.proofs.Reached.{spread, begin_asks, begins}
+use Rattle.reach.specs.Search.{search_of}
+use Rattle.reach.proofs.Flooding.{Flooding, Gone}
 use Rattle.reach.proofs.orbit.Given as goal
 
 abbrev pub invariant-loop-head : goal.invariant-loop-head

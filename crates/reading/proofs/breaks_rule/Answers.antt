@@ -2,7 +2,6 @@
 use mathlib.Core.Path.{sym, ap, ◌∙◌}
 use mathlib.Core.Bool.{not}
 use native.Mathlib.Omega.{arith}
-use borrow.Author.Rules.{rules}
 use Rattle.model.specs.Map.{keeps_rules, breaks_rule}
 use Rattle.theorems.proofs.Maps.Failing.{failing, failing_live, failing_dead}
 use Rattle.theorems.proofs.Maps.Rules.{live_in}

@@ -1,7 +1,6 @@
 -- `reading::crossed` meets its contract.
 use mathlib.Core.Path.{sym}
 use native.Mathlib.Omega.{arith}
-use borrow.Author.Rules.{rules}
 use Rattle.theorems.proofs.Maps.Rules.{crossed_far}
 use Rattle.reading.proofs.crossed.Goals as goal
 

@@ -1,13 +1,8 @@
 -- `reading::first_breaking` meets its contract. The loop's invariant: no slot passed breaks a rule.
 use Prim.Native.Nat.{ℕ, ◌≤◌, ◌<◌, ◌-◌}
-use mathlib.Core.Path.{◌≡◌, sym, ◌∙◌}
+use mathlib.Core.Path.{◌≡◌}
 use mathlib.Core.Bool.{false}
-use native.Mathlib.Omega.{arith}
-use borrow.Author.Count.{below_none, below_more}
-use Rattle.model.specs.Table.{slots}
-use Rattle.model.specs.Map.{breaks_rule, least_breaking}
-use Rattle.theorems.proofs.Lists.Scan.{searched}
-use Rattle.reading.proofs.Passed.{table_passed, table_short}
+use Rattle.model.specs.Map.{breaks_rule}
 use Rattle.reading.proofs.first_breaking.Given as goal
 
 abbrev pub invariant-loop-d : goal.invariant-loop-d

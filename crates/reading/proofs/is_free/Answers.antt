@@ -1,5 +1,4 @@
 -- `reading::is_free` meets its contract.
-use borrow.Author.Rules.{rules}
 use Rattle.reading.proofs.is_free.Goals as goal
 
 pub returns : goal.returns

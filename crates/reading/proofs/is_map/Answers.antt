@@ -1,10 +1,6 @@
-use Prim.Native.Nat.{ℕ, ◌≤◌, ◌<◌, ◌-◌}
-use mathlib.Core.Path.{◌≡◌, sym, ◌∙◌}
-use mathlib.Core.Bool.{true}
+use mathlib.Core.Path.{sym, ◌∙◌}
 use native.Mathlib.Omega.{arith}
 use borrow.Author.Count.{below_none, below_more}
-use borrow.Author.Tests.{not-true, not-false}
-use Rattle.reading.specs.Near.{keeps_near}
 use Rattle.theorems.proofs.Calls.Pass.{dim_pass}
 use Rattle.reading.proofs.Passed.{table_passed, table_short}
 use Rattle.reading.proofs.Neighbours.{near_map, broken_map}

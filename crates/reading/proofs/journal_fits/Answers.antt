@@ -1,7 +1,6 @@
 -- `reading::journal_fits` meets its contract.
 use native.Mathlib.Omega.{arith}
 use borrow.Author.Tests.{le-leb, lt-leb}
-use borrow.Author.Rules.{rules}
 use Rattle.model.specs.Checks.{must, journal_ok}
 use Rattle.model.specs.Journal.{cursor, end}
 use Rattle.reading.proofs.journal_fits.Goals as goal

@@ -1,7 +1,6 @@
 -- `reading::keeps_rules` meets its contract.
 use mathlib.Core.Path.{◌∙◌}
 use native.Mathlib.Omega.{arith}
-use borrow.Author.Rules.{rules}
 use Rattle.model.specs.Map.{crossed}
 use Rattle.theorems.proofs.Calls.Pass.{dim_pass}
 use Rattle.reading.specs.Near.{turned}

@@ -1,7 +1,6 @@
 -- `reading::least_breaking` meets its contract.
 use mathlib.Core.Path.{sym, ◌∙◌}
 use borrow.Author.Tests.{eqb-true}
-use borrow.Author.Rules.{rules}
 use Rattle.model.specs.Map.{is_map}
 use Rattle.reading.proofs.Passed.{table_short}
 use Rattle.reading.proofs.least_breaking.Goals as goal

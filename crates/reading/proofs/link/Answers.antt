@@ -3,7 +3,6 @@ use Prim.Native.Nat.{◌+◌, ◌*◌}
 use mathlib.Core.Path.{sym}
 use native.Mathlib.Omega.{arith}
 use lib.ListN.{get_or-eq_default}
-use borrow.Author.Rules.{rules}
 use Rattle.model.specs.Table.{link, unused}
 use Rattle.theorems.proofs.Sets.Closure.{get_or_any}
 use Rattle.reading.proofs.link.Goals as goal

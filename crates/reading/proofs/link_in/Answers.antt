@@ -1,7 +1,6 @@
 -- `reading::link_in` meets its contract.
 use Prim.Native.Nat.{◌+◌, ◌*◌}
 use native.Mathlib.Omega.{arith}
-use borrow.Author.Rules.{rules}
 use Rattle.model.specs.Table.{link, unused}
 use Rattle.theorems.proofs.Sets.Closure.{get_or_any}
 use Rattle.reading.proofs.link_in.Goals as goal

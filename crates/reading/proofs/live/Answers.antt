@@ -1,5 +1,4 @@
 -- `reading::live` meets its contract.
-use borrow.Author.Rules.{rules}
 use Rattle.model.specs.Table.{live}
 use Rattle.reading.proofs.live.Goals as goal
 

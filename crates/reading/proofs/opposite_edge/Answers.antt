@@ -1,5 +1,4 @@
 -- `reading::opposite_edge` meets its contract.
-use borrow.Author.Rules.{rules}
 use Rattle.model.specs.Table.{walk}
 use Rattle.reading.proofs.opposite_edge.Goals as goal
 

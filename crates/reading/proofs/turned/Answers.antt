@@ -1,5 +1,4 @@
 -- `reading::turned` meets its contract.
-use borrow.Author.Rules.{rules}
 use Rattle.reading.specs.Near.{turned}
 use Rattle.reading.proofs.turned.Goals as goal
 

@@ -3,7 +3,6 @@ use native.Mathlib.Omega.{arith}
 use Rattle.model.specs.Runs.{do_call}
 use Rattle.model.specs.Session.{calls, call_of}
 use Rattle.requests.proofs.Keeping.{keeps_both, keeps_marks, keeps_journal, call_check}
-use borrow.Author.Rules.{rules}
 use Rattle.requests.proofs.request.Goals as goal
 
 pub returns-in-1 : goal.returns-in-1

@@ -1,8 +1,5 @@
-use Prim.Native.Nat.{◌+◌, ◌≤◌, ◌-◌}
-use mathlib.Core.Path.{◌≡◌}
 use native.Mathlib.Omega.{arith}
 use borrow.Author.Tests.{eqb-true}
-use Rattle.scans.specs.Clear.{Clear}
 use Rattle.scans.proofs.Skips.{or_clear, clear_more}
 use Rattle.scans.proofs.block_clear.Goals as goal
 

@@ -1,10 +1,7 @@
 -- `scans::block_clear` meets its contract. The loop's invariant: if the OR is 0, the marks passed are.
 use Prim.Native.Nat.{◌+◌, ◌≤◌, ◌-◌}
 use mathlib.Core.Path.{◌≡◌}
-use native.Mathlib.Omega.{arith}
-use borrow.Author.Tests.{eqb-true}
 use Rattle.scans.specs.Clear.{Clear}
-use Rattle.scans.proofs.Skips.{or_clear, clear_more}
 use Rattle.scans.proofs.block_clear.Given as goal
 
 abbrev pub invariant-loop-k : goal.invariant-loop-k

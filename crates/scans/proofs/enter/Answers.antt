@@ -1,6 +1,5 @@
 -- `scans::enter` meets its contract.
 use mathlib.Core.Path.{refl}
-use borrow.Author.Rules.{rules}
 use Rattle.scans.proofs.enter.Goals as goal
 
 pub returns-then-listed : goal.returns-then-listed

@@ -1,8 +1,6 @@
-use Prim.Native.Nat.{◌≤◌, ◌-◌}
 use mathlib.Core.Path.{refl}
 use native.Mathlib.Omega.{arith}
-use lib.ListN.{length}
-use Rattle.scans.proofs.Lowest.{Listing, listing_none, listing_more, listing_over, listing_all}
+use Rattle.scans.proofs.Lowest.{listing_none, listing_more, listing_over, listing_all}
 use Rattle.scans.proofs.list_ones.Goals as goal
 
 pub skip_blocks-x-requires : goal.skip_blocks-x-requires

@@ -1,9 +1,7 @@
 -- `scans::list_ones` meets its contract. The loop's invariant: the ones before x are listed.
 use Prim.Native.Nat.{◌≤◌, ◌-◌}
-use mathlib.Core.Path.{refl}
-use native.Mathlib.Omega.{arith}
 use lib.ListN.{length}
-use Rattle.scans.proofs.Lowest.{Listing, listing_none, listing_more, listing_over, listing_all}
+use Rattle.scans.proofs.Lowest.{Listing}
 use Rattle.scans.proofs.list_ones.Given as goal
 
 abbrev pub invariant-loop-x : goal.invariant-loop-x

@@ -1,11 +1,11 @@
-use Prim.Native.Nat.{◌≤◌, ◌<◌, ◌-◌}
+use Prim.Native.Nat.{◌≤◌, ◌<◌}
 use mathlib.Core.Path.{sym, ap, ◌∙◌}
 use mathlib.Core.Logic.{inl, inr, ⊎_elim}
 use native.Mathlib.Omega.{arith}
 use lib.Dec.{eqb}
 use Rattle.model.specs.Table.{unused, slots, unused_slots}
 use Rattle.reading.proofs.Passed.{table_passed, table_short}
-use Rattle.scans.proofs.Lowest.{Listing, listing_none, listing_more, listing_first, entered_few}
+use Rattle.scans.proofs.Lowest.{listing_none, listing_more, listing_first, entered_few}
 use Rattle.scans.proofs.Lowest.{unused_marks, unused_long, unused_mark, goes_on, stops}
 use Rattle.scans.proofs.list_unused.Goals as goal
 use Rattle.scans.proofs.list_unused.Goals.{In-loop-x}

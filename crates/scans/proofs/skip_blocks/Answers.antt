@@ -1,8 +1,4 @@
-use Prim.Native.Nat.{◌-◌}
 use native.Mathlib.Omega.{arith}
-use borrow.Author.Tests.{not-false}
-use lib.ListN.{length}
-use Rattle.scans.specs.Clear.{Skips}
 use Rattle.scans.proofs.Skips.{clear_on, skips_none}
 use Rattle.scans.proofs.skip_blocks.Goals as goal
 

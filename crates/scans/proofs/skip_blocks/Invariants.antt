@@ -1,10 +1,7 @@
 -- `scans::skip_blocks` meets its contract. The loop's invariant: the marks passed are 0.
 use Prim.Native.Nat.{◌-◌}
-use native.Mathlib.Omega.{arith}
-use borrow.Author.Tests.{not-false}
 use lib.ListN.{length}
 use Rattle.scans.specs.Clear.{Skips}
-use Rattle.scans.proofs.Skips.{clear_on, skips_none}
 use Rattle.scans.proofs.skip_blocks.Given as goal
 
 abbrev pub invariant-loop-y : goal.invariant-loop-y

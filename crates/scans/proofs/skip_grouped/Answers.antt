@@ -1,8 +1,4 @@
-use Prim.Native.Nat.{◌-◌}
 use native.Mathlib.Omega.{arith}
-use borrow.Author.Rules.{rules}
-use borrow.Author.Tests.{not-false}
-use lib.ListN.{length}
 use Rattle.scans.specs.Clear.{Skips}
 use Rattle.scans.proofs.Skips.{skips_none, skips_on, skips_block, skips_groups}
 use Rattle.scans.proofs.skip_grouped.Goals as goal

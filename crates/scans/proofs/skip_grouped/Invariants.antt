@@ -1,12 +1,7 @@
 -- `scans::skip_grouped` meets its contract. The loop's invariant: the marks passed are 0.
 use Prim.Native.Nat.{◌-◌}
-use mathlib.Core.Logic.{⊎_elim}
-use native.Mathlib.Omega.{arith}
-use borrow.Author.Rules.{rules}
-use borrow.Author.Tests.{not-false}
 use lib.ListN.{length}
 use Rattle.scans.specs.Clear.{Skips}
-use Rattle.scans.proofs.Skips.{skips_none, skips_on, skips_block, skips_groups}
 use Rattle.scans.proofs.skip_grouped.Given as goal
 
 abbrev pub invariant-loop-y : goal.invariant-loop-y

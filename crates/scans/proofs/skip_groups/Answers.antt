@@ -1,8 +1,4 @@
-use Prim.Native.Nat.{◌-◌}
 use native.Mathlib.Omega.{arith}
-use lib.ListN.{length}
-use borrow.Author.Rules.{rules}
-use Rattle.scans.specs.Clear.{Skips}
 use Rattle.scans.proofs.Skips.{skips_on, skips_one}
 use Rattle.scans.proofs.skip_groups.Goals as goal
 

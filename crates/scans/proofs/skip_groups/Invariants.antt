@@ -1,10 +1,7 @@
 -- `scans::skip_groups` meets its contract. The loop's invariant: the marks of the groups passed are 0.
 use Prim.Native.Nat.{◌-◌}
-use native.Mathlib.Omega.{arith}
 use lib.ListN.{length}
-use borrow.Author.Rules.{rules}
 use Rattle.scans.specs.Clear.{Skips}
-use Rattle.scans.proofs.Skips.{skips_on, skips_one}
 use Rattle.scans.proofs.skip_groups.Given as goal
 
 abbrev pub invariant-loop-h : goal.invariant-loop-h

@@ -1,11 +1,7 @@
 use mathlib.Core.List.{[]}
-use Prim.Native.Nat.{◌+◌, ◌*◌, ◌≤◌}
-use mathlib.Core.Path.{◌≡◌, refl, sym, ◌∙◌}
+use mathlib.Core.Path.{refl, sym, ◌∙◌}
 use native.Mathlib.Omega.{arith}
-use borrow.Author.Rules.{rules}
-use lib.ListN.{length}
 use lib.Seq.{length-take-le}
-use Rattle.lines.specs.Held.{Room, Kept}
 use Rattle.lines.proofs.Feeding.{room_kept}
 use Rattle.texts.proofs.Writing.{appended_inside}
 use Rattle.session.proofs.run.Goals as goal

@@ -1,14 +1,8 @@
 -- `session::run` is safe and ends. The loop's invariant: the lines are few enough for the turns that are left.
-use mathlib.Core.List.{[]}
 use Prim.Native.Nat.{◌+◌, ◌*◌, ◌≤◌}
-use mathlib.Core.Path.{◌≡◌, refl, sym, ◌∙◌}
-use native.Mathlib.Omega.{arith}
-use borrow.Author.Rules.{rules}
+use mathlib.Core.Path.{◌≡◌}
 use lib.ListN.{length}
-use lib.Seq.{length-take-le}
 use Rattle.lines.specs.Held.{Room, Kept}
-use Rattle.lines.proofs.Feeding.{room_kept}
-use Rattle.texts.proofs.Writing.{appended_inside}
 use Rattle.session.proofs.run.Given as goal
 
 abbrev pub invariant-loop-turns : goal.invariant-loop-turns

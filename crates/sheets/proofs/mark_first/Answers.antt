@@ -1,8 +1,5 @@
-use Prim.Native.Nat.{◌-◌, ◌≤◌}
 use native.Mathlib.Omega.{arith}
-use borrow.Author.Rules.{rules}
 use mathlib.Core.Path.{◌≡◌}
-use Rattle.sheets.specs.Spread.{Firsts}
 use Rattle.sheets.proofs.Marks.{firsts_none, firsts_next, first_inside}
 use Rattle.sheets.proofs.mark_first.Goals as goal
 

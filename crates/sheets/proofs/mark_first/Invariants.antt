@@ -1,10 +1,6 @@
 -- `sheets::mark_first` meets its contract. The loop's invariant: the darts passed have the mark 1.
 use Prim.Native.Nat.{◌-◌, ◌≤◌}
-use native.Mathlib.Omega.{arith}
-use borrow.Author.Rules.{rules}
-use mathlib.Core.Path.{◌≡◌}
 use Rattle.sheets.specs.Spread.{Firsts}
-use Rattle.sheets.proofs.Marks.{firsts_none, firsts_next, first_inside}
 use Rattle.sheets.proofs.mark_first.Given as goal
 
 abbrev pub invariant-loop-k : goal.invariant-loop-k

@@ -1,9 +1,6 @@
 -- `sheets::mark_other` meets its contract.
 use mathlib.Core.Path.{refl}
 use mathlib.Core.Logic.{inl, inr}
-use lib.ListN.{length-set}
-use borrow.Author.Rules.{rules}
-use Rattle.sheets.proofs.Marks.{touched_long}
 use Rattle.sheets.proofs.mark_other.Goals as goal
 
 pub returns-then-marks-x-ne1 : goal.returns-then-marks-x-ne1

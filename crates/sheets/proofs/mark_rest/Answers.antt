@@ -1,15 +1,13 @@
-use Prim.Native.Nat.{ℕ, ◌-◌, ◌≤◌, ◌<◌}
+use Prim.Native.Nat.{ℕ, ◌<◌}
 use mathlib.Core.Path.{◌≡◌, refl, ◌∙◌}
 use mathlib.Core.Logic.{⊎_elim}
 use mathlib.Core.Bool.{true}
 use native.Mathlib.Omega.{arith}
-use borrow.Author.Rules.{rules}
 use lib.ListN.{length, get_or}
 use Rattle.model.specs.Table.{slots, link, live}
 use Rattle.model.specs.Cell.{cell_size}
 use Rattle.theorems.proofs.Maps.Tables.{live_below, rule_at}
 use Rattle.cells.proofs.Listing.{link_there}
-use Rattle.sheets.specs.Spread.{Rest}
 use Rattle.sheets.proofs.Marks.{marked_on, rest_none, rest_new, rest_old}
 use Rattle.sheets.proofs.mark_rest.Goals as goal
 use Rattle.sheets.proofs.mark_rest.Goals.{In-loop-k}

@@ -1,18 +1,9 @@
 -- `sheets::mark_rest` meets its contract. The loop's invariant: the darts passed have a mark, 2 where it is new, and what link n leads to
 -- from a 2 has a mark.
-use Prim.Native.Nat.{ℕ, ◌-◌, ◌≤◌, ◌<◌}
-use mathlib.Core.Path.{◌≡◌, refl, ◌∙◌}
-use mathlib.Core.Logic.{⊎_elim}
-use mathlib.Core.Bool.{true}
-use native.Mathlib.Omega.{arith}
-use borrow.Author.Rules.{rules}
-use lib.ListN.{length, get_or}
-use Rattle.model.specs.Table.{slots, link, live}
-use Rattle.model.specs.Cell.{cell_size}
-use Rattle.theorems.proofs.Maps.Tables.{live_below, rule_at}
-use Rattle.cells.proofs.Listing.{link_there}
+use Prim.Native.Nat.{◌-◌, ◌≤◌}
+use mathlib.Core.Path.{◌≡◌}
+use lib.ListN.{length}
 use Rattle.sheets.specs.Spread.{Rest}
-use Rattle.sheets.proofs.Marks.{marked_on, rest_none, rest_new, rest_old}
 use Rattle.sheets.proofs.mark_rest.Given as goal
 
 abbrev pub invariant-loop-k : goal.invariant-loop-k

@@ -1,5 +1,4 @@
 -- `sheets::put` meets its contract.
-use borrow.Author.Rules.{rules}
 use mathlib.Core.Path.{refl}
 use mathlib.Core.Logic.{inl, inr}
 use Rattle.sheets.proofs.put.Goals as goal

@@ -1,10 +1,10 @@
-use Prim.Native.Nat.{◌-◌, ◌≤◌, ◌<◌}
+use Prim.Native.Nat.{◌<◌}
 use mathlib.Core.Path.{◌≡◌, refl, ◌∙◌}
 use native.Mathlib.Omega.{arith}
 use Rattle.model.specs.Cell.{cell_size}
 use Rattle.numbering.proofs.Orders.{size_few}
 use Rattle.cells.proofs.Listing.{link_there}
-use Rattle.sheets.specs.Spread.{sides, over, Waiting}
+use Rattle.sheets.specs.Spread.{sides, over}
 use Rattle.sheets.proofs.Halves.{start_low, half_in}
 use Rattle.sheets.proofs.Marks.{waiting_none, over_low, waiting_next}
 use Rattle.sheets.proofs.put_links.Goals as goal

@@ -1,13 +1,7 @@
 -- `sheets::put_links` meets its contract. The loop's invariant: over the sides passed, the darts wait or have the mark 1.
-use Prim.Native.Nat.{◌-◌, ◌≤◌, ◌<◌}
-use mathlib.Core.Path.{◌≡◌, refl, ◌∙◌}
-use native.Mathlib.Omega.{arith}
-use Rattle.model.specs.Cell.{cell_size}
-use Rattle.numbering.proofs.Orders.{size_few}
-use Rattle.cells.proofs.Listing.{link_there}
-use Rattle.sheets.specs.Spread.{sides, over, Waiting}
-use Rattle.sheets.proofs.Halves.{start_low, half_in}
-use Rattle.sheets.proofs.Marks.{waiting_none, over_low, waiting_next}
+use Prim.Native.Nat.{◌-◌, ◌≤◌}
+use mathlib.Core.Path.{◌≡◌}
+use Rattle.sheets.specs.Spread.{sides, Waiting}
 use Rattle.sheets.proofs.put_links.Given as goal
 
 abbrev pub invariant-loop-j : goal.invariant-loop-j

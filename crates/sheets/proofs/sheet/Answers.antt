@@ -1,7 +1,6 @@
 -- `sheets::sheet` meets its contract.
 use mathlib.Core.Path.{ap, ◌∙◌}
 use Prim.Native.Nat.{ℕ}
-use borrow.Author.Rules.{rules}
 use lib.ListN.{replicate}
 use Rattle.sheets.proofs.sheet.Goals as goal
 

@@ -1,5 +1,4 @@
 -- `sheets::side_start` meets its contract.
-use borrow.Author.Rules.{rules}
 use mathlib.Core.Path.{◌∙◌}
 use Rattle.sheets.proofs.Halves.{start_order, start_vertex, start_is}
 use Rattle.sheets.proofs.side_start.Goals as goal

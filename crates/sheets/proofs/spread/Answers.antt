@@ -1,5 +1,4 @@
 -- `sheets::spread` meets its contract.
-use borrow.Author.Rules.{rules}
 use mathlib.Core.Path.{◌≡◌}
 use native.Mathlib.Omega.{arith}
 use Rattle.sheets.proofs.Spreading.{begins_same, spread_same}

@@ -1,5 +1,4 @@
 -- `sheets::spread_3d` meets its contract.
-use borrow.Author.Rules.{rules}
 use Rattle.sheets.proofs.Spreading.{cell_dart_lem, ready_of}
 use Rattle.sheets.proofs.spread_3d.Goals as goal
 

@@ -1,5 +1,4 @@
 -- `sheets::spread_cell` meets its contract.
-use borrow.Author.Rules.{rules}
 use Prim.Native.Nat.{◌≤◌}
 use mathlib.Core.Path.{◌∙◌}
 use native.Mathlib.Omega.{arith}

@@ -1,5 +1,4 @@
 -- `sheets::touch` meets its contract.
-use borrow.Author.Rules.{rules}
 use mathlib.Core.Path.{refl}
 use mathlib.Core.Logic.{inl, inr}
 use Rattle.sheets.proofs.touch.Goals as goal

@@ -1,7 +1,6 @@
 -- `sides::alike` meets its contract.
 use mathlib.Core.Bool.{not}
 use mathlib.Core.Path.{ap}
-use borrow.Author.Rules.{rules}
 use Rattle.sides.proofs.SideTests.{alike_first, alike_second, alike_third}
 use Rattle.sides.proofs.alike.Goals as goal
 

@@ -1,7 +1,6 @@
 -- `sides::in_step` meets its contract.
 use Prim.Native.Nat.{◌≤◌}
 use native.Mathlib.Omega.{arith}
-use borrow.Author.Rules.{rules}
 use Rattle.sides.proofs.SideLists.{step_parted, step_few, step_round, step_left, step_right, step_mirrored}
 use Rattle.sides.proofs.in_step.Goals as goal
 use Rattle.sides.proofs.in_step.Goals.{After-walk_round-round}

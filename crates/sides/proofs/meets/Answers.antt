@@ -1,14 +1,12 @@
-use Prim.Native.Nat.{◌-◌}
 use mathlib.Core.Path.{◌≡◌, sym, ap, ◌∙◌}
 use mathlib.Core.Bool.{false, ◌||◌}
 use native.Mathlib.Omega.{arith}
-use borrow.Author.Rules.{rules}
 use lib.Dec.{eqb}
-use Rattle.model.specs.Table.{slots, link}
+use Rattle.model.specs.Table.{link}
 use Rattle.sides.proofs.Entries.{live_entry}
 use Rattle.sides.proofs.SideTurns.{side_start_lem}
-use Rattle.sides.proofs.Standing.{turns_to, standing_live, standing_nearer}
-use Rattle.sides.proofs.Seeking.{Seeking, seek_begins, seek_found, seek_round, seek_on}
+use Rattle.sides.proofs.Standing.{standing_live, standing_nearer}
+use Rattle.sides.proofs.Seeking.{seek_begins, seek_found, seek_round, seek_on}
 use Rattle.sides.proofs.meets.Goals as goal
 use Rattle.sides.proofs.meets.Goals.{After-link_in-x}
 

@@ -1,9 +1,9 @@
-use Prim.Native.Nat.{◌+◌, ◌-◌, ◌<◌}
+use Prim.Native.Nat.{◌+◌, ◌<◌}
 use native.Mathlib.Omega.{arith}
 use native.Mathlib.Numerals.{add-one}
 use lib.ListN.{length}
 use borrow.Author.Rules.{rules}
-use Rattle.sides.proofs.Mirrors.{Mirroring, mirror_begins, word_entry, word_low, word_room, mirror_more}
+use Rattle.sides.proofs.Mirrors.{mirror_begins, word_entry, word_low, word_room, mirror_more}
 use Rattle.sides.proofs.mirror.Goals as goal
 use Rattle.sides.proofs.mirror.Goals.{In-loop-k}
 

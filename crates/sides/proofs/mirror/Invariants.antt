@@ -1,10 +1,6 @@
 -- `sides::mirror` meets its contract. The loop's invariant is `Mirroring`.
-use Prim.Native.Nat.{◌+◌, ◌-◌, ◌<◌}
-use native.Mathlib.Omega.{arith}
-use native.Mathlib.Numerals.{add-one}
-use lib.ListN.{length}
-use borrow.Author.Rules.{rules}
-use Rattle.sides.proofs.Mirrors.{Mirroring, mirror_begins, word_entry, word_low, word_room, mirror_more}
+use Prim.Native.Nat.{◌-◌}
+use Rattle.sides.proofs.Mirrors.{Mirroring}
 use Rattle.sides.proofs.mirror.Given as goal
 
 abbrev pub invariant-loop-k : goal.invariant-loop-k

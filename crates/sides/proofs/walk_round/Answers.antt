@@ -1,13 +1,7 @@
-use Prim.Native.Nat.{◌-◌}
-use mathlib.Core.Path.{◌∙◌}
 use native.Mathlib.Omega.{arith}
 use native.Mathlib.Numerals.{add-one}
-use lib.ListN.{length-set}
-use borrow.Author.Rules.{rules}
-use borrow.Author.Tests.{not-true, not-false}
-use Rattle.model.specs.Table.{slots}
 use Rattle.sides.proofs.Entries.{live_entry}
-use Rattle.sides.proofs.Going.{Going, going_begins, Inside, going_room, Turn, turn_is, going_differs, going_round, going_on}
+use Rattle.sides.proofs.Going.{going_begins, Inside, going_room, Turn, turn_is, going_differs, going_round, going_on}
 use Rattle.sides.proofs.walk_round.Goals as goal
 use Rattle.sides.proofs.walk_round.Goals.{After-link_in-v, At-loop-a}
 

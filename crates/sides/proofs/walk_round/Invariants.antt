@@ -1,14 +1,7 @@
 -- `sides::walk_round` meets its contract. The loop's invariant is `Going`; the measure: the slots, less the turns made.
 use Prim.Native.Nat.{◌-◌}
-use mathlib.Core.Path.{◌∙◌}
-use native.Mathlib.Omega.{arith}
-use native.Mathlib.Numerals.{add-one}
-use lib.ListN.{length-set}
-use borrow.Author.Rules.{rules}
-use borrow.Author.Tests.{not-true, not-false}
 use Rattle.model.specs.Table.{slots}
-use Rattle.sides.proofs.Entries.{live_entry}
-use Rattle.sides.proofs.Going.{Going, going_begins, Inside, going_room, Turn, turn_is, going_differs, going_round, going_on}
+use Rattle.sides.proofs.Going.{Going}
 use Rattle.sides.proofs.walk_round.Given as goal
 
 abbrev pub invariant-loop-a : goal.invariant-loop-a

@@ -1,9 +1,7 @@
 use mathlib.Core.Path.{ap}
 use native.Mathlib.Omega.{arith}
-use borrow.Author.Rules.{rules}
 use lib.ListN.{length}
 use Rattle.texts.proofs.Writing.{appended_then, decimal_small, decimal_more, decimal_longer}
-use Prim.Native.Nat.{ℕ, ◌<◌}
 use Rattle.texts.proofs.+put_decimal.Goals as goal
 
 pub overflow_cast-v : goal.overflow_cast-v

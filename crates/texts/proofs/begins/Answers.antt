@@ -3,7 +3,6 @@ use mathlib.Core.Path.{sym}
 use lib.Seq.{length-take-le}
 use Rattle.model.specs.Text.{begins}
 use Rattle.texts.proofs.Comparing.{short_begins}
-use borrow.Author.Rules.{rules}
 use Rattle.texts.proofs.begins.Goals as goal
 
 pub returns-then-text-n : goal.returns-then-text-n

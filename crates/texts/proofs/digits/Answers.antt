@@ -1,8 +1,7 @@
-use Prim.Native.Nat.{◌≤◌, ◌-◌}
-use mathlib.Core.Path.{◌≡◌, refl, sym, ap, ◌∙◌}
+use mathlib.Core.Path.{refl, sym, ap, ◌∙◌}
 use native.Mathlib.Omega.{arith}
-use lib.ListN.{length, drop, length-drop}
-use Rattle.model.specs.Text.{digits, up_to}
+use lib.ListN.{length-drop}
+use Rattle.model.specs.Text.{up_to}
 use Rattle.texts.proofs.Reading.{digits_step, digits_low, digits_high, digits_above, digits_end, within, unfit}
 use Rattle.texts.proofs.digits.Goals as goal
 

@@ -1,10 +1,8 @@
 -- `texts::digits` meets its contract. The loop's invariant: `v` is the number of the digits passed, and at most `top`.
 use Prim.Native.Nat.{◌≤◌, ◌-◌}
-use mathlib.Core.Path.{◌≡◌, refl, sym, ap, ◌∙◌}
-use native.Mathlib.Omega.{arith}
-use lib.ListN.{length, drop, length-drop}
+use mathlib.Core.Path.{◌≡◌}
+use lib.ListN.{length, drop}
 use Rattle.model.specs.Text.{digits, up_to}
-use Rattle.texts.proofs.Reading.{digits_step, digits_low, digits_high, digits_above, digits_end, within, unfit}
 use Rattle.texts.proofs.digits.Given as goal
 
 abbrev pub invariant-loop-k : goal.invariant-loop-k

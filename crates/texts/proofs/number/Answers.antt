@@ -3,7 +3,6 @@ use mathlib.Core.Path.{sym, ap, ◌∙◌}
 use native.Mathlib.Omega.{arith}
 use Rattle.model.specs.Text.{up_to}
 use Rattle.texts.proofs.Reading.{unfit, number_empty, number_one, number_zero, number_many}
-use borrow.Author.Rules.{rules}
 use Rattle.texts.proofs.number.Goals as goal
 
 pub returns-then-text-eq0 : goal.returns-then-text-eq0

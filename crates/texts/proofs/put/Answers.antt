@@ -1,9 +1,8 @@
 use lib.Seq.{take_all}
 use native.Mathlib.Nat.{add-zero}
 use mathlib.Core.List.{append-nil}
-use Prim.Native.Nat.{◌≤◌, ◌-◌, ◌+◌}
+use Prim.Native.Nat.{◌+◌}
 use mathlib.Core.Path.{◌≡◌, refl, ap, ◌∙◌}
-use mathlib.Core.List.{◌++◌}
 use native.Mathlib.Omega.{arith}
 use lib.ListN.{length, take, length-set}
 use Rattle.texts.proofs.Writing.{copied_more}

@@ -1,6 +1,5 @@
 -- `texts::put_byte` meets its contract.
 use Rattle.texts.proofs.Writing.{appended_byte}
-use borrow.Author.Rules.{rules}
 use Rattle.texts.proofs.put_byte.Goals as goal
 
 pub returns : goal.returns

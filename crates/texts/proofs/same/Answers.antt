@@ -1,8 +1,6 @@
-use Prim.Native.Nat.{◌≤◌, ◌-◌}
-use mathlib.Core.Path.{◌≡◌, refl, sym, ◌∙◌}
+use mathlib.Core.Path.{refl, sym, ◌∙◌}
 use native.Mathlib.Omega.{arith}
-use lib.ListN.{length, drop, length-drop}
-use Rattle.model.specs.Lists.{equal}
+use lib.ListN.{length-drop}
 use Rattle.texts.proofs.Comparing.{equal_lengths, equal_step, equal_stop, equal_end}
 use Rattle.texts.proofs.same.Goals as goal
 

@@ -1,10 +1,8 @@
 -- `texts::same` meets its contract. The loop's invariant: the texts are the same if what is left of them is.
 use Prim.Native.Nat.{◌≤◌, ◌-◌}
-use mathlib.Core.Path.{◌≡◌, refl, sym, ◌∙◌}
-use native.Mathlib.Omega.{arith}
-use lib.ListN.{length, drop, length-drop}
+use mathlib.Core.Path.{◌≡◌}
+use lib.ListN.{length, drop}
 use Rattle.model.specs.Lists.{equal}
-use Rattle.texts.proofs.Comparing.{equal_lengths, equal_step, equal_stop, equal_end}
 use Rattle.texts.proofs.same.Given as goal
 
 abbrev pub invariant-loop-k : goal.invariant-loop-k

@@ -2,7 +2,6 @@
 use native.Mathlib.Omega.{arith}
 use Rattle.model.specs.Text.{said}
 use Rattle.texts.proofs.Writing.{appended_then, decimal_length, said_length}
-use borrow.Author.Rules.{rules}
 use Rattle.texts.proofs.say.Goals as goal
 
 pub put_decimal-end-requires : goal.put_decimal-end-requires

@@ -1,5 +1,5 @@
 -- `trials::few` meets its contract.
-use Rattle.std.proofs.Common.{sym, length-take-le, rules}
+use Rattle.std.proofs.Common.{sym, length-take-le}
 use Rattle.trials.proofs.few.Goals as goal
 
 pub returns-then-most-words : goal.returns-then-most-words

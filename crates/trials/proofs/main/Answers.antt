@@ -1,5 +1,5 @@
 -- `trials::main` is safe. The lemma spares the walk over the arrays.
-use Rattle.std.proofs.Common.{ℕ, sym, rules}
+use Rattle.std.proofs.Common.{ℕ, sym}
 use lib.ListN.{length-replicate}
 use Rattle.trials.proofs.main.Goals as goal
 

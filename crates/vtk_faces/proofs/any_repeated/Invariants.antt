@@ -1,18 +1,11 @@
 -- `vtk_faces::any_repeated` meets its contract. The loop's invariant: no vertex stands twice in a cell but in those that are left.
-use Prim.Native.Nat.{ℕ, ◌+◌, ◌*◌, ◌-◌, ◌≤◌, ◌<◌}
-use mathlib.Core.Path.{◌≡◌, refl, sym, ap, ◌∙◌, subst}
-use mathlib.Core.Bool.{not}
+use Prim.Native.Nat.{ℕ, ◌-◌, ◌≤◌}
+use mathlib.Core.Path.{◌≡◌}
 use mathlib.Core.List.{List}
-use native.Mathlib.Omega.{arith}
-use borrow.Author.Rules.{rules}
-use borrow.Author.Tests.{not-true, not-false}
-use lib.ListN.{length, take, drop}
+use lib.ListN.{length, drop}
 use Rattle.model.specs.Meaning.Vtk.{RowsAt}
-use Rattle.vtk_rows.specs.Rows.{EightsAt}
-use Rattle.vtk_faces.specs.Repeats.{all_once}
 use Rattle.vtk_faces.specs.Texts.{CellsAt}
-use Rattle.vtk_faces.proofs.Resting.{eights_at, read_left}
-use Rattle.vtk_faces.proofs.Taken.{OnceUpto, part_held, part_long, twice_here, twice_more, twice_none}
+use Rattle.vtk_faces.proofs.Taken.{OnceUpto}
 use Rattle.vtk_faces.proofs.any_repeated.Given as goal
 
 abbrev pub invariant-loop-left : goal.invariant-loop-left

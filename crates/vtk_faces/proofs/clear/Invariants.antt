@@ -1,10 +1,7 @@
 -- `vtk_faces::clear` meets its contract. The loop's invariant: the heads below h are 0.
 use Prim.Native.Nat.{ℕ, ◌-◌, ◌≤◌, ◌<◌}
-use mathlib.Core.Path.{◌≡◌, refl, ◌∙◌}
-use native.Mathlib.Omega.{arith}
-use lib.ListN.{length, get_or, length-set}
-use lib.Seq.{get_or-set_same, get_or-set_other}
-use Rattle.theorems.proofs.Lists.Scan.{if_eq}
+use mathlib.Core.Path.{◌≡◌}
+use lib.ListN.{length, get_or}
 use Rattle.vtk_faces.proofs.clear.Given as goal
 
 abbrev pub invariant-loop-h : goal.invariant-loop-h

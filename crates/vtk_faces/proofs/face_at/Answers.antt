@@ -1,7 +1,6 @@
 -- `vtk_faces::face_at` meets its contract.
 use mathlib.Core.Path.{sym}
 use Rattle.vtk_faces.proofs.Held.{face_words_lem}
-use borrow.Author.Rules.{rules}
 use Rattle.vtk_faces.proofs.face_at.Goals as goal
 
 pub returns : goal.returns

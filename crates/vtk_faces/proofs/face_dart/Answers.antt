@@ -1,6 +1,5 @@
 -- `vtk_faces::face_dart` meets its contract.
 use native.Mathlib.Omega.{arith}
-use borrow.Author.Rules.{rules}
 use Rattle.vtk_faces.proofs.Places.{dart_is, above_few}
 use Rattle.vtk_faces.proofs.face_dart.Goals as goal
 

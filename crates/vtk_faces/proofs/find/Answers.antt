@@ -2,14 +2,12 @@ use Prim.Native.Nat.{ℕ, ◌-◌, ◌≤◌, ◌<◌}
 use mathlib.Core.Path.{◌≡◌, sym, ap, ◌∙◌}
 use mathlib.Core.List.{List}
 use native.Mathlib.Omega.{arith}
-use borrow.Author.Rules.{rules}
 use lib.ListN.{length}
 use Rattle.model.specs.Faces.{same_four}
 use Rattle.vtk_faces.specs.Faces.{four, held_face}
-use Rattle.vtk_faces.specs.Chains.{Chains}
 use Rattle.vtk_faces.proofs.Hashes.{hash_low}
 use Rattle.vtk_faces.proofs.Held.{held_long}
-use Rattle.vtk_faces.proofs.Chains.{Looked, looked_first, looked_next, looked_found, looked_none, next_less}
+use Rattle.vtk_faces.proofs.Chains.{looked_first, looked_next, looked_found, looked_none, next_less}
 use Rattle.vtk_faces.proofs.find.Goals as goal
 use Rattle.vtk_faces.proofs.find.Goals.{After-same_four, At-loop-e, Start}
 

@@ -1,10 +1,8 @@
 -- `vtk_faces::has_all` meets its contract.
 use mathlib.Core.Path.{sym, ◌∙◌}
-use borrow.Author.Tests.{not-true, not-false}
 use Rattle.model.specs.Faces.{among}
 use Rattle.vtk_faces.specs.Faces.{four}
 use Rattle.vtk_faces.proofs.Compared.{all_four}
-use borrow.Author.Rules.{rules}
 use Rattle.vtk_faces.proofs.has_all.Goals as goal
 
 pub returns-then-not-has : goal.returns-then-not-has

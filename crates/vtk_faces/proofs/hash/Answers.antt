@@ -1,6 +1,5 @@
 -- `vtk_faces::hash` meets its contract.
 use Rattle.vtk_faces.specs.Hashes.{lowest, highest, mixed, hash_of}
-use borrow.Author.Rules.{rules}
 use Rattle.vtk_faces.proofs.hash.Goals as goal
 
 pub returns : goal.returns

@@ -1,17 +1,11 @@
 -- `vtk_faces::judge` meets its contract. The loop's invariant: all cells but those that are left were blocks.
-use Prim.Native.Nat.{ℕ, ◌+◌, ◌*◌, ◌-◌, ◌≤◌, ◌<◌}
-use mathlib.Core.Path.{◌≡◌, refl, subst}
+use Prim.Native.Nat.{ℕ, ◌-◌, ◌≤◌}
+use mathlib.Core.Path.{◌≡◌}
 use mathlib.Core.List.{List}
-use native.Mathlib.Omega.{arith}
-use borrow.Author.Rules.{rules}
 use lib.ListN.{length, drop}
 use Rattle.model.specs.Meaning.Vtk.{RowsAt}
-use Rattle.vtk_rows.specs.Rows.{EightsAt}
-use Rattle.vtk_faces.specs.Judged.{Ran}
-use Rattle.vtk_faces.specs.Texts.{Judgeable, face_from, BlockAt}
-use Rattle.vtk_faces.proofs.Verdicts.{verdict_three, Upto, upto_none, upto_more, upto_three, upto_verdict}
-use Rattle.vtk_faces.proofs.Resting.{eights_at, read_left}
-use Rattle.vtk_faces.proofs.Taken.{taken_block}
+use Rattle.vtk_faces.specs.Texts.{Judgeable}
+use Rattle.vtk_faces.proofs.Verdicts.{Upto}
 use Rattle.vtk_faces.proofs.judge.Given as goal
 
 abbrev pub invariant-loop-left : goal.invariant-loop-left

@@ -3,11 +3,11 @@ use mathlib.Core.Path.{◌≡◌, refl}
 use mathlib.Core.List.{List}
 use native.Mathlib.Omega.{arith}
 use borrow.Author.Rules.{rules}
-use lib.ListN.{length, drop}
+use lib.ListN.{drop}
 use Rattle.vtk_rows.specs.Rows.{EightsRead}
 use Rattle.vtk_faces.specs.Judged.{Ran}
 use Rattle.vtk_faces.specs.Texts.{face_from, Rest}
-use Rattle.vtk_faces.proofs.Resting.{Resting, resting_none, resting_eights, resting_chunk, resting_more, resting_three, resting_all}
+use Rattle.vtk_faces.proofs.Resting.{resting_none, resting_eights, resting_chunk, resting_more, resting_three, resting_all}
 use Rattle.vtk_faces.proofs.judge_rest.Goals as goal
 use Rattle.vtk_faces.proofs.judge_rest.Goals.{After-at_most-some, After-later_faces-other, After-read_rows-p}
 

@@ -1,14 +1,10 @@
 -- `vtk_faces::judge_rest` meets its contract. The loop's invariant: all cells but `left` are judged.
-use Prim.Native.Nat.{ℕ, ◌+◌, ◌*◌, ◌-◌, ◌≤◌, ◌<◌}
-use mathlib.Core.Path.{◌≡◌, refl}
+use Prim.Native.Nat.{ℕ, ◌-◌, ◌≤◌}
+use mathlib.Core.Path.{◌≡◌}
 use mathlib.Core.List.{List}
-use native.Mathlib.Omega.{arith}
-use borrow.Author.Rules.{rules}
-use lib.ListN.{length, drop}
-use Rattle.vtk_rows.specs.Rows.{EightsRead}
-use Rattle.vtk_faces.specs.Judged.{Ran}
-use Rattle.vtk_faces.specs.Texts.{face_from, Rest}
-use Rattle.vtk_faces.proofs.Resting.{Resting, resting_none, resting_eights, resting_chunk, resting_more, resting_three, resting_all}
+use lib.ListN.{length}
+use Rattle.vtk_faces.specs.Texts.{Rest}
+use Rattle.vtk_faces.proofs.Resting.{Resting}
 use Rattle.vtk_faces.proofs.judge_rest.Given as goal
 
 abbrev pub invariant-loop-left : goal.invariant-loop-left

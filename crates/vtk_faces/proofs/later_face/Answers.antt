@@ -1,6 +1,5 @@
 -- `vtk_faces::later_face` meets its contract.
 use Rattle.vtk_faces.proofs.Later.{later_entry, later_stepped}
-use borrow.Author.Rules.{rules}
 use Rattle.vtk_faces.proofs.later_face.Goals as goal
 
 pub turn_at-turn-requires : goal.turn_at-turn-requires

@@ -1,10 +1,9 @@
-use Prim.Native.Nat.{ℕ, ◌+◌, ◌*◌, ◌-◌, ◌≤◌}
+use Prim.Native.Nat.{ℕ, ◌+◌}
 use mathlib.Core.Path.{◌≡◌, refl}
 use mathlib.Core.List.{List}
 use native.Mathlib.Omega.{arith}
 use borrow.Author.Rules.{rules}
-use lib.ListN.{length}
-use Rattle.vtk_faces.specs.Judged.{State, Stepped}
+use Rattle.vtk_faces.specs.Judged.{Stepped}
 use Rattle.vtk_faces.specs.Rest.{Chunk}
 use Rattle.vtk_faces.proofs.Later.{chunk_later, chunk_more, chunk_three, chunk_all}
 use Rattle.vtk_faces.proofs.later_faces.Goals as goal

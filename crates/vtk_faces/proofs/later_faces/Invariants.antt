@@ -1,13 +1,10 @@
 -- `vtk_faces::later_faces` meets its contract. The loop's invariant: the first j faces are judged.
 use Prim.Native.Nat.{ℕ, ◌+◌, ◌*◌, ◌-◌, ◌≤◌}
-use mathlib.Core.Path.{◌≡◌, refl}
+use mathlib.Core.Path.{◌≡◌}
 use mathlib.Core.List.{List}
-use native.Mathlib.Omega.{arith}
-use borrow.Author.Rules.{rules}
 use lib.ListN.{length}
-use Rattle.vtk_faces.specs.Judged.{State, Stepped}
+use Rattle.vtk_faces.specs.Judged.{State}
 use Rattle.vtk_faces.specs.Rest.{Chunk}
-use Rattle.vtk_faces.proofs.Later.{chunk_later, chunk_more, chunk_three, chunk_all}
 use Rattle.vtk_faces.proofs.later_faces.Given as goal
 
 abbrev pub invariant-loop-j : goal.invariant-loop-j

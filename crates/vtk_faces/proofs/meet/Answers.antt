@@ -6,7 +6,6 @@ use lib.ListN.{set, length-set}
 use lib.Dec.{ltb}
 use borrow.Author.Tests.{lt-ltb, le-ltb}
 use Rattle.vtk_faces.specs.Judged.{order_number, Met}
-use borrow.Author.Rules.{rules}
 use Rattle.vtk_faces.proofs.meet.Goals as goal
 use Rattle.vtk_faces.proofs.meet.Goals.{Else-mates-e-ne0}
 

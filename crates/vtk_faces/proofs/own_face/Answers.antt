@@ -10,7 +10,6 @@ use Rattle.vtk_faces.specs.Hashes.{hash_of}
 use Rattle.vtk_faces.specs.Chains.{Found}
 use Rattle.vtk_faces.proofs.Hashes.{hash_low}
 use Rattle.vtk_faces.proofs.Steps.{own_entry, own_gone}
-use borrow.Author.Rules.{rules}
 use Rattle.vtk_faces.proofs.own_face.Goals as goal
 use Rattle.vtk_faces.proofs.own_face.Goals.{After-find-e, After-meet-number, After-turn_at-turn}
 

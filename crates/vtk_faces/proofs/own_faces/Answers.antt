@@ -1,9 +1,8 @@
-use Prim.Native.Nat.{◌*◌, ◌-◌, ◌≤◌}
+use Prim.Native.Nat.{◌*◌}
 use mathlib.Core.Path.{◌≡◌, refl}
 use native.Mathlib.Omega.{arith}
 use borrow.Author.Rules.{rules}
-use lib.ListN.{length}
-use Rattle.vtk_faces.proofs.Blocks.{Run, run_none, run_going, run_more, run_three, run_block}
+use Rattle.vtk_faces.proofs.Blocks.{run_none, run_going, run_more, run_three, run_block}
 use Rattle.vtk_faces.proofs.own_faces.Goals as goal
 
 pub overflow_mul-i-end : goal.overflow_mul-i-end

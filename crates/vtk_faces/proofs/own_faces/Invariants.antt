@@ -1,10 +1,8 @@
 -- `vtk_faces::own_faces` meets its contract. The loop's invariant: the first i faces are in.
 use Prim.Native.Nat.{◌*◌, ◌-◌, ◌≤◌}
-use mathlib.Core.Path.{◌≡◌, refl}
-use native.Mathlib.Omega.{arith}
-use borrow.Author.Rules.{rules}
+use mathlib.Core.Path.{◌≡◌}
 use lib.ListN.{length}
-use Rattle.vtk_faces.proofs.Blocks.{Run, run_none, run_going, run_more, run_three, run_block}
+use Rattle.vtk_faces.proofs.Blocks.{Run}
 use Rattle.vtk_faces.proofs.own_faces.Given as goal
 
 abbrev pub invariant-loop-i : goal.invariant-loop-i

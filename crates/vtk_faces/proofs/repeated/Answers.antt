@@ -1,10 +1,7 @@
-use Prim.Native.Nat.{ℕ, ◌-◌, ◌≤◌, ◌<◌}
-use mathlib.Core.Path.{◌≡◌, sym, ap, ◌∙◌}
-use mathlib.Core.Bool.{false, not}
+use mathlib.Core.Path.{sym, ap, ◌∙◌}
+use mathlib.Core.Bool.{not}
 use native.Mathlib.Omega.{arith}
 use borrow.Author.Count.{below_more}
-use Rattle.model.specs.Faces.{repeats}
-use Rattle.vtk_faces.specs.Faces.{held_row}
 use Rattle.vtk_faces.proofs.Twice.{held_once, held_twice}
 use Rattle.vtk_faces.proofs.repeated.Goals as goal
 

@@ -1,12 +1,9 @@
 -- `vtk_faces::repeated` meets its contract. The loop's invariant: in none of the first c cells a vertex stands twice.
 use Prim.Native.Nat.{ℕ, ◌-◌, ◌≤◌, ◌<◌}
-use mathlib.Core.Path.{◌≡◌, sym, ap, ◌∙◌}
-use mathlib.Core.Bool.{false, not}
-use native.Mathlib.Omega.{arith}
-use borrow.Author.Count.{below_more}
+use mathlib.Core.Path.{◌≡◌}
+use mathlib.Core.Bool.{false}
 use Rattle.model.specs.Faces.{repeats}
 use Rattle.vtk_faces.specs.Faces.{held_row}
-use Rattle.vtk_faces.proofs.Twice.{held_once, held_twice}
 use Rattle.vtk_faces.proofs.repeated.Given as goal
 
 abbrev pub invariant-loop-c : goal.invariant-loop-c

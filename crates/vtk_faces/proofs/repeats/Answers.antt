@@ -1,9 +1,5 @@
-use Prim.Native.Nat.{◌-◌, ◌≤◌}
-use mathlib.Core.Path.{◌≡◌, refl, sym, ◌∙◌}
+use mathlib.Core.Path.{refl, sym, ◌∙◌}
 use native.Mathlib.Omega.{arith}
-use lib.ListN.{drop}
-use Rattle.model.specs.Faces.{repeats}
-use Rattle.vtk_faces.specs.Faces.{held_row}
 use Rattle.vtk_faces.proofs.Twice.{repeats_here, repeats_next, repeats_end}
 use Rattle.vtk_faces.proofs.repeats.Goals as goal
 

@@ -1,11 +1,9 @@
 -- `vtk_faces::repeats` meets its contract. The loop's invariant: none of the first i words stands once more.
 use Prim.Native.Nat.{◌-◌, ◌≤◌}
-use mathlib.Core.Path.{◌≡◌, refl, sym, ◌∙◌}
-use native.Mathlib.Omega.{arith}
+use mathlib.Core.Path.{◌≡◌}
 use lib.ListN.{drop}
 use Rattle.model.specs.Faces.{repeats}
 use Rattle.vtk_faces.specs.Faces.{held_row}
-use Rattle.vtk_faces.proofs.Twice.{repeats_here, repeats_next, repeats_end}
 use Rattle.vtk_faces.proofs.repeats.Given as goal
 
 abbrev pub invariant-loop-i : goal.invariant-loop-i

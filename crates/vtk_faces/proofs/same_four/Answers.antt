@@ -1,8 +1,6 @@
 -- `vtk_faces::same_four` meets its contract.
 use mathlib.Core.Path.{sym, ◌∙◌}
-use borrow.Author.Tests.{not-true, not-false}
 use Rattle.model.specs.Faces.{same_four}
-use borrow.Author.Rules.{rules}
 use Rattle.vtk_faces.proofs.same_four.Goals as goal
 
 pub returns-then-not-has_all : goal.returns-then-not-has_all

@@ -1,11 +1,9 @@
 -- `vtk_faces::site` meets its contract.
-use Prim.Native.Nat.{ℕ, ◌-◌, ◌/◌, ◌%◌, ◌≤◌, ◌<◌}
-use mathlib.Core.Path.{◌≡◌, ap, ◌∙◌}
-use native.Mathlib.Omega.{arith}
-use native.Mathlib.Numerals.{add-one}
+use Prim.Native.Nat.{◌-◌, ◌/◌, ◌≤◌, ◌<◌}
+use mathlib.Core.Path.{◌≡◌}
 use lib.ListN.{get_or}
-use Rattle.model.specs.Faces.{listed_at, onward, face_darts}
-use Rattle.vtk_faces.proofs.Places.{turns_on, dart_low, site_is}
+use Rattle.model.specs.Faces.{face_darts}
+use Rattle.vtk_faces.proofs.Places.{turns_on}
 use Rattle.vtk_faces.proofs.site.Given as goal
 
 abbrev pub invariant-loop-turn : goal.invariant-loop-turn

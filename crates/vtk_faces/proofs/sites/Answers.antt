@@ -1,8 +1,6 @@
-use Prim.Native.Nat.{ℕ, ◌-◌, ◌≤◌, ◌<◌}
-use mathlib.Core.Path.{◌≡◌, refl, ◌∙◌}
+use mathlib.Core.Path.{refl, ◌∙◌}
 use native.Mathlib.Omega.{arith}
-use lib.ListN.{length, get_or, length-set}
-use Rattle.vtk_faces.specs.Faces.{site_at}
+use lib.ListN.{length-set}
 use Rattle.vtk_faces.proofs.Places.{site_low_lem, sites_more}
 use Rattle.vtk_faces.proofs.sites.Goals as goal
 

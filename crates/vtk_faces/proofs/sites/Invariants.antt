@@ -1,10 +1,8 @@
 -- `vtk_faces::sites` meets its contract.
 use Prim.Native.Nat.{ℕ, ◌-◌, ◌≤◌, ◌<◌}
-use mathlib.Core.Path.{◌≡◌, refl, ◌∙◌}
-use native.Mathlib.Omega.{arith}
-use lib.ListN.{length, get_or, length-set}
+use mathlib.Core.Path.{◌≡◌}
+use lib.ListN.{length, get_or}
 use Rattle.vtk_faces.specs.Faces.{site_at}
-use Rattle.vtk_faces.proofs.Places.{site_low_lem, sites_more}
 use Rattle.vtk_faces.proofs.sites.Given as goal
 
 abbrev pub invariant-loop-j : goal.invariant-loop-j

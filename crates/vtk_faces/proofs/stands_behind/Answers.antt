@@ -1,9 +1,6 @@
-use Prim.Native.Nat.{◌+◌, ◌-◌, ◌≤◌}
-use mathlib.Core.Path.{◌≡◌, refl, sym, ap, ◌∙◌}
+use mathlib.Core.Path.{refl, sym, ap, ◌∙◌}
 use native.Mathlib.Omega.{arith}
-use lib.ListN.{drop}
 use Rattle.model.specs.Faces.{among}
-use Rattle.vtk_faces.specs.Faces.{held_row}
 use Rattle.vtk_faces.proofs.Twice.{row_at, among_here, among_next, among_end}
 use Rattle.vtk_faces.proofs.stands_behind.Goals as goal
 

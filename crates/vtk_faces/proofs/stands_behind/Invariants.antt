@@ -1,11 +1,9 @@
 -- `vtk_faces::stands_behind` meets its contract. The loop's invariant: it does not stand before the j-th word.
 use Prim.Native.Nat.{◌+◌, ◌-◌, ◌≤◌}
-use mathlib.Core.Path.{◌≡◌, refl, sym, ap, ◌∙◌}
-use native.Mathlib.Omega.{arith}
+use mathlib.Core.Path.{◌≡◌}
 use lib.ListN.{drop}
 use Rattle.model.specs.Faces.{among}
 use Rattle.vtk_faces.specs.Faces.{held_row}
-use Rattle.vtk_faces.proofs.Twice.{row_at, among_here, among_next, among_end}
 use Rattle.vtk_faces.proofs.stands_behind.Given as goal
 
 abbrev pub invariant-loop-j : goal.invariant-loop-j

@@ -3,7 +3,6 @@ use Prim.Native.Nat.{ℕ}
 use mathlib.Core.Path.{refl, subst}
 use mathlib.Core.List.{List}
 use native.Mathlib.Omega.{arith}
-use borrow.Author.Rules.{rules}
 use Rattle.vtk_faces.specs.Faces.{four}
 use Rattle.vtk_faces.specs.Turns.{TurnOf}
 use Rattle.vtk_faces.proofs.turn_at.Goals as goal

@@ -1,5 +1,4 @@
 -- `vtk_faces::turn_back` meets its contract.
-use borrow.Author.Rules.{rules}
 use borrow.Author.Tests.{ne_eqb}
 use native.Mathlib.Omega.{arith}
 use Rattle.vtk_faces.specs.Turns.{turn_back}

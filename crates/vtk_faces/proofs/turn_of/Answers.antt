@@ -1,10 +1,6 @@
-use Prim.Native.Nat.{◌-◌, ◌≤◌}
 use mathlib.Core.Path.{sym, ◌∙◌}
-use mathlib.Core.List.{[], ◌∷◌}
 use native.Mathlib.Omega.{arith}
-use borrow.Author.Rules.{rules}
-use Rattle.vtk_faces.specs.Faces.{four}
-use Rattle.vtk_faces.proofs.Turning.{Seeking, seeking_first, seeking_more, found_here, found_across, found_none}
+use Rattle.vtk_faces.proofs.Turning.{seeking_first, seeking_more, found_here, found_across, found_none}
 use Rattle.vtk_faces.proofs.turn_of.Goals as goal
 
 pub loop-turn-init : goal.loop-turn-init

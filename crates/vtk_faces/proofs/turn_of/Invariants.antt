@@ -1,11 +1,8 @@
 -- `vtk_faces::turn_of` meets its contract. The loop's invariant: two readings for each turn are compared (`Seeking`).
 use Prim.Native.Nat.{◌-◌, ◌≤◌}
-use mathlib.Core.Path.{sym, ◌∙◌}
 use mathlib.Core.List.{[], ◌∷◌}
-use native.Mathlib.Omega.{arith}
-use borrow.Author.Rules.{rules}
 use Rattle.vtk_faces.specs.Faces.{four}
-use Rattle.vtk_faces.proofs.Turning.{Seeking, seeking_first, seeking_more, found_here, found_across, found_none}
+use Rattle.vtk_faces.proofs.Turning.{Seeking}
 use Rattle.vtk_faces.proofs.turn_of.Given as goal
 
 abbrev pub invariant-loop-turn : goal.invariant-loop-turn

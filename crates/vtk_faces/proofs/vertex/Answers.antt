@@ -5,7 +5,6 @@ use lib.ListN.{get_or}
 use Rattle.vtk_faces.specs.Faces.{site_at}
 use native.Mathlib.Omega.{arith}
 use Rattle.vtk_faces.proofs.Places.{site_low_lem}
-use borrow.Author.Rules.{rules}
 use Rattle.vtk_faces.proofs.vertex.Goals as goal
 use Rattle.vtk_faces.proofs.vertex.Goals.{Start}
 

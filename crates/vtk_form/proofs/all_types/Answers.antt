@@ -1,15 +1,12 @@
-use Prim.Native.Nat.{ℕ, ◌-◌, ◌≤◌}
-use mathlib.Core.Path.{◌≡◌, refl, ap, ◌∙◌}
-use mathlib.Core.List.{List, []}
+use mathlib.Core.Path.{refl, ap, ◌∙◌}
+use mathlib.Core.List.{[]}
 use native.Mathlib.Omega.{arith}
-use lib.ListN.{length, drop}
+use lib.ListN.{length}
 use lib.Dec.{eqb}
-use borrow.Author.Rules.{rules}
 use Rattle.model.specs.Lists.{all_of}
-use Rattle.model.specs.Vtk.{words}
 use Rattle.vtk_words.proofs.Counting.{none_some, refuted}
 use Rattle.vtk_words.proofs.Passing.{end_none, words_some}
-use Rattle.vtk_form.proofs.Gone.{Gone, gone_start, gone_more, gone_next, gone_end}
+use Rattle.vtk_form.proofs.Gone.{gone_start, gone_more, gone_next, gone_end}
 use Rattle.vtk_form.proofs.Named.{all_more}
 use Rattle.vtk_form.proofs.Typing.{left_all, left_more, left_none}
 use Rattle.vtk_form.proofs.Told.{type_at, type_unfit}

@@ -4,7 +4,6 @@ use mathlib.Core.Path.{ap, ◌∙◌}
 use mathlib.Core.List.{List}
 use mathlib.Core.Option.{some}
 use native.Mathlib.Omega.{arith}
-use borrow.Author.Rules.{rules}
 use Rattle.vtk_words.proofs.Told.{place_at, place_unfit, number_at_lem, number_unfit}
 use Rattle.vtk_form.proofs.Sections.{cells_key, cells_parts, cells_few, cells_second, cells_rows, cells_read}
 use Rattle.vtk_form.proofs.Told.{rows_at, rows_unfit}

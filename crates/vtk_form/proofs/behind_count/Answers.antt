@@ -1,6 +1,5 @@
 -- `vtk_form::behind_count` meets its contract.
 use native.Mathlib.Omega.{arith}
-use borrow.Author.Rules.{rules}
 use Rattle.vtk_words.proofs.Counting.{same_value}
 use Rattle.vtk_words.proofs.Told.{place_at, place_unfit, number_at_lem, number_unfit}
 use Rattle.vtk_form.proofs.Typing.{types_key, types_other, types_same}

@@ -3,7 +3,6 @@ use mathlib.Core.Path.{sym, ◌∙◌, subst}
 use mathlib.Core.List.{List}
 use mathlib.Core.Option.{Option}
 use Prim.Native.Nat.{ℕ}
-use borrow.Author.Rules.{rules}
 use Rattle.vtk_words.specs.Words.{PlaceOf}
 use Rattle.vtk_words.proofs.Told.{place_at, place_unfit}
 use Rattle.vtk_form.proofs.Keys.{keys_more, keys_none}

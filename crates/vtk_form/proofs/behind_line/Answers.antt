@@ -1,8 +1,5 @@
-use Prim.Native.Nat.{◌-◌}
-use mathlib.Core.Path.{◌≡◌, refl, ◌∙◌}
+use mathlib.Core.Path.{refl, ◌∙◌}
 use native.Mathlib.Omega.{arith}
-use lib.ListN.{length, drop}
-use Rattle.model.specs.Vtk.{behind_line}
 use Rattle.vtk_form.proofs.Lines.{line_end, line_found, line_on}
 use Rattle.vtk_form.proofs.behind_line.Goals as goal
 

@@ -1,10 +1,8 @@
 -- `vtk_form::behind_line` meets its contract. The loop's invariant: the line's end is the first from `k` on.
 use Prim.Native.Nat.{◌-◌}
-use mathlib.Core.Path.{◌≡◌, refl, ◌∙◌}
-use native.Mathlib.Omega.{arith}
+use mathlib.Core.Path.{◌≡◌}
 use lib.ListN.{length, drop}
 use Rattle.model.specs.Vtk.{behind_line}
-use Rattle.vtk_form.proofs.Lines.{line_end, line_found, line_on}
 use Rattle.vtk_form.proofs.behind_line.Given as goal
 
 abbrev pub invariant-loop-k : goal.invariant-loop-k

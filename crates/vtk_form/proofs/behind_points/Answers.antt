@@ -5,7 +5,6 @@ use mathlib.Core.List.{List}
 use mathlib.Core.Option.{some}
 use native.Mathlib.Omega.{arith}
 use lib.ListN.{drop, length-drop}
-use borrow.Author.Rules.{rules}
 use Rattle.theorems.proofs.Vtk.Streaming.{words_few}
 use Rattle.vtk_words.proofs.Told.{place_at, place_unfit, number_at_lem, number_unfit}
 use Rattle.vtk_form.proofs.Skipping.{points_keys_lem, points_counted, points_large, skipped}

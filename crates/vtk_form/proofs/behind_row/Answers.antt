@@ -1,16 +1,11 @@
-use Prim.Native.Nat.{ℕ, ◌-◌, ◌≤◌}
-use mathlib.Core.Path.{◌≡◌, refl}
-use mathlib.Core.Bool.{true}
-use mathlib.Core.List.{List, [], ◌∷◌, ◌++◌}
+use mathlib.Core.Path.{refl}
+use mathlib.Core.List.{[], ◌∷◌, ◌++◌}
 use native.Mathlib.Omega.{arith}
-use lib.ListN.{length, drop, length-append}
-use borrow.Author.Rules.{rules}
+use lib.ListN.{length-append}
 use Rattle.model.specs.Lists.{all_of}
-use Rattle.model.specs.Vtk.{words}
 use Rattle.vtk_words.proofs.Counting.{same_value}
 use Rattle.vtk_words.proofs.Told.{number_at_lem, number_unfit}
-use Rattle.vtk_form.specs.Parts.{all_named, Kept}
-use Rattle.vtk_form.proofs.Gone.{Gone, gone_start, gone_more, gone_next, gone_end}
+use Rattle.vtk_form.proofs.Gone.{gone_start, gone_more, gone_next, gone_end}
 use Rattle.vtk_form.proofs.Keeping.{kept_start, kept_more}
 use Rattle.vtk_form.proofs.Named.{named_next, named_more}
 use Rattle.vtk_form.proofs.behind_row.Goals as goal

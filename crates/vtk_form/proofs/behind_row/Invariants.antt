@@ -1,19 +1,12 @@
 -- `vtk_form::behind_row` meets its contract. The loop's invariant: i of the numbers are read (`Gone`), name points, and are kept.
 use Prim.Native.Nat.{ℕ, ◌-◌, ◌≤◌}
-use mathlib.Core.Path.{◌≡◌, refl}
+use mathlib.Core.Path.{◌≡◌}
 use mathlib.Core.Bool.{true}
-use mathlib.Core.List.{List, [], ◌∷◌, ◌++◌}
-use native.Mathlib.Omega.{arith}
-use lib.ListN.{length, drop, length-append}
-use borrow.Author.Rules.{rules}
-use Rattle.model.specs.Lists.{all_of}
+use mathlib.Core.List.{List}
+use lib.ListN.{length, drop}
 use Rattle.model.specs.Vtk.{words}
-use Rattle.vtk_words.proofs.Counting.{same_value}
-use Rattle.vtk_words.proofs.Told.{number_at_lem, number_unfit}
 use Rattle.vtk_form.specs.Parts.{all_named, Kept}
-use Rattle.vtk_form.proofs.Gone.{Gone, gone_start, gone_more, gone_next, gone_end}
-use Rattle.vtk_form.proofs.Keeping.{kept_start, kept_more}
-use Rattle.vtk_form.proofs.Named.{named_next, named_more}
+use Rattle.vtk_form.proofs.Gone.{Gone}
 use Rattle.vtk_form.proofs.behind_row.Given as goal
 
 abbrev pub invariant-loop-i : goal.invariant-loop-i

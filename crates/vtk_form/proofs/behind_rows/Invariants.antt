@@ -1,22 +1,14 @@
 -- `vtk_form::behind_rows` meets its contract. The loop's invariant: i of the rows are read (`RowsGone`), name points, and are kept.
-use Prim.Native.Nat.{ℕ, suc, ◌-◌, ◌≤◌}
-use mathlib.Core.Path.{◌≡◌, refl, sym, ap, ◌∙◌}
+use Prim.Native.Nat.{ℕ, ◌-◌, ◌≤◌}
+use mathlib.Core.Path.{◌≡◌}
 use mathlib.Core.Bool.{true}
-use mathlib.Core.List.{List, [], ◌∷◌, ◌++◌}
-use native.Mathlib.Omega.{arith}
-use lib.ListN.{length, drop, length-append}
-use lib.Dec.{eqb}
-use borrow.Author.Rules.{rules}
+use mathlib.Core.List.{List}
+use lib.ListN.{length, drop}
 use Rattle.model.specs.Lists.{all_of}
 use Rattle.model.specs.Vtk.{words}
-use Rattle.theorems.proofs.Vtk.Form.{numbers_long}
-use Rattle.vtk_words.proofs.Counting.{none_some, same_value, same_rest, rows_long}
-use Rattle.vtk_words.proofs.Told.{number_at_lem, number_unfit}
 use Rattle.vtk_form.specs.Parts.{all_named, is_eight}
-use Rattle.vtk_form.proofs.Gone.{RowsGone, rows_start, rows_step, rows_next, rows_end, rows_over}
-use Rattle.vtk_form.proofs.Keeping.{Stand, stand_start, stand_more, stand_keeps}
-use Rattle.vtk_form.proofs.Named.{all_more, all_next}
-use Rattle.vtk_form.proofs.Told.{row_at, row_unfit}
+use Rattle.vtk_form.proofs.Gone.{RowsGone}
+use Rattle.vtk_form.proofs.Keeping.{Stand}
 use Rattle.vtk_form.proofs.behind_rows.Given as goal
 
 abbrev pub invariant-loop-i : goal.invariant-loop-i

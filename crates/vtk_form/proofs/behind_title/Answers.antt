@@ -3,7 +3,6 @@ use Prim.Native.Nat.{ℕ}
 use mathlib.Core.Path.{sym, ◌∙◌, subst}
 use mathlib.Core.List.{List}
 use mathlib.Core.Option.{Option}
-use borrow.Author.Rules.{rules}
 use Rattle.vtk_form.specs.Parts.{LineOf}
 use Rattle.vtk_form.proofs.Lines.{title_two, title_three, title_none}
 use Rattle.vtk_form.proofs.behind_title.Goals as goal

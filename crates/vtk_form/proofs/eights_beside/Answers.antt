@@ -1,18 +1,10 @@
-use Prim.Native.Nat.{ℕ, ◌-◌, ◌≤◌, ◌<◌}
-use mathlib.Core.Path.{◌≡◌, sym, ap, ◌∙◌}
+use mathlib.Core.Path.{sym, ap, ◌∙◌}
 use mathlib.Core.Bool.{Bool, not, ◌&&◌}
-use mathlib.Core.List.{List}
-use mathlib.Core.Option.{some}
 use native.Mathlib.Omega.{arith}
-use lib.ListN.{length, drop}
 use lib.Dec.{eqb}
-use borrow.Author.Rules.{rules}
-use Rattle.model.specs.Vtk.{words, numbers}
-use Rattle.model.specs.Meaning.Vtk.{rows_from}
-use Rattle.vtk_words.specs.Words.{large}
 use Rattle.vtk_words.proofs.Counting.{none_some}
 use Rattle.vtk_words.proofs.Told.{number_at_lem, number_unfit}
-use Rattle.vtk_form.proofs.Beside.{Beside, beside_start, beside_row, beside_type, beside_more, beside_stop, beside_end}
+use Rattle.vtk_form.proofs.Beside.{beside_start, beside_row, beside_type, beside_more, beside_stop, beside_end}
 use Rattle.vtk_form.proofs.Told.{type_at, type_unfit}
 use Rattle.vtk_form.proofs.eights_beside.Goals as goal
 

@@ -1,6 +1,5 @@
 -- `vtk_form::eights_hold` meets its contract.
 use mathlib.Core.Path.{sym, ◌∙◌}
-use borrow.Author.Rules.{rules}
 use Rattle.vtk_form.proofs.Beside.{eights_all}
 use Rattle.vtk_form.proofs.eights_hold.Goals as goal
 

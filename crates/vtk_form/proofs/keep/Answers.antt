@@ -1,7 +1,6 @@
 -- `vtk_form::keep` meets its contract.
 use mathlib.Core.Path.{refl}
 use native.Mathlib.Omega.{arith}
-use borrow.Author.Rules.{rules}
 use Rattle.vtk_form.proofs.keep.Goals as goal
 
 pub returns-then-i-room : goal.returns-then-i-room

@@ -6,8 +6,6 @@ use mathlib.Core.List.{List}
 use mathlib.Core.Option.{some}
 use lib.ListN.{length, drop}
 use lib.Dec.{eqb}
-use borrow.Author.Rules.{rules}
-use borrow.Author.Tests.{not-true, not-false}
 use Rattle.model.specs.Lists.{all_of}
 use Rattle.model.specs.Vtk.{words, behind_title, points_of, types_of, eights}
 use Rattle.theorems.proofs.Lists.Scan.{clash}

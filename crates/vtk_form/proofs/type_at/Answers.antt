@@ -1,7 +1,6 @@
 -- `vtk_form::type_at` meets its contract, by what the word is as a number.
 use mathlib.Core.Path.{refl, sym}
 use native.Mathlib.Omega.{arith}
-use borrow.Author.Rules.{rules}
 use borrow.Author.Tests.{ne_eqb}
 use Rattle.vtk_words.proofs.Told.{number_at_lem, number_large, number_none}
 use Rattle.vtk_form.proofs.type_at.Goals as goal

@@ -1,12 +1,8 @@
-use Prim.Native.Nat.{ℕ, ◌-◌, ◌≤◌}
 use mathlib.Core.Path.{◌≡◌}
-use mathlib.Core.List.{List}
 use native.Mathlib.Omega.{arith}
-use lib.ListN.{length, length-set}
-use borrow.Author.Rules.{rules}
+use lib.ListN.{length-set}
 use Rattle.vtk_words.proofs.Told.{number_at_lem, number_unfit}
-use Rattle.vtk_rows.specs.Rows.{RowAt}
-use Rattle.vtk_rows.proofs.Reading.{Going, going_start, going_next, going_more, going_read}
+use Rattle.vtk_rows.proofs.Reading.{going_start, going_next, going_more, going_read}
 use Rattle.vtk_rows.proofs.read_row.Goals as goal
 
 pub loop-i-init : goal.loop-i-init

@@ -2,12 +2,9 @@
 use Prim.Native.Nat.{ℕ, ◌-◌, ◌≤◌}
 use mathlib.Core.Path.{◌≡◌}
 use mathlib.Core.List.{List}
-use native.Mathlib.Omega.{arith}
-use lib.ListN.{length, length-set}
-use borrow.Author.Rules.{rules}
-use Rattle.vtk_words.proofs.Told.{number_at_lem, number_unfit}
+use lib.ListN.{length}
 use Rattle.vtk_rows.specs.Rows.{RowAt}
-use Rattle.vtk_rows.proofs.Reading.{Going, going_start, going_next, going_more, going_read}
+use Rattle.vtk_rows.proofs.Reading.{Going}
 use Rattle.vtk_rows.proofs.read_row.Given as goal
 
 abbrev pub invariant-loop-i : goal.invariant-loop-i

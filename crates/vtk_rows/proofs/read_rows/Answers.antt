@@ -1,12 +1,9 @@
-use Prim.Native.Nat.{ℕ, ◌-◌, ◌≤◌}
 use mathlib.Core.Path.{◌≡◌}
-use mathlib.Core.List.{List, []}
+use mathlib.Core.List.{[]}
 use native.Mathlib.Omega.{arith}
-use lib.ListN.{length, get_or}
-use borrow.Author.Rules.{rules}
+use lib.ListN.{get_or}
 use Rattle.vtk_words.proofs.Told.{number_at_lem, number_unfit}
-use Rattle.vtk_rows.specs.Rows.{EightsAt}
-use Rattle.vtk_rows.proofs.Rows.{Along, along_start, along_next, along_row, along_more, along_read}
+use Rattle.vtk_rows.proofs.Rows.{along_start, along_next, along_row, along_more, along_read}
 use Rattle.vtk_rows.proofs.read_rows.Goals as goal
 
 pub loop-c-init : goal.loop-c-init

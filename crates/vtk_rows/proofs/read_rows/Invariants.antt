@@ -1,13 +1,10 @@
 -- `vtk_rows::read_rows` meets its contract. The loop's invariant: c of the rows are read (`Along`).
 use Prim.Native.Nat.{ℕ, ◌-◌, ◌≤◌}
 use mathlib.Core.Path.{◌≡◌}
-use mathlib.Core.List.{List, []}
-use native.Mathlib.Omega.{arith}
-use lib.ListN.{length, get_or}
-use borrow.Author.Rules.{rules}
-use Rattle.vtk_words.proofs.Told.{number_at_lem, number_unfit}
+use mathlib.Core.List.{List}
+use lib.ListN.{length}
 use Rattle.vtk_rows.specs.Rows.{EightsAt}
-use Rattle.vtk_rows.proofs.Rows.{Along, along_start, along_next, along_row, along_more, along_read}
+use Rattle.vtk_rows.proofs.Rows.{Along}
 use Rattle.vtk_rows.proofs.read_rows.Given as goal
 
 abbrev pub invariant-loop-c : goal.invariant-loop-c

@@ -1,11 +1,9 @@
-use Prim.Native.Nat.{ℕ, ◌+◌, ◌*◌, ◌-◌, ◌≤◌, ◌<◌}
+use Prim.Native.Nat.{ℕ, ◌+◌, ◌*◌, ◌<◌}
 use mathlib.Core.Path.{◌≡◌, sym, ap, ◌∙◌}
-use mathlib.Core.List.{List}
 use native.Mathlib.Omega.{arith}
 use lib.ListN.{get_or, replicate, get_or-replicate}
 use borrow.Author.Rules.{rules}
 use Rattle.model.specs.Table.{unused}
-use Rattle.drafts.specs.Passes.{Met, Pass, FourLinks}
 use Rattle.drafts.proofs.Passes.{slot_none, slot_room, slot_more, slot_length, slot_met, pass_length}
 use Rattle.vtk_table.specs.Cells.{shifts, dart_links}
 use Rattle.vtk_table.proofs.Words.{word_entry, word_old, word_shifted, links_few}

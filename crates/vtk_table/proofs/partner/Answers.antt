@@ -2,7 +2,6 @@
 use Prim.Native.Nat.{◌+◌}
 use mathlib.Core.Path.{sym, ap, ◌∙◌}
 use native.Mathlib.Omega.{arith}
-use borrow.Author.Rules.{rules}
 use Rattle.model.specs.Faces.{darts}
 use Rattle.vtk_faces.specs.Walks.{walk_dart}
 use Rattle.vtk_table.proofs.Places.{walk_first}

@@ -1,11 +1,9 @@
-use Prim.Native.Nat.{ℕ, ◌+◌, ◌*◌, ◌-◌, ◌≤◌, ◌<◌}
+use Prim.Native.Nat.{ℕ, ◌+◌, ◌*◌, ◌<◌}
 use mathlib.Core.Path.{◌≡◌, refl, ap, ◌∙◌}
-use mathlib.Core.List.{List}
 use native.Mathlib.Omega.{arith}
-use lib.ListN.{length, get_or, length-set}
-use borrow.Author.Rules.{rules}
+use lib.ListN.{get_or, length-set}
 use Rattle.model.specs.Table.{link}
-use Rattle.vtk_table.specs.Cells.{shifts, dart_links, Placed}
+use Rattle.vtk_table.specs.Cells.{shifts, dart_links}
 use Rattle.vtk_table.proofs.Words.{word_shifted, links_few}
 use Rattle.vtk_table.proofs.Placing.{placed_at, placed_more}
 use Rattle.vtk_table.proofs.put_dart.Goals as goal

@@ -1,14 +1,10 @@
 -- `vtk_table::put_dart` meets its contract. The loop's invariant: the links below i are put.
 use Prim.Native.Nat.{ℕ, ◌+◌, ◌*◌, ◌-◌, ◌≤◌, ◌<◌}
-use mathlib.Core.Path.{◌≡◌, refl, ap, ◌∙◌}
+use mathlib.Core.Path.{◌≡◌}
 use mathlib.Core.List.{List}
-use native.Mathlib.Omega.{arith}
-use lib.ListN.{length, get_or, length-set}
-use borrow.Author.Rules.{rules}
+use lib.ListN.{length, get_or}
 use Rattle.model.specs.Table.{link}
-use Rattle.vtk_table.specs.Cells.{shifts, dart_links, Placed}
-use Rattle.vtk_table.proofs.Words.{word_shifted, links_few}
-use Rattle.vtk_table.proofs.Placing.{placed_at, placed_more}
+use Rattle.vtk_table.specs.Cells.{dart_links, Placed}
 use Rattle.vtk_table.proofs.put_dart.Given as goal
 
 abbrev pub invariant-loop-i : goal.invariant-loop-i

@@ -1,11 +1,8 @@
 -- `vtk_table::record_words` meets its contract. The loop's invariant: the first y words are there.
 use Prim.Native.Nat.{ℕ, ◌-◌, ◌≤◌, ◌<◌}
-use mathlib.Core.Path.{◌≡◌, refl, ◌∙◌}
-use native.Mathlib.Omega.{arith}
-use lib.ListN.{length, get_or, length-set}
-use borrow.Author.Rules.{rules}
+use mathlib.Core.Path.{◌≡◌}
+use lib.ListN.{length, get_or}
 use Rattle.vtk_table.specs.Cells.{word_at}
-use Rattle.vtk_table.proofs.Places.{fill_more}
 use Rattle.vtk_table.proofs.record_words.Given as goal
 
 abbrev pub invariant-loop-y : goal.invariant-loop-y

@@ -1,19 +1,11 @@
 -- `vtk_table::sew_cell` meets its contract. The loop's invariant: link 3 is right for the darts of the first f faces.
-use Prim.Native.Nat.{ℕ, ◌+◌, ◌*◌, ◌-◌, ◌/◌, ◌%◌, ◌≤◌, ◌<◌}
-use mathlib.Core.Path.{◌≡◌, sym, ap, ◌∙◌}
+use Prim.Native.Nat.{ℕ, ◌+◌, ◌*◌, ◌-◌, ◌≤◌, ◌<◌}
+use mathlib.Core.Path.{◌≡◌}
 use mathlib.Core.List.{List}
-use native.Mathlib.Omega.{arith}
 use lib.ListN.{length, get_or}
-use borrow.Author.Rules.{rules}
-use Rattle.model.specs.Faces.{face_darts, darts, partner}
-use Rattle.theorems.proofs.Lists.Scan.{if_eq}
-use Rattle.theorems.proofs.Vtk.Faces.{face_of, face_low}
-use Rattle.theorems.proofs.Vtk.Table.{partner_goes}
-use Rattle.vtk_faces.specs.Walks.{face_walk, walk_at, walk_dart}
-use Rattle.vtk_faces.proofs.Walks.{first_low, dart_cell, dart_place}
+use Rattle.model.specs.Faces.{face_darts, partner}
+use Rattle.vtk_faces.specs.Walks.{face_walk}
 use Rattle.vtk_table.specs.Cells.{Cells}
-use Rattle.vtk_table.proofs.Places.{first_dart_lem, steps_to, steps_low, steps_lead}
-use Rattle.vtk_table.proofs.Partners.{partner_walks}
 use Rattle.vtk_table.proofs.sew_cell.Given as goal
 
 abbrev pub invariant-loop-f : goal.invariant-loop-f

@@ -1,12 +1,10 @@
-use Prim.Native.Nat.{ℕ, ◌+◌, ◌*◌, ◌-◌, ◌/◌, ◌%◌, ◌≤◌, ◌<◌}
+use Prim.Native.Nat.{ℕ, ◌+◌, ◌*◌, ◌/◌, ◌%◌, ◌<◌}
 use mathlib.Core.Path.{◌≡◌, sym, ap, ◌∙◌}
 use native.Mathlib.Omega.{arith}
-use lib.ListN.{length, get_or, length-set}
-use borrow.Author.Rules.{rules}
+use lib.ListN.{get_or, length-set}
 use Rattle.model.specs.Faces.{face_darts}
 use Rattle.vtk_faces.specs.Walks.{face_walk, walk_at}
 use Rattle.vtk_faces.proofs.Walks.{first_low, walk_low, place_low}
-use Rattle.vtk_table.specs.Cells.{Sews}
 use Rattle.vtk_table.proofs.Places.{step_place_lem, step_face}
 use Rattle.vtk_table.proofs.Partners.{sews_none, sews_more}
 use Rattle.vtk_table.proofs.sew_face.Goals as goal

@@ -1,15 +1,10 @@
 -- `vtk_table::sew_face` meets its contract. The loop's invariant: i steps are made round both faces.
 use Prim.Native.Nat.{ℕ, ◌+◌, ◌*◌, ◌-◌, ◌/◌, ◌%◌, ◌≤◌, ◌<◌}
-use mathlib.Core.Path.{◌≡◌, sym, ap, ◌∙◌}
-use native.Mathlib.Omega.{arith}
-use lib.ListN.{length, get_or, length-set}
-use borrow.Author.Rules.{rules}
+use mathlib.Core.Path.{◌≡◌}
+use lib.ListN.{length, get_or}
 use Rattle.model.specs.Faces.{face_darts}
 use Rattle.vtk_faces.specs.Walks.{face_walk, walk_at}
-use Rattle.vtk_faces.proofs.Walks.{first_low, walk_low, place_low}
 use Rattle.vtk_table.specs.Cells.{Sews}
-use Rattle.vtk_table.proofs.Places.{step_place_lem, step_face}
-use Rattle.vtk_table.proofs.Partners.{sews_none, sews_more}
 use Rattle.vtk_table.proofs.sew_face.Given as goal
 
 abbrev pub invariant-loop-i : goal.invariant-loop-i

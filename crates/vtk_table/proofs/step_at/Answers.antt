@@ -3,7 +3,6 @@ use Prim.Native.Nat.{◌-◌}
 use mathlib.Core.Path.{◌≡◌, ap, ◌∙◌}
 use native.Mathlib.Omega.{arith}
 use lib.ListN.{get_or}
-use borrow.Author.Rules.{rules}
 use Rattle.model.specs.Cell.{cell_size}
 use Rattle.model.specs.Numbering.{cell_link}
 use Rattle.vtk_table.specs.Cells.{step_at}

@@ -1,9 +1,7 @@
-use Prim.Native.Nat.{◌-◌, ◌≤◌}
-use mathlib.Core.Path.{◌≡◌, refl, ◌∙◌}
+use mathlib.Core.Path.{refl, ◌∙◌}
 use native.Mathlib.Omega.{arith}
-use lib.ListN.{length, length-set}
-use borrow.Author.Rules.{rules}
-use Rattle.vtk_table.specs.Cells.{step_at, Steps}
+use lib.ListN.{length-set}
+use Rattle.vtk_table.specs.Cells.{step_at}
 use Rattle.vtk_table.proofs.Places.{fill_more}
 use Rattle.vtk_table.proofs.steps.Goals as goal
 

@@ -1,11 +1,8 @@
 -- `vtk_table::steps` meets its contract. The loop's invariant: the first y entries are there.
 use Prim.Native.Nat.{◌-◌, ◌≤◌}
-use mathlib.Core.Path.{◌≡◌, refl, ◌∙◌}
-use native.Mathlib.Omega.{arith}
-use lib.ListN.{length, length-set}
-use borrow.Author.Rules.{rules}
-use Rattle.vtk_table.specs.Cells.{step_at, Steps}
-use Rattle.vtk_table.proofs.Places.{fill_more}
+use mathlib.Core.Path.{◌≡◌}
+use lib.ListN.{length}
+use Rattle.vtk_table.specs.Cells.{Steps}
 use Rattle.vtk_table.proofs.steps.Given as goal
 
 abbrev pub invariant-loop-y : goal.invariant-loop-y

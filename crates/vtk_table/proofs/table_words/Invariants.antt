@@ -1,11 +1,8 @@
 -- `vtk_table::table_words` meets its contract. The loop's invariant: the first x words are there.
 use Prim.Native.Nat.{ℕ, ◌+◌, ◌*◌, ◌-◌, ◌≤◌, ◌<◌}
-use mathlib.Core.Path.{◌≡◌, refl, ◌∙◌}
-use native.Mathlib.Omega.{arith}
-use lib.ListN.{length, get_or, length-set}
-use borrow.Author.Rules.{rules}
+use mathlib.Core.Path.{◌≡◌}
+use lib.ListN.{length, get_or}
 use Rattle.vtk_table.specs.Cells.{word_at}
-use Rattle.vtk_table.proofs.Places.{fill_more}
 use Rattle.vtk_table.proofs.table_words.Given as goal
 
 abbrev pub invariant-loop-x : goal.invariant-loop-x

@@ -1,13 +1,9 @@
-use Prim.Native.Nat.{ℕ, ◌+◌, ◌*◌, ◌-◌, ◌≤◌}
-use mathlib.Core.Path.{sym, ◌∙◌}
-use mathlib.Core.List.{List}
+use Prim.Native.Nat.{◌+◌, ◌*◌}
 use native.Mathlib.Omega.{arith}
-use borrow.Author.Rules.{rules}
 use Rattle.drafts.specs.Passes.{Pass}
-use Rattle.drafts.proofs.Passes.{pass_length}
-use Rattle.vtk_table.specs.Cells.{Placed, NewCell, ToCell}
+use Rattle.vtk_table.specs.Cells.{Placed, ToCell}
 use Rattle.vtk_table.proofs.Placing.{placed_at}
-use Rattle.vtk_table.proofs.Drafting.{pass_at, cell_inside, cell_long, cell_word}
+use Rattle.vtk_table.proofs.Drafting.{pass_at, cell_inside, cell_word}
 use Rattle.vtk_table.proofs.write_cell.Goals as goal
 use Rattle.vtk_table.proofs.write_cell.Goals.{At-loop-k}
 

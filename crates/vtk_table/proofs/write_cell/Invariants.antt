@@ -1,14 +1,8 @@
 -- `vtk_table::write_cell` meets its contract. The loop's invariant: the darts below k are written.
 use Prim.Native.Nat.{ℕ, ◌+◌, ◌*◌, ◌-◌, ◌≤◌}
-use mathlib.Core.Path.{sym, ◌∙◌}
 use mathlib.Core.List.{List}
-use native.Mathlib.Omega.{arith}
-use borrow.Author.Rules.{rules}
 use Rattle.drafts.specs.Passes.{Pass}
-use Rattle.drafts.proofs.Passes.{pass_length}
-use Rattle.vtk_table.specs.Cells.{Placed, NewCell, ToCell}
-use Rattle.vtk_table.proofs.Placing.{placed_at}
-use Rattle.vtk_table.proofs.Drafting.{pass_at, cell_inside, cell_long, cell_word}
+use Rattle.vtk_table.specs.Cells.{Placed, NewCell}
 use Rattle.vtk_table.proofs.write_cell.Given as goal
 
 abbrev pub invariant-loop-k : goal.invariant-loop-k

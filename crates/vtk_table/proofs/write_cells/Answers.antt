@@ -1,4 +1,4 @@
-use Prim.Native.Nat.{ℕ, ◌*◌, ◌-◌, ◌≤◌, ◌<◌}
+use Prim.Native.Nat.{ℕ, ◌*◌, ◌<◌}
 use mathlib.Core.Path.{◌≡◌, refl, sym}
 use mathlib.Core.List.{List}
 use native.Mathlib.Omega.{arith}
@@ -7,9 +7,9 @@ use borrow.Author.Rules.{rules}
 use Rattle.model.specs.Journal.{cursor}
 use Rattle.model.specs.Faces.{vtk_table}
 use Rattle.drafts.specs.Passes.{Pass}
-use Rattle.vtk_table.specs.Cells.{Steps, RecordWords, TableWords, Placed, NewCell, NewCells}
+use Rattle.vtk_table.specs.Cells.{Placed, NewCell, NewCells}
 use Rattle.vtk_table.proofs.Placing.{placed_none}
-use Rattle.vtk_table.proofs.Drafting.{cells_none, cells_new, cells_long, cells_word, cells_all}
+use Rattle.vtk_table.proofs.Drafting.{cells_none, cells_new, cells_word, cells_all}
 use Rattle.vtk_table.proofs.write_cells.Goals as goal
 use Rattle.vtk_table.proofs.write_cells.Goals.{After-sew_cell}
 

@@ -1,16 +1,11 @@
 -- `vtk_table::write_cells` meets its contract. The loop's invariant: the cells below c are written.
-use Prim.Native.Nat.{ℕ, ◌*◌, ◌-◌, ◌≤◌, ◌<◌}
-use mathlib.Core.Path.{◌≡◌, refl, sym}
+use Prim.Native.Nat.{ℕ, ◌*◌, ◌-◌, ◌≤◌}
+use mathlib.Core.Path.{◌≡◌}
 use mathlib.Core.List.{List}
-use native.Mathlib.Omega.{arith}
 use lib.ListN.{length}
-use borrow.Author.Rules.{rules}
-use Rattle.model.specs.Journal.{cursor}
 use Rattle.model.specs.Faces.{vtk_table}
 use Rattle.drafts.specs.Passes.{Pass}
-use Rattle.vtk_table.specs.Cells.{Steps, RecordWords, TableWords, Placed, NewCell, NewCells}
-use Rattle.vtk_table.proofs.Placing.{placed_none}
-use Rattle.vtk_table.proofs.Drafting.{cells_none, cells_new, cells_long, cells_word, cells_all}
+use Rattle.vtk_table.specs.Cells.{Steps, RecordWords, TableWords, Placed, NewCells}
 use Rattle.vtk_table.proofs.write_cells.Given as goal
 
 abbrev pub invariant-loop-c : goal.invariant-loop-c

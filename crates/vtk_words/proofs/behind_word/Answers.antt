@@ -1,7 +1,6 @@
 -- `vtk_words::behind_word` meets its contract.
 use mathlib.Core.Path.{sym, ◌∙◌}
 use native.Mathlib.Omega.{arith}
-use borrow.Author.Rules.{rules}
 use Rattle.vtk_words.proofs.Passing.{end_none, first_of, key_none, key_is, key_other}
 use Rattle.vtk_words.proofs.behind_word.Goals as goal
 

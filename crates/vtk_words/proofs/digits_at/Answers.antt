@@ -1,11 +1,10 @@
-use Prim.Native.Nat.{◌*◌, ◌+◌, ◌≤◌, ◌<◌, ◌-◌}
-use mathlib.Core.Path.{◌≡◌, refl, sym, ◌∙◌, subst}
+use Prim.Native.Nat.{◌*◌, ◌+◌, ◌-◌}
+use mathlib.Core.Path.{refl, sym, ◌∙◌, subst}
 use mathlib.Core.Option.{Option}
 use native.Mathlib.Omega.{arith}
-use lib.ListN.{length, get_or, drop}
-use borrow.Author.Rules.{rules}
+use lib.ListN.{get_or}
 use Rattle.model.specs.Vtk.{Counted}
-use Rattle.vtk_words.specs.Words.{NumberOf, digits_on, large}
+use Rattle.vtk_words.specs.Words.{NumberOf}
 use Rattle.vtk_words.proofs.Numbering.{on_end, on_blank, on_digit, on_low, on_high}
 use Rattle.vtk_words.proofs.digits_at.Goals as goal
 

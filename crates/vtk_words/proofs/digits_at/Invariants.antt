@@ -1,13 +1,8 @@
 -- `vtk_words::digits_at` meets its contract. The loop's invariant: `v` is the number of the digits passed, and has at most 19 of them.
-use Prim.Native.Nat.{◌*◌, ◌+◌, ◌≤◌, ◌<◌, ◌-◌}
-use mathlib.Core.Path.{◌≡◌, refl, sym, ◌∙◌, subst}
-use mathlib.Core.Option.{Option}
-use native.Mathlib.Omega.{arith}
-use lib.ListN.{length, get_or, drop}
-use borrow.Author.Rules.{rules}
-use Rattle.model.specs.Vtk.{Counted}
-use Rattle.vtk_words.specs.Words.{NumberOf, digits_on, large}
-use Rattle.vtk_words.proofs.Numbering.{on_end, on_blank, on_digit, on_low, on_high}
+use Prim.Native.Nat.{◌≤◌, ◌<◌, ◌-◌}
+use mathlib.Core.Path.{◌≡◌}
+use lib.ListN.{length, drop}
+use Rattle.vtk_words.specs.Words.{digits_on, large}
 use Rattle.vtk_words.proofs.digits_at.Given as goal
 
 abbrev pub invariant-loop-k : goal.invariant-loop-k

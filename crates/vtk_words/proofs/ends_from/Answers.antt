@@ -1,8 +1,6 @@
-use Prim.Native.Nat.{◌≤◌, ◌-◌}
+use Prim.Native.Nat.{◌≤◌}
 use mathlib.Core.Path.{◌≡◌}
 use native.Mathlib.Omega.{arith}
-use borrow.Author.Rules.{rules}
-use Rattle.vtk_words.specs.Words.{WordEnds}
 use Rattle.vtk_words.proofs.Passing.{ends_one, ends_none, ends_more}
 use Rattle.vtk_words.proofs.ends_from.Goals as goal
 

@@ -1,10 +1,6 @@
 -- `vtk_words::ends_from` meets its contract. The loop's invariant: `n` words end in the `i` bytes passed.
 use Prim.Native.Nat.{◌≤◌, ◌-◌}
-use mathlib.Core.Path.{◌≡◌}
-use native.Mathlib.Omega.{arith}
-use borrow.Author.Rules.{rules}
 use Rattle.vtk_words.specs.Words.{WordEnds}
-use Rattle.vtk_words.proofs.Passing.{ends_one, ends_none, ends_more}
 use Rattle.vtk_words.proofs.ends_from.Given as goal
 
 abbrev pub invariant-loop-i : goal.invariant-loop-i

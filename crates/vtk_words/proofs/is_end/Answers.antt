@@ -1,5 +1,4 @@
 -- `vtk_words::is_end` meets its contract.
-use borrow.Author.Rules.{rules}
 use Rattle.vtk_words.specs.Words.{ends_between}
 use Rattle.vtk_words.proofs.is_end.Goals as goal
 

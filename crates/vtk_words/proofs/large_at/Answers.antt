@@ -1,9 +1,7 @@
-use Prim.Native.Nat.{ℕ, ◌*◌, ◌+◌, ◌≤◌, ◌-◌}
-use mathlib.Core.Path.{◌≡◌, refl, sym, ◌∙◌}
+use Prim.Native.Nat.{◌*◌, ◌+◌, ◌-◌}
+use mathlib.Core.Path.{refl, sym, ◌∙◌}
 use native.Mathlib.Omega.{arith}
-use lib.ListN.{length, get_or, drop}
-use borrow.Author.Rules.{rules}
-use Rattle.vtk_words.specs.Words.{digits_on, large}
+use lib.ListN.{get_or}
 use Rattle.vtk_words.proofs.Numbering.{on_end, on_blank, on_digit, on_low, on_high}
 use Rattle.vtk_words.proofs.large_at.Goals as goal
 

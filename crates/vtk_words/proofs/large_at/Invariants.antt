@@ -1,11 +1,8 @@
 -- `vtk_words::large_at` meets its contract. The loop's invariant: what was too large is so with the digits passed.
-use Prim.Native.Nat.{ℕ, ◌*◌, ◌+◌, ◌≤◌, ◌-◌}
-use mathlib.Core.Path.{◌≡◌, refl, sym, ◌∙◌}
-use native.Mathlib.Omega.{arith}
-use lib.ListN.{length, get_or, drop}
-use borrow.Author.Rules.{rules}
+use Prim.Native.Nat.{ℕ, ◌≤◌, ◌-◌}
+use mathlib.Core.Path.{◌≡◌}
+use lib.ListN.{length, drop}
 use Rattle.vtk_words.specs.Words.{digits_on, large}
-use Rattle.vtk_words.proofs.Numbering.{on_end, on_blank, on_digit, on_low, on_high}
 use Rattle.vtk_words.proofs.large_at.Given as goal
 
 abbrev pub invariant-loop-k : goal.invariant-loop-k

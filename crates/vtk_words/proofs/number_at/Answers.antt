@@ -4,7 +4,6 @@ use mathlib.Core.Path.{sym, ap, ◌∙◌, subst}
 use mathlib.Core.Option.{Option}
 use native.Mathlib.Omega.{arith}
 use lib.ListN.{length}
-use borrow.Author.Rules.{rules}
 use Rattle.model.specs.Vtk.{Counted, counted}
 use Rattle.vtk_words.specs.Words.{NumberOf}
 use Rattle.vtk_words.proofs.Passing.{end_none}

@@ -1,9 +1,8 @@
-use Prim.Native.Nat.{ℕ, suc, ◌+◌, ◌≤◌, ◌-◌, ◌<◌}
+use Prim.Native.Nat.{ℕ, suc, ◌+◌, ◌-◌, ◌<◌}
 use mathlib.Core.Path.{◌≡◌, sym, ap, ◌∙◌}
 use native.Mathlib.Omega.{arith}
 use lib.ListN.{length, drop}
 use lib.Seq.{drop-nil}
-use borrow.Author.Rules.{rules}
 use Rattle.model.specs.Vtk.{words}
 use Rattle.vtk_words.proofs.Passing.{end_none, first_of}
 use Rattle.vtk_words.proofs.skip_few.Goals as goal

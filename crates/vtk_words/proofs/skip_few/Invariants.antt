@@ -1,12 +1,8 @@
 -- `vtk_words::skip_few` meets its contract. The loop's invariant: what is left is to pass n - k words from `p` on.
-use Prim.Native.Nat.{ℕ, suc, ◌+◌, ◌≤◌, ◌-◌, ◌<◌}
-use mathlib.Core.Path.{◌≡◌, sym, ap, ◌∙◌}
-use native.Mathlib.Omega.{arith}
+use Prim.Native.Nat.{◌≤◌, ◌-◌}
+use mathlib.Core.Path.{◌≡◌}
 use lib.ListN.{length, drop}
-use lib.Seq.{drop-nil}
-use borrow.Author.Rules.{rules}
 use Rattle.model.specs.Vtk.{words}
-use Rattle.vtk_words.proofs.Passing.{end_none, first_of}
 use Rattle.vtk_words.proofs.skip_few.Given as goal
 
 abbrev pub invariant-loop-k : goal.invariant-loop-k

@@ -1,9 +1,7 @@
 -- `vtk_words::skip_words` meets its contract. The loop's invariant: what is left is to pass `left` words from `p` on.
 use Prim.Native.Nat.{◌≤◌, ◌-◌}
-use mathlib.Core.Path.{◌≡◌, refl, ◌∙◌}
-use native.Mathlib.Omega.{arith}
+use mathlib.Core.Path.{◌≡◌}
 use lib.ListN.{length, drop}
-use borrow.Author.Rules.{rules}
 use Rattle.model.specs.Vtk.{words}
 use Rattle.vtk_words.proofs.skip_words.Given as goal
 

@@ -1,10 +1,9 @@
-use Prim.Native.Nat.{ℕ, ◌+◌, ◌≤◌, ◌-◌}
+use Prim.Native.Nat.{ℕ, ◌+◌, ◌-◌}
 use mathlib.Core.Path.{◌≡◌, sym, ap, ◌∙◌}
 use mathlib.Core.Bool.{true, false}
 use mathlib.Core.List.{List}
 use native.Mathlib.Omega.{arith}
-use lib.ListN.{length, get_or, take, drop}
-use borrow.Author.Rules.{rules}
+use lib.ListN.{get_or, take, drop}
 use Rattle.model.specs.Vtk.{is_blank, words_from, words}
 use Rattle.theorems.proofs.Lists.Scan.{clash, if_eq}
 use Rattle.vtk_words.proofs.Passing.{from_end, from_letter, from_blank, part_more}

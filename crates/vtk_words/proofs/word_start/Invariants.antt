@@ -1,12 +1,8 @@
 -- `vtk_words::word_start` meets its contract. The loop's invariant: the words from `at` on are those from `k` on.
 use Prim.Native.Nat.{◌≤◌, ◌-◌}
-use mathlib.Core.Path.{◌≡◌, refl, sym, ◌∙◌}
-use native.Mathlib.Omega.{arith}
+use mathlib.Core.Path.{◌≡◌}
 use lib.ListN.{length, drop}
-use borrow.Author.Rules.{rules}
-use borrow.Author.Tests.{not-true, not-false}
 use Rattle.model.specs.Vtk.{words}
-use Rattle.vtk_words.proofs.Passing.{words_blank}
 use Rattle.vtk_words.proofs.word_start.Given as goal
 
 abbrev pub invariant-loop-k : goal.invariant-loop-k

@@ -1,7 +1,6 @@
 -- `vtk_words::zero_at` meets its contract, by what stands behind the zero.
 use mathlib.Core.Path.{sym, ◌∙◌}
 use native.Mathlib.Omega.{arith}
-use borrow.Author.Rules.{rules}
 use Rattle.vtk_words.proofs.Numbering.{zero_end, zero_blank, zero_other}
 use Rattle.vtk_words.proofs.zero_at.Goals as goal
 

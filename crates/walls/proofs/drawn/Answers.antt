@@ -1,10 +1,6 @@
-use Prim.Native.Nat.{◌≤◌, ◌-◌}
 use mathlib.Core.Path.{sym, ◌∙◌}
 use native.Mathlib.Omega.{arith}
-use borrow.Author.Rules.{rules}
-use borrow.Author.Tests.{not-true, not-false}
-use lib.ListN.{length}
-use Rattle.walls.proofs.Drawings.{Fits, fits_none, fits_more, fits_over, fits_all, fits_not}
+use Rattle.walls.proofs.Drawings.{fits_none, fits_more, fits_over, fits_all, fits_not}
 use Rattle.walls.proofs.drawn.Goals as goal
 
 pub skip_blocks-x-requires : goal.skip_blocks-x-requires

@@ -1,11 +1,7 @@
 -- `walls::drawn` meets its contract. The loop's invariant: the marks before x fit.
 use Prim.Native.Nat.{◌≤◌, ◌-◌}
-use mathlib.Core.Path.{sym, ◌∙◌}
-use native.Mathlib.Omega.{arith}
-use borrow.Author.Rules.{rules}
-use borrow.Author.Tests.{not-true, not-false}
 use lib.ListN.{length}
-use Rattle.walls.proofs.Drawings.{Fits, fits_none, fits_more, fits_over, fits_all, fits_not}
+use Rattle.walls.proofs.Drawings.{Fits}
 use Rattle.walls.proofs.drawn.Given as goal
 
 abbrev pub invariant-loop-x : goal.invariant-loop-x

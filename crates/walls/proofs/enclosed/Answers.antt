@@ -1,10 +1,8 @@
-use Prim.Native.Nat.{◌-◌, ◌≤◌}
 use mathlib.Core.Path.{◌≡◌, sym, ap, ◌∙◌}
 use native.Mathlib.Omega.{arith}
-use borrow.Author.Tests.{not-true, not-false}
 use lib.ListN.{get_or}
 use Rattle.model.specs.Wall.{closed_at}
-use Rattle.walls.proofs.Passing.{Passed, passed_none, passed_more, listed_room, listed_marked, listed_all, listed_not}
+use Rattle.walls.proofs.Passing.{passed_none, passed_more, listed_room, listed_marked, listed_all, listed_not}
 use Rattle.walls.proofs.Drawings.{enclosed_none, enclosed_some}
 use Rattle.walls.proofs.enclosed.Goals as goal
 use Rattle.walls.proofs.enclosed.Goals.{After-closed_at}

@@ -1,12 +1,7 @@
 -- `walls::enclosed` meets its contract. The loop's invariant: the links of the darts before the k-th stay on the wall.
 use Prim.Native.Nat.{◌-◌, ◌≤◌}
-use mathlib.Core.Path.{◌≡◌, sym, ap, ◌∙◌}
-use native.Mathlib.Omega.{arith}
-use borrow.Author.Tests.{not-true, not-false}
-use lib.ListN.{get_or}
 use Rattle.model.specs.Wall.{closed_at}
-use Rattle.walls.proofs.Passing.{Passed, passed_none, passed_more, listed_room, listed_marked, listed_all, listed_not}
-use Rattle.walls.proofs.Drawings.{enclosed_none, enclosed_some}
+use Rattle.walls.proofs.Passing.{Passed}
 use Rattle.walls.proofs.enclosed.Given as goal
 
 abbrev pub invariant-loop-k : goal.invariant-loop-k

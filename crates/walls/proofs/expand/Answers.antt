@@ -1,10 +1,8 @@
-use Prim.Native.Nat.{◌+◌, ◌-◌}
 use mathlib.Core.Path.{refl, sym, ap, ◌∙◌}
 use mathlib.Core.Bool.{true}
 use native.Mathlib.Omega.{arith}
-use Rattle.model.specs.Table.{slots}
 use Rattle.reach.specs.Search.{Search, search_of, meet}
-use Rattle.reach.proofs.Meeting.{Going, going_from, going_on, going_all, going_long, meet_asks, follow_takes}
+use Rattle.reach.proofs.Meeting.{going_from, going_on, going_all, meet_asks, follow_takes}
 use Rattle.walls.specs.Steps.{step}
 use Rattle.walls.proofs.expand.Goals as goal
 use Rattle.walls.proofs.expand.Goals.{At-loop-i}

@@ -1,11 +1,9 @@
 -- `walls::expand` meets its contract. The loop's invariant is `Going`: the steps below i have been followed.
 use Prim.Native.Nat.{◌+◌, ◌-◌}
-use mathlib.Core.Path.{refl, sym, ap, ◌∙◌}
 use mathlib.Core.Bool.{true}
-use native.Mathlib.Omega.{arith}
 use Rattle.model.specs.Table.{slots}
-use Rattle.reach.specs.Search.{Search, search_of, meet}
-use Rattle.reach.proofs.Meeting.{Going, going_from, going_on, going_all, going_long, meet_asks, follow_takes}
+use Rattle.reach.specs.Search.{search_of}
+use Rattle.reach.proofs.Meeting.{Going}
 use Rattle.walls.specs.Steps.{step}
 use Rattle.walls.proofs.expand.Given as goal
 

@@ -1,12 +1,12 @@
-use Prim.Native.Nat.{◌-◌, ◌≤◌, ◌<◌}
-use mathlib.Core.Path.{◌≡◌, refl, ◌∙◌}
+use Prim.Native.Nat.{◌≤◌, ◌<◌}
+use mathlib.Core.Path.{refl, ◌∙◌}
 use native.Mathlib.Omega.{arith}
 use lib.ListN.{length, length-set}
 use Rattle.model.specs.Table.{slots}
 use Rattle.model.specs.Meaning.Sets.{Marked}
 use Rattle.walls.proofs.Passing.{listed_room, listed_marked}
 use Rattle.walls.proofs.Drawings.{dart_in}
-use Rattle.walls.proofs.Nexting.{Found, found_none, found_more, found_all, next_in}
+use Rattle.walls.proofs.Nexting.{found_none, found_more, found_all, next_in}
 use Rattle.walls.proofs.find_next.Goals as goal
 use Rattle.walls.proofs.find_next.Goals.{After-next_of, After-word-h}
 

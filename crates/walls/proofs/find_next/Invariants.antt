@@ -1,13 +1,8 @@
 -- `walls::find_next` meets its contract. The loop's invariant: next of the darts before the k-th is found.
-use Prim.Native.Nat.{◌-◌, ◌≤◌, ◌<◌}
-use mathlib.Core.Path.{◌≡◌, refl, ◌∙◌}
-use native.Mathlib.Omega.{arith}
-use lib.ListN.{length, length-set}
-use Rattle.model.specs.Table.{slots}
-use Rattle.model.specs.Meaning.Sets.{Marked}
-use Rattle.walls.proofs.Passing.{listed_room, listed_marked}
-use Rattle.walls.proofs.Drawings.{dart_in}
-use Rattle.walls.proofs.Nexting.{Found, found_none, found_more, found_all, next_in}
+use Prim.Native.Nat.{◌-◌, ◌≤◌}
+use mathlib.Core.Path.{◌≡◌}
+use lib.ListN.{length}
+use Rattle.walls.proofs.Nexting.{Found}
 use Rattle.walls.proofs.find_next.Given as goal
 
 abbrev pub invariant-loop-k : goal.invariant-loop-k

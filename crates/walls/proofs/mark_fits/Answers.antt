@@ -1,5 +1,4 @@
 -- `walls::mark_fits` meets its contract.
-use borrow.Author.Rules.{rules}
 use borrow.Author.Tests.{eq-eqb, ne_eqb}
 use Rattle.walls.proofs.mark_fits.Goals as goal
 

@@ -1,11 +1,5 @@
 -- `walls::next_of` meets its contract. The loop's invariant: the turn from h is at x. The measure: the turns that are left.
-use Prim.Native.Nat.{◌<◌}
-use mathlib.Core.Path.{sym, ◌∙◌}
-use native.Mathlib.Omega.{arith}
-use borrow.Author.Tests.{eqb-true, eqb-false}
-use Rattle.model.specs.Reach.{in_set}
-use Rattle.model.specs.Meaning.Sets.{Marked}
-use Rattle.walls.proofs.Nexting.{drawn_of, turns_left, At, live_entry, over_lives, at_in, at_first, at_met, at_free, at_more}
+use Rattle.walls.proofs.Nexting.{turns_left, At}
 use Rattle.walls.proofs.next_of.Given as goal
 
 abbrev pub invariant-loop-y : goal.invariant-loop-y

@@ -1,6 +1,5 @@
 -- `walls::on_wall` meets its contract.
 use mathlib.Core.Path.{refl}
-use borrow.Author.Rules.{rules}
 use Rattle.model.specs.Reach.{in_set}
 use Rattle.walls.proofs.on_wall.Goals as goal
 

@@ -1,5 +1,5 @@
-use Prim.Native.Nat.{ℕ, ◌+◌, ◌-◌, ◌≤◌, ◌<◌}
-use mathlib.Core.Path.{◌≡◌, refl, sym, ap, ◌∙◌}
+use Prim.Native.Nat.{ℕ, ◌+◌, ◌≤◌, ◌<◌}
+use mathlib.Core.Path.{refl, ap, ◌∙◌}
 use mathlib.Core.Bool.{true}
 use mathlib.Core.List.{List}
 use native.Mathlib.Omega.{arith}
@@ -8,9 +8,9 @@ use Rattle.model.specs.Table.{slots}
 use Rattle.model.specs.Wall.{wall_reached}
 use Rattle.model.specs.Meaning.Sets.{Marked}
 use Rattle.reach.specs.Search.{Search, search_of}
-use Rattle.reach.proofs.Flooding.{Spread, Flooding, Gone, gone_none, flooding_space, flooding_fits, start_in, begun, found_on, turned, ended}
+use Rattle.reach.proofs.Flooding.{Spread, Flooding, gone_none, flooding_space, flooding_fits, start_in, begun, found_on, turned, ended}
 use Rattle.walls.specs.Steps.{step}
-use Rattle.walls.proofs.Flooded.{Flooded, stepping, wall_spread}
+use Rattle.walls.proofs.Flooded.{stepping, wall_spread}
 use Rattle.walls.proofs.reached.Goals as goal
 use Rattle.walls.proofs.reached.Goals.{At-loop-head, Start}
 

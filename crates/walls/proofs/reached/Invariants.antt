@@ -1,17 +1,13 @@
 -- `walls::reached` meets its contract. The loop's invariant: `Flooded`, and the queue's darts before head have gone their steps.
-use Prim.Native.Nat.{ℕ, ◌+◌, ◌-◌, ◌≤◌, ◌<◌}
-use mathlib.Core.Path.{◌≡◌, refl, sym, ap, ◌∙◌}
+use Prim.Native.Nat.{◌+◌, ◌-◌}
+use mathlib.Core.Path.{◌≡◌}
 use mathlib.Core.Bool.{true}
-use mathlib.Core.List.{List}
-use native.Mathlib.Omega.{arith}
-use lib.ListN.{length, get_or, set, length-replicate}
+use lib.ListN.{length}
 use Rattle.model.specs.Table.{slots}
-use Rattle.model.specs.Wall.{wall_reached}
-use Rattle.model.specs.Meaning.Sets.{Marked}
-use Rattle.reach.specs.Search.{Search, search_of}
-use Rattle.reach.proofs.Flooding.{Spread, Flooding, Gone, gone_none, flooding_space, flooding_fits, start_in, begun, found_on, turned, ended}
+use Rattle.reach.specs.Search.{search_of}
+use Rattle.reach.proofs.Flooding.{Gone}
 use Rattle.walls.specs.Steps.{step}
-use Rattle.walls.proofs.Flooded.{Flooded, stepping, wall_spread}
+use Rattle.walls.proofs.Flooded.{Flooded}
 use Rattle.walls.proofs.reached.Given as goal
 
 abbrev pub invariant-loop-head : goal.invariant-loop-head

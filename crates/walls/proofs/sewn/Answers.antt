@@ -1,12 +1,8 @@
-use Prim.Native.Nat.{ℕ, ◌-◌, ◌≤◌}
 use mathlib.Core.Path.{◌≡◌, sym, ap, ◌∙◌}
-use mathlib.Core.Bool.{Bool, not}
-use mathlib.Core.List.{List}
+use mathlib.Core.Bool.{not}
 use native.Mathlib.Omega.{arith}
-use lib.Dec.{eqb}
 use lib.ListN.{get_or}
-use Rattle.model.specs.Table.{link}
-use Rattle.walls.proofs.Passing.{Passed, passed_none, passed_more, passed_all, passed_not}
+use Rattle.walls.proofs.Passing.{passed_none, passed_more, passed_all, passed_not}
 use Rattle.walls.proofs.sewn.Invariants.{sewnAt}
 use Rattle.walls.proofs.sewn.Goals as goal
 use Rattle.walls.proofs.sewn.Goals.{After-is_free}

@@ -1,13 +1,10 @@
 -- `walls::sewn` meets its contract. The loop's invariant: the darts before the k-th are not n-free.
 use Prim.Native.Nat.{ℕ, ◌-◌, ◌≤◌}
-use mathlib.Core.Path.{◌≡◌, sym, ap, ◌∙◌}
 use mathlib.Core.Bool.{Bool, not}
 use mathlib.Core.List.{List}
-use native.Mathlib.Omega.{arith}
 use lib.Dec.{eqb}
-use lib.ListN.{get_or}
 use Rattle.model.specs.Table.{link}
-use Rattle.walls.proofs.Passing.{Passed, passed_none, passed_more, passed_all, passed_not}
+use Rattle.walls.proofs.Passing.{Passed}
 use Rattle.walls.proofs.sewn.Given as goal
 
 -- h is not n-free

@@ -1,5 +1,4 @@
 -- `walls::step` meets its contract.
-use borrow.Author.Rules.{rules}
 use borrow.Author.Tests.{eq-eqb, ne_eqb}
 use Rattle.walls.specs.Steps.{step}
 use Rattle.walls.proofs.step.Goals as goal

@@ -1,12 +1,11 @@
-use Prim.Native.Nat.{ℕ, ◌-◌, ◌≤◌}
+use Prim.Native.Nat.{ℕ}
 use mathlib.Core.Path.{◌≡◌, sym, ap, ◌∙◌}
 use mathlib.Core.List.{List}
 use native.Mathlib.Omega.{arith}
-use borrow.Author.Tests.{not-true, not-false}
 use lib.ListN.{get_or}
 use Rattle.model.specs.Wall.{turns_well}
 use Rattle.walls.specs.Given.{Listed, Nexts}
-use Rattle.walls.proofs.Passing.{Passed, passed_none, passed_more, listed_room, listed_marked, listed_all, listed_not}
+use Rattle.walls.proofs.Passing.{passed_none, passed_more, listed_room, listed_marked, listed_all, listed_not}
 use Rattle.walls.proofs.turns.Goals as goal
 use Rattle.walls.proofs.turns.Goals.{After-turns_well}
 

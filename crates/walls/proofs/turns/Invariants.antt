@@ -1,13 +1,9 @@
 -- `walls::turns` meets its contract. The loop's invariant: 31 holds of the darts before the k-th, in each wall that is read so.
 use Prim.Native.Nat.{ℕ, ◌-◌, ◌≤◌}
-use mathlib.Core.Path.{◌≡◌, sym, ap, ◌∙◌}
 use mathlib.Core.List.{List}
-use native.Mathlib.Omega.{arith}
-use borrow.Author.Tests.{not-true, not-false}
-use lib.ListN.{get_or}
 use Rattle.model.specs.Wall.{turns_well}
 use Rattle.walls.specs.Given.{Listed, Nexts}
-use Rattle.walls.proofs.Passing.{Passed, passed_none, passed_more, listed_room, listed_marked, listed_all, listed_not}
+use Rattle.walls.proofs.Passing.{Passed}
 use Rattle.walls.proofs.turns.Given as goal
 
 abbrev pub invariant-loop-k : goal.invariant-loop-k

@@ -1,6 +1,5 @@
 -- `walls::word` meets its contract.
 use native.Mathlib.Omega.{arith}
-use borrow.Author.Rules.{rules}
 use Rattle.walls.proofs.word.Goals as goal
 
 pub overflow_cast-result-2 : goal.overflow_cast-result-2

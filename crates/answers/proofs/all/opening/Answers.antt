@@ -3,7 +3,6 @@ use mathlib.Core.Bool.{not}
 use mathlib.Core.Path.{ap, refl, sym, ◌∙◌}
 use mathlib.Core.List.{List}
 use lib.ListN.{take}
-use borrow.Author.Rules.{rules}
 use borrow.Author.Tests.{eq-eqb, ne_eqb}
 use Rattle.model.specs.Map.{links_live, links_return, pairs_commute, stays_flat, is_map}
 use Rattle.model.specs.Checks.{Check, map_checks}

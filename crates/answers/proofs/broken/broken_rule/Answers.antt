@@ -1,6 +1,5 @@
 -- `answers::broken::broken_rule` meets its contract: the ladder of the rules of a map, of which one is broken.
 use mathlib.Core.List.{List}
-use borrow.Author.Rules.{rules}
 use Rattle.model.specs.Map.{links_live, links_return, pairs_commute}
 use Rattle.model.specs.Checks.{Check, rule_number, map_checks}
 use Rattle.theorems.proofs.Calls.Pass.{dim_pass}

@@ -2,7 +2,6 @@
 use mathlib.Core.Bool.{not}
 use mathlib.Core.Path.{ap, refl}
 use mathlib.Core.List.{List}
-use borrow.Author.Rules.{rules}
 use Rattle.model.specs.Checks.{Check, map_checks}
 use Rattle.answers.specs.Openings.{opening_checks, layer_checks}
 use Rattle.answers.proofs.Ladder.{Rung, rise, up, out}

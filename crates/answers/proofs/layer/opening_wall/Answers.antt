@@ -1,7 +1,6 @@
 -- `answers::opening_wall` meets its contract: `opening`, and above it the check 8.
 use mathlib.Core.Path.{refl}
 use mathlib.Core.List.{List}
-use borrow.Author.Rules.{rules}
 use Rattle.model.specs.Checks.{Check, map_checks}
 use Rattle.answers.specs.Openings.{opening_checks, wall_checks}
 use Rattle.answers.proofs.Ladder.{Rung, rise}

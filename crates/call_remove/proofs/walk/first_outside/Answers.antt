@@ -1,8 +1,6 @@
 use Prim.Native.Nat.{◌<◌}
 use mathlib.Core.Path.{◌≡◌, sym, ap, ◌∙◌}
 use native.Mathlib.Omega.{arith}
-use borrow.Author.Rules.{rules}
-use borrow.Author.Tests.{not-true, not-false}
 use Rattle.model.specs.Remove.{cell_mark, marked}
 use Rattle.call_remove.proofs.Hops.{hops_left, At, at_first, at_end, at_more}
 use Rattle.call_remove.proofs.walk.first_outside.Goals as goal

@@ -1,12 +1,6 @@
 -- `call_remove::walk::first_outside` meets its contract. The loop's invariant: the walk from link n of x is at y. The measure: the hops
 -- that are left of that finite path.
-use Prim.Native.Nat.{◌<◌}
-use mathlib.Core.Path.{◌≡◌, sym, ap, ◌∙◌}
-use native.Mathlib.Omega.{arith}
-use borrow.Author.Rules.{rules}
-use borrow.Author.Tests.{not-true, not-false}
-use Rattle.model.specs.Remove.{cell_mark, marked}
-use Rattle.call_remove.proofs.Hops.{hops_left, At, at_first, at_end, at_more}
+use Rattle.call_remove.proofs.Hops.{hops_left, At}
 use Rattle.call_remove.proofs.walk.first_outside.Given as goal
 
 abbrev pub invariant-loop-y : goal.invariant-loop-y

@@ -1,5 +1,4 @@
 -- `call_remove::walk::hop` meets its contract.
-use borrow.Author.Rules.{rules}
 use Rattle.model.specs.Meaning.Walks.{hop}
 use Rattle.call_remove.proofs.walk.hop.Goals as goal
 

@@ -2,7 +2,6 @@
 use mathlib.Core.Path.{refl, sym}
 use native.Mathlib.Omega.{arith}
 use lib.ListN.{get_or-eq_default}
-use borrow.Author.Rules.{rules}
 use Rattle.call_remove.proofs.walk.mark.Goals as goal
 
 pub returns-then-at-marks : goal.returns-then-at-marks

@@ -1,6 +1,5 @@
 -- `call_remove::walk::opposite` meets its contract.
 use mathlib.Core.Path.{sym, ◌∙◌}
-use borrow.Author.Rules.{rules}
 use Rattle.call_remove.proofs.Hops.{opposite_solid, opposite_flat}
 use Rattle.call_remove.proofs.walk.opposite.Goals as goal
 

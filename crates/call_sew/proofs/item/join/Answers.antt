@@ -1,10 +1,6 @@
-use Prim.Native.Nat.{ℕ, ◌-◌, ◌≤◌}
 use mathlib.Core.Path.{◌≡◌}
 use native.Mathlib.Omega.{arith}
-use borrow.Author.Rules.{rules}
-use Rattle.model.specs.Sew.{sew_table}
-use Rattle.call_sew.specs.Joins.{Among, Joining}
-use Rattle.call_sew.proofs.Parts.{Part, part_none, part_pair, part_all, x_below, y_below, relink_fits, first_relinked}
+use Rattle.call_sew.proofs.Parts.{part_none, part_pair, part_all, x_below, y_below, relink_fits, first_relinked}
 use Rattle.call_sew.proofs.item.join.Goals as goal
 
 pub loop-k-init : goal.loop-k-init

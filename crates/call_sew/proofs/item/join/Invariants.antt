@@ -1,11 +1,8 @@
 -- `call_sew::item::join` meets its contract. The loop's invariant: the first k pairs are linked and marked.
 use Prim.Native.Nat.{ℕ, ◌-◌, ◌≤◌}
-use mathlib.Core.Path.{◌≡◌}
-use native.Mathlib.Omega.{arith}
-use borrow.Author.Rules.{rules}
 use Rattle.model.specs.Sew.{sew_table}
 use Rattle.call_sew.specs.Joins.{Among, Joining}
-use Rattle.call_sew.proofs.Parts.{Part, part_none, part_pair, part_all, x_below, y_below, relink_fits, first_relinked}
+use Rattle.call_sew.proofs.Parts.{Part}
 use Rattle.call_sew.proofs.item.join.Given as goal
 
 abbrev pub invariant-loop-k : goal.invariant-loop-k

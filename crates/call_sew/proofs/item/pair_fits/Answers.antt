@@ -4,7 +4,6 @@ use mathlib.Core.Path.{ap}
 use Prim.Native.Nat.{◌<◌}
 use mathlib.Core.List.{List}
 use native.Mathlib.Omega.{arith}
-use borrow.Author.Rules.{rules}
 use Rattle.model.specs.Checks.{Check}
 use Rattle.model.specs.Meaning.Pairings.{OnSide}
 use Rattle.theorems.proofs.Calls.Pass.{index_pass, dart_pass}

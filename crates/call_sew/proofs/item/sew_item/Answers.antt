@@ -1,6 +1,5 @@
 -- `call_sew::item::sew_item` meets its contract: the checks 6 to 10, and behind them `sew_pair`.
 use mathlib.Core.Path.{◌∙◌}
-use borrow.Author.Rules.{rules}
 use Rattle.call_sew.proofs.Ends.{sew_refused, behind_ready}
 use Rattle.call_sew.proofs.item.sew_item.Goals as goal
 

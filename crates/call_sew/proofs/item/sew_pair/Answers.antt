@@ -1,8 +1,6 @@
 -- `call_sew::item::sew_pair` meets its contract: both sides listed in step, or refused by 12; 15 by the number of changes; the sides joined and
 -- the record drafted and closed; the marks taken back.
 use native.Mathlib.Omega.{arith}
-use borrow.Author.Rules.{rules}
-use borrow.Author.Tests.{not-true, not-false}
 use Prim.Native.Nat.{◌*◌}
 use mathlib.Core.Path.{refl}
 use mathlib.Core.Bool.{true}

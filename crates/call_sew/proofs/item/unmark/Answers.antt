@@ -1,8 +1,6 @@
-use Prim.Native.Nat.{◌≤◌}
 use mathlib.Core.Path.{◌≡◌}
 use native.Mathlib.Omega.{arith}
-use borrow.Author.Rules.{rules}
-use Rattle.call_sew.proofs.Parts.{Left, left_all, left_none, left_less, last_slot, first_slot, cleared}
+use Rattle.call_sew.proofs.Parts.{left_all, left_none, left_less, last_slot, first_slot, cleared}
 use Rattle.call_sew.proofs.item.unmark.Goals as goal
 
 pub returns-then-size-marks : goal.returns-then-size-marks

@@ -1,9 +1,6 @@
 -- `call_sew::item::unmark` meets its contract: all marks are cleared, or taken back. The loop's invariant: only the first k pairs have marks.
 use Prim.Native.Nat.{◌≤◌}
-use mathlib.Core.Path.{◌≡◌}
-use native.Mathlib.Omega.{arith}
-use borrow.Author.Rules.{rules}
-use Rattle.call_sew.proofs.Parts.{Left, left_all, left_none, left_less, last_slot, first_slot, cleared}
+use Rattle.call_sew.proofs.Parts.{Left}
 use Rattle.call_sew.proofs.item.unmark.Given as goal
 
 abbrev pub invariant-loop-k : goal.invariant-loop-k

@@ -1,7 +1,6 @@
 -- `lines::giving::given` meets its contract, key by key.
 use Rattle.model.specs.Session.{reads}
 use Rattle.lines.specs.Held.{due_at}
-use borrow.Author.Rules.{rules}
 use Rattle.lines.proofs.giving.given.Goals as goal
 
 pub returns-in-Dim : goal.returns-in-Dim

@@ -1,7 +1,6 @@
 -- `lines::giving::is_name` meets its contract: the name is a part of all names, by `name_part`.
 use mathlib.Core.Path.{◌∙◌}
 use native.Mathlib.Omega.{arith}
-use borrow.Author.Rules.{rules}
 use Rattle.lines.proofs.Ops.{name_order, name_part}
 use Rattle.lines.proofs.giving.is_name.Goals as goal
 

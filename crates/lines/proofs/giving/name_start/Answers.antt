@@ -1,6 +1,5 @@
 -- `lines::giving::name_start` meets its contract: the rows are the same.
 use mathlib.Core.Path.{refl}
-use borrow.Author.Rules.{rules}
 use Rattle.lines.specs.Names.{name_start}
 use Rattle.lines.proofs.giving.name_start.Goals as goal
 

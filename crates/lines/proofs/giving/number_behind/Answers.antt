@@ -1,7 +1,6 @@
 -- `lines::giving::number_behind` meets its contract.
 use Rattle.model.specs.Text.{number, up_to}
 use mathlib.Core.Path.{sym, ◌∙◌}
-use borrow.Author.Tests.{not-true, not-false}
 use Rattle.lines.proofs.Behind.{behind_other, behind_key, key_length}
 use borrow.Author.Rules.{rules}
 use Rattle.lines.proofs.giving.number_behind.Goals as goal

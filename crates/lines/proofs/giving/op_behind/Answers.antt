@@ -1,7 +1,6 @@
 -- `lines::giving::op_behind` meets its contract.
 use Rattle.model.specs.Session.{names, place_from}
 use mathlib.Core.Path.{sym, ◌∙◌}
-use borrow.Author.Tests.{not-true, not-false}
 use Rattle.lines.proofs.Behind.{behind_other, behind_key, key_length}
 use borrow.Author.Rules.{rules}
 use Rattle.lines.proofs.giving.op_behind.Goals as goal

@@ -1,8 +1,7 @@
-use Prim.Native.Nat.{◌-◌, ◌≤◌}
 use mathlib.Core.Path.{◌≡◌, refl, sym, ◌∙◌}
 use native.Mathlib.Omega.{arith}
 use Rattle.model.specs.Session.{names, place_from}
-use Rattle.lines.proofs.Ops.{Past, past, found}
+use Rattle.lines.proofs.Ops.{past, found}
 use Rattle.lines.proofs.giving.op_named.Goals as goal
 
 pub loop-k-init : goal.loop-k-init

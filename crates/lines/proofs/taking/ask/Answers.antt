@@ -3,7 +3,6 @@ use mathlib.Core.Path.{sym}
 use native.Mathlib.Omega.{arith}
 use lib.Seq.{length-take-le}
 use Rattle.lines.proofs.Fresh.{asked_back}
-use borrow.Author.Rules.{rules}
 use Rattle.lines.proofs.taking.ask.Goals as goal
 
 pub slice_bounds-request-end-2 : goal.slice_bounds-request-end-2

@@ -2,7 +2,6 @@
 use Rattle.lines.specs.declared.Key.TheVariants.{Dim, Op, I, D}
 use Rattle.lines.specs.Held.{Fits}
 use Rattle.lines.proofs.Steps.{Quiet, noted_quiet, noted_slots, noted_request}
-use borrow.Author.Rules.{rules}
 use Rattle.lines.proofs.taking.done.Goals as goal
 
 pub fresh-requires : goal.fresh-requires

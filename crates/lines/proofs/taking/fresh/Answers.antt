@@ -3,7 +3,6 @@ use mathlib.Core.Path.{sym}
 use native.Mathlib.Omega.{arith}
 use lib.Seq.{length-take-le}
 use Rattle.lines.proofs.Fresh.{fresh_lent}
-use borrow.Author.Rules.{rules}
 use Rattle.lines.proofs.taking.fresh.Goals as goal
 
 pub slice_bounds-fill_words-end-2 : goal.slice_bounds-fill_words-end-2

@@ -1,6 +1,5 @@
 -- `lines::taking::noted` meets its contract, key by key.
 use Rattle.lines.specs.Held.{noted_at}
-use borrow.Author.Rules.{rules}
 use Rattle.lines.proofs.taking.noted.Goals as goal
 
 pub returns-in-Dim : goal.returns-in-Dim

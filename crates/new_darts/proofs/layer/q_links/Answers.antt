@@ -1,7 +1,6 @@
 -- `new_darts::layer::q_links` meets its contract.
 use mathlib.Core.Path.{◌≡◌, refl, sym, ◌∙◌}
 use native.Mathlib.Omega.{arith}
-use borrow.Author.Rules.{rules}
 use Rattle.new_darts.proofs.News.{four_links_lem}
 use Rattle.new_darts.proofs.LayerRoles.{link_asked, next_asked, along, over, after, next_is, wall_asked, wall_found, links}
 use Rattle.new_darts.proofs.layer.q_links.Goals as goal

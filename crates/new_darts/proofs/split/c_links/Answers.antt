@@ -2,7 +2,6 @@
 use mathlib.Core.Path.{refl, sym, ◌∙◌}
 use mathlib.Core.List.{[], ◌∷◌}
 use native.Mathlib.Omega.{arith}
-use borrow.Author.Rules.{rules}
 use Rattle.model.specs.Table.{walk}
 use Rattle.theorems.proofs.Layers.SplitRole.{keeps_sheet}
 use Rattle.new_darts.proofs.News.{four_links_lem}

@@ -1,11 +1,8 @@
 -- `reading::broken::breaking_link` meets its contract. The loop's invariant: no link passed breaks the rule.
 use Prim.Native.Nat.{ℕ, ◌-◌, ◌≤◌, ◌<◌}
-use mathlib.Core.Path.{◌≡◌, sym, ap, ◌∙◌}
+use mathlib.Core.Path.{◌≡◌}
 use mathlib.Core.Bool.{false, not}
-use native.Mathlib.Omega.{arith}
-use borrow.Author.Count.{below_none, below_more}
-use Rattle.model.specs.Map.{keeps_at, breaking_link}
-use Rattle.theorems.proofs.Lists.Scan.{searched}
+use Rattle.model.specs.Map.{keeps_at}
 use Rattle.reading.specs.RuleOf.{rule_of}
 use Rattle.reading.proofs.broken.breaking_link.Given as goal
 

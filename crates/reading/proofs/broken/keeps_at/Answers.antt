@@ -1,5 +1,4 @@
 -- `reading::broken::keeps_at` meets its contract, rule by rule.
-use borrow.Author.Rules.{rules}
 use Rattle.model.specs.Table.{walk}
 use Rattle.model.specs.Map.{returns as comesBack, keeps_at}
 use Rattle.reading.specs.Near.{turned}

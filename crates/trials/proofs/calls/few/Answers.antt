@@ -1,5 +1,5 @@
 -- `trials::calls::few` meets its contract.
-use Rattle.std.proofs.Common.{sym, length-take-le, rules}
+use Rattle.std.proofs.Common.{sym, length-take-le}
 use Rattle.trials.proofs.calls.few.Goals as goal
 
 pub returns-then-most-bytes : goal.returns-then-most-bytes

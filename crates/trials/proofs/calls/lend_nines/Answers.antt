@@ -1,5 +1,5 @@
 -- `trials::calls::lend_nines` is safe. The lemma spares the walk over the marks.
-use Rattle.std.proofs.Common.{ℕ, sym, rules}
+use Rattle.std.proofs.Common.{ℕ, sym}
 use lib.ListN.{length-replicate}
 use Rattle.trials.proofs.calls.lend_nines.Goals as goal
 

@@ -1,5 +1,5 @@
 -- `trials::lines::heard` is safe and ends.
-use Rattle.std.proofs.Common.{◌≡◌, length, rules}
+use Rattle.std.proofs.Common.{◌≡◌, length}
 use Rattle.trials.proofs.lines.heard.Given as goal
 
 abbrev pub invariant-loop-left : goal.invariant-loop-left

@@ -1,5 +1,5 @@
 -- `trials::lines::place` is safe and ends.
-use Rattle.std.proofs.Common.{◌-◌, ◌≤◌, rules}
+use Rattle.std.proofs.Common.{◌-◌, ◌≤◌}
 use Rattle.trials.proofs.lines.place.Given as goal
 
 abbrev pub invariant-loop-k : goal.invariant-loop-k

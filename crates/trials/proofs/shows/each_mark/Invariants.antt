@@ -1,5 +1,5 @@
 -- `trials::shows::each_mark` is safe and ends.
-use Rattle.std.proofs.Common.{◌≡◌, ◌-◌, ◌≤◌, length, rules}
+use Rattle.std.proofs.Common.{◌≡◌, ◌-◌, ◌≤◌, length}
 use Rattle.trials.proofs.shows.each_mark.Given as goal
 
 abbrev pub invariant-loop-k : goal.invariant-loop-k

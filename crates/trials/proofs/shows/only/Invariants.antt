@@ -1,5 +1,5 @@
 -- `trials::shows::only` is safe and ends.
-use Rattle.std.proofs.Common.{◌≡◌, ◌-◌, ◌≤◌, length, rules}
+use Rattle.std.proofs.Common.{◌≡◌, ◌-◌, ◌≤◌, length}
 use Rattle.trials.proofs.shows.only.Given as goal
 
 abbrev pub invariant-loop-k : goal.invariant-loop-k

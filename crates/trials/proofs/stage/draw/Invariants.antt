@@ -1,5 +1,5 @@
 -- `trials::stage::draw` is safe and ends.
-use Rattle.std.proofs.Common.{◌≡◌, ◌-◌, length, rules}
+use Rattle.std.proofs.Common.{◌≡◌, ◌-◌, length}
 use Rattle.trials.proofs.stage.draw.Given as goal
 
 abbrev pub invariant-loop-k : goal.invariant-loop-k

@@ -1,5 +1,5 @@
 -- `trials::stage::tile_marks` is safe and ends.
-use Rattle.std.proofs.Common.{◌≡◌, ◌-◌, length, rules}
+use Rattle.std.proofs.Common.{◌≡◌, ◌-◌, length}
 use Rattle.trials.proofs.stage.tile_marks.Given as goal
 
 abbrev pub invariant-loop-k : goal.invariant-loop-k
