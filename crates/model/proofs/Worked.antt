@@ -41,6 +41,8 @@ pub longer_journal_refused : (j : List ℕ) → length j ≡ 1048577 → journal
 unfolding journal_ok must
 longer_journal_refused j long = rw long
 
+-- the two hexahedra that split makes of one; and where the first is removed, the other's side there is free, as the walk goes on from a
+-- free side and comes back
 pub solid_split : (link two_hexahedra 0 48 ≡ 0) × (link two_hexahedra 2 49 ≡ 50) × (link two_hexahedra 3 50 ≡ 53)
 unfolding everything two_hexahedra
 solid_split = (refl, refl, refl)

@@ -1,7 +1,7 @@
--- The small maps that document 01 has worked, 1 to 14, and some of 02's requests: each fact of them, as one table with one
--- statement. 3 to 5 have the figures of R-11. Where nothing is said of tags they are 0. 1204 is our own, a side of two darts unsewn,
+-- The small maps that document 01 has worked, 1 to 14, and some of 02's requests: each fact of them, as one table, of
+-- which one statement is proved (proofs/Worked.antt). 3 to 5 have the figures of R-11. Where nothing is said of tags they are 0. 1204 is our own, a side of two darts unsewn,
 -- and so are those from 20101 on.
--- The lengths of case 14, too long to compute with, follow from the check.
+-- The lengths of case 14, too long to compute with, follow from the check; they stand beside that statement.
 use Rattle.std.specs.Prelude.{ℕ, ◌+◌, ◌*◌, Bool, true, false, ◌&&◌, List, [], ◌∷◌, ◌++◌, set, replicate}
 use Rattle.model.specs.Lists.{tabulate, equal}
 use Rattle.model.specs.Table.{unused, slots, link}
@@ -388,8 +388,7 @@ pick_cases =
     ∷ pick_row 11312 2 (made 2 8 unlinked) 8 5 (8 ∷ 0 ∷ 0 ∷ 0 ∷ []) (replicate 8 9)
     ∷ []
 
--- our own, in 3D: the two hexahedra that split makes of one; and where the first is removed, the other's side there is free, as the
--- walk goes on from a free side and comes back
+-- our own, in 3D: the two hexahedra that split makes of one
 unfoldable pub two_hexahedra : List ℕ
 two_hexahedra = split_table 3 (add_table 3 (replicate 384 unused)) 0
 

@@ -1,4 +1,5 @@
--- Worked sessions: the whole case of 01, lines that do not fit, and each op, as one table with one statement.
+-- Worked sessions: the whole case of 01, lines that do not fit, and each op, as one table, of which one statement is proved
+-- (proofs/WorkedSession.antt).
 use Rattle.std.specs.Prelude.{ℕ, true, false, List, [], ◌∷◌}
 use Prim.Native.String.{String}
 use Rattle.model.specs.Lists.{equal}

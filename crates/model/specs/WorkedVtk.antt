@@ -1,5 +1,5 @@
 -- Worked texts (02, R-1): one cell, cells that share a face, how a text may be laid out, and each of the numbers 1, 14, 15 and 18 to 23, as
--- one table with one statement. The labels are those of Worked.antt: 10101 is the first of R-1.
+-- tables, of which one statement each is proved (proofs/WorkedVtk.antt). The labels are those of Worked.antt: 10101 is the first of R-1.
 use Rattle.std.specs.Prelude.{ℕ, zero, suc, List, [], ◌∷◌, ◌++◌}
 use Prim.Native.String.{String}
 use Rattle.model.specs.Text.{bytes, decimal}

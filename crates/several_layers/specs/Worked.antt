@@ -1,6 +1,6 @@
--- Layers of T, 01's three quads in a row, removed in two orders, computed from the definitions (`orders_hold`): the two outer layers;
--- the first and the middle one, which touch; all three. `touching_moves`: what touches a layer can be other darts when the one
--- beside it is removed.
+-- Layers of T, 01's three quads in a row, removed in two orders, computed from the definitions (`orders_hold` in proofs/Orders.antt): the
+-- two outer layers; the first and the middle one, which touch; all three. `touching_moves` there: what touches a layer can be other
+-- darts when the one beside it is removed.
 use Rattle.std.specs.Prelude.{ℕ, Bool, true, false, not, ◌&&◌, List, [], ◌∷◌}
 use Rattle.model.specs.Lists.{all_below, all_of, equal}
 use Rattle.model.specs.Table.{slots, live}

@@ -24,7 +24,7 @@ lives c = live_by _ _ (λ e. c.if-link_in.false (c.link_in.ensures ∙ e))
 solid : (c : Else-n-eq2) → c.args.n ≡ 3
 solid c =
     let dim = c.requires.0.dim in
-    let not-flat = c.if-n-eq2.false in
+    let not_flat = c.if-n-eq2.false in
     omega arith
 
 pub visit_2d-requires : goal.visit_2d-requires

@@ -11,7 +11,7 @@ use Rattle.reading.proofs.breaks_rule.Goals as goal
 pub keeps_rules-requires : goal.keeps_rules-requires
 keeps_rules-requires c =
     let sized = table_passed c.args.table.now c.requires.1 in
-    let in-slots = live_in c.args.table.now c.args.d sized.fits (sym c.live.ensures ∙ c.if-live.true) in
+    let in_slots = live_in c.args.table.now c.args.d sized.fits (sym c.live.ensures ∙ c.if-live.true) in
     (c.requires.0, omega arith)
 
 pub returns-then-live : goal.returns-then-live

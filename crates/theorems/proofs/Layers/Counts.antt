@@ -1,5 +1,5 @@
--- How many slots pass a test: by a list of them (howMany-least, howMany-most), and as a sum over the slots (howMany-total).
--- The entries that two tables differ in, as such a sum (changes-total).
+-- How many slots pass a test: by a list of them (how_many_least, how_many_most), and as a sum over the slots (how_many_total).
+-- The entries that two tables differ in, as such a sum (changes_total).
 use Prim.Native.Nat.{ℕ, zero, suc, ◌+◌, ◌*◌, ◌≤◌, ◌<◌}
 use mathlib.Core.Path.{◌≡◌, refl, sym, ap, ap₂, ◌∙◌, subst}
 use mathlib.Core.Logic.{◌⊎◌, inl, inr, ◌≢◌}

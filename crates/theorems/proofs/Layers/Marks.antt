@@ -1,5 +1,5 @@
 -- The marks of a sheet S: "1 in S, 2 for other darts of cells that hold a dart of S", 3 for what touches these cells, "0
--- elsewhere" (marks-one, marks-two, marks-three, marks-zero). 1 and 2 mark whole cells (sheet-layer).
+-- elsewhere" (marks_one, marks_two, marks_three, marks_zero). 1 and 2 mark whole cells (sheet_layer).
 use Prim.Native.Nat.{ℕ, ◌≤◌, ◌<◌}
 use mathlib.Core.Path.{◌≡◌, sym, ◌∙◌, subst}
 use mathlib.Core.Logic.{◌⊎◌, inl, inr, ⊎_elim, ◌≢◌, ◌↔◌}

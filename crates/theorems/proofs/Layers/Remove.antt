@@ -1,6 +1,6 @@
--- remove: its table is as document 01 says (remove-removes), and a block map (remove-block), with no side folded
--- (remove-straight). The new link n of a remaining dart is mutual (remove-mutual), and leads to the dart itself where the walk
--- turns at a free side (remove-turns).
+-- remove: its table is as document 01 says (remove_removes), and a block map (remove_block), with no side folded
+-- (remove_straight). The new link n of a remaining dart is mutual (remove_mutual), and leads to the dart itself where the walk
+-- turns at a free side (remove_turns).
 use Prim.Native.Nat.{ℕ, ◌+◌, ◌*◌, ◌≤◌, ◌<◌}
 use mathlib.Core.Path.{◌≡◌, refl, sym, ap, ◌∙◌}
 use mathlib.Core.Logic.{inl, inr, ◌≢◌, ◌↔◌}

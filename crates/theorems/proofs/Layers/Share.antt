@@ -1,5 +1,5 @@
--- How a sheet meets a cell: where 13 is not given, in no dart or in exactly 4 (n = 2) or 16 (n = 3) (sheet-share);
--- 13 is given exactly if it meets some cell in more (crosses-share).
+-- How a sheet meets a cell: where 13 is not given, in no dart or in exactly 4 (n = 2) or 16 (n = 3) (sheet_share);
+-- 13 is given exactly if it meets some cell in more (crosses_share).
 use Prim.Native.Nat.{ℕ, ◌≤◌, ◌<◌}
 use mathlib.Core.Path.{◌≡◌, sym, ap, ◌∙◌}
 use mathlib.Core.Logic.{◌⊎◌, inl, inr, ◌↔◌, ⊎_elim}

@@ -1,5 +1,5 @@
 -- The sheet of a live dart of a block map: S is the least set that holds the dart and is closed under link 0, the opposite edge
--- 1.0.1 and the links 2..n (sheet-least). 13: some dart of S has its link 1 in S (crosses_some).
+-- 1.0.1 and the links 2..n (sheet_least). 13: some dart of S has its link 1 in S (crosses_some).
 use Prim.Native.Nat.{ℕ, suc, ◌≤◌}
 use mathlib.Core.Path.{◌≡◌, refl}
 use mathlib.Core.Logic.{◌⊎◌, ◌↔◌, ⊎_elim}

@@ -1,6 +1,6 @@
 -- The walk of remove, "link n, then (opposite side, link n) again and again", over cells of a block map that are taken away:
--- it ends at one live dart outside, within the model's fuel (walk_ends, walk-live, outside-unique); it can be walked back
--- (walk-back); it goes with the links 0..n-2 (walk-far); where it meets a free side it turns and comes back (walk-turns).
+-- it ends at one live dart outside, within the model's fuel (walk_ends, walk_live, outside_unique); it can be walked back
+-- (walk_back); it goes with the links 0..n-2 (walk_far); where it meets a free side it turns and comes back (walk_turns).
 use Prim.Native.Nat.{ℕ, zero, suc, ◌+◌, ◌≤◌, ◌<◌}
 use mathlib.Core.Path.{◌≡◌, refl, sym, ap, ◌∙◌}
 use mathlib.Core.Logic.{inr}

@@ -113,9 +113,9 @@ loop-left-preserved c =
     let (state, low, rows, heads, nexts, mates) = c.loop-left.invariant in
     let few = some (goal.at.loop-left-preserved c).After-at_most-block in
     let cells = c.args.cells in
-    let mates-same = c.mates-1.given in
-    let nexts-same = c.nexts-1.given in
-    let heads-same = c.heads-1.given in
+    let mates_same = c.mates-1.given in
+    let nexts_same = c.nexts-1.given in
+    let heads_same = c.heads-1.given in
     let more : gone (goal.at.loop-left-preserved c).At-loop-left + c.at_most-block.result ≡ cells - (c.loop-left.left - c.at_most-block.result) = omega arith in (
       λ rs C. (
         subst (λ (n : ℕ). Upto rs n c.first-other.result) more

@@ -8,11 +8,11 @@ use Rattle.walls.proofs.Passing.{Passed}
 use Rattle.walls.proofs.sewn.Given as goal
 
 -- h is not n-free
-abbrev pub sewnAt : ℕ → List ℕ → ℕ → Bool
-sewnAt n t h = not (eqb (link t n h) h)
+abbrev pub sewn_at : ℕ → List ℕ → ℕ → Bool
+sewn_at n t h = not (eqb (link t n h) h)
 
 abbrev pub invariant-loop-k : goal.invariant-loop-k
-invariant-loop-k l = Passed (sewnAt l.n l.table) l.hs l.k × (l.k ≤ l.size)
+invariant-loop-k l = Passed (sewn_at l.n l.table) l.hs l.k × (l.k ≤ l.size)
 
 abbrev pub decreases-loop-k : goal.decreases-loop-k
 decreases-loop-k l = l.size - l.k
