@@ -1,5 +1,5 @@
 -- The ladder of a call: its refusals are early returns in the order of the numbers, and at each rung one check more has
--- passed. So goes the proof of a call (crates/call_orbit/proofs/orbit/Proof.antt is an example):
+-- passed. So goes the proof of a call (crates/call_orbit/proofs/orbit/Answers.antt is an example):
 --   1. `checks`: the model's checks of the call, from the function's entry.
 --   2. The opening (Settled.antt): its answer settles the first checks, by the law of Opened.antt for this call. A refusal is
 --      `handed_on`; past it the call stands on the rung `opened`.

@@ -1,5 +1,5 @@
 -- Two walks in step: `Going` is the loop's invariant of `walk_round`. `going_room`: the lists have room for the next darts. A turn is made
--- (`Made`, `turn-made`), and the walks go on (`going_on`) or are at their starts again (`going_round`); or they differ (`going_differs`).
+-- (`Made`), and the walks go on (`going_on`) or are at their starts again (`going_round`); or they differ (`going_differs`).
 use Prim.Native.Nat.{ℕ, suc, ◌<◌}
 use mathlib.Core.Path.{◌≡◌, refl, sym, ap, ◌∙◌}
 use mathlib.Core.Logic.{◌≢◌, ⊎_elim}
