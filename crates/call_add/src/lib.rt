@@ -62,7 +62,9 @@ pub fn add(n: u32, table: &mut [u32], journal: &mut [u32], tag: u32) -> Answer
     }
     let size = cell_size(n);
     let mut fresh = [0u16; 48];
-    if scans::list_unused(table, &mut fresh, size) != size {
+    let listed = scans::list_unused(table, &mut fresh, size);
+    let too_few = listed != size;
+    if too_few {
         return numbers::TOO_FEW_SLOTS;
     }
     let changes = 4 * size;

@@ -47,7 +47,8 @@ pub fn pick(n: u32, table: &[u32], marks: &mut [u8], queue: &mut [u32], d: u32) 
         };
     }
     let opened = answers::opening_layer(n, table, reading::marks_fit(table, marks), true, d);
-    if opened.number != 0 {
+    let refused = opened.number != 0;
+    if refused {
         return Picked {
             answer: opened,
             taken: 0,

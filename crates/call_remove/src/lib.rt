@@ -154,7 +154,8 @@ pub fn remove(
         reading::journal_fits(journal),
         d,
     );
-    if opened.number != 0 {
+    let refused = opened.number != 0;
+    if refused {
         return opened;
     }
     if table.len() <= 4 * SMALL {

@@ -121,7 +121,8 @@ fn sew_pair(
         × (Blank marks.new groups.new) }
 {
     let size = sides::in_step(n, table, i, d, e, xs, ys);
-    if size == 0 {
+    let unpaired = size == 0;
+    if unpaired {
         return numbers::NO_PAIRING;
     }
     let changes = 2 * size;

@@ -52,7 +52,8 @@ pub fn undo(n: u32, table: &mut [u32], journal: &mut [u32]) -> Answer
     if opened.number != 0 {
         return opened;
     }
-    if journal[0] == 2 {
+    let none_stands = journal[0] == 2;
+    if none_stands {
         return numbers::NO_RECORD;
     }
     let found = journal::undo_start(journal);

@@ -17,7 +17,7 @@ use Rattle.answers.proofs.Commits.{commit_full, commit_done}
 use Rattle.call_add.specs.NewCell.{NewCell}
 use Rattle.call_add.proofs.Ends.{add_refused, add_goes, room_test, first_slot, changes_number, new_cell, cell_drafted, first_few}
 use Rattle.call_add.proofs.add.Goals as goal
-use Rattle.call_add.proofs.add.Goals.{After-struct_known-1, Else-list_unused-size, Else-not-record_fits, Else-opened-ne0, Start}
+use Rattle.call_add.proofs.add.Goals.{After-struct_known-1, Else-too_few, Else-not-record_fits, Else-opened-ne0, Start}
 
 -- ---- the rungs
 abbrev checks : Start → List Check
@@ -35,11 +35,11 @@ abbrev map : Else-opened-ne0 → Rung checks 7
 unfolding add_checks map_checks
 map c = opened (opening (goal.at.Else-opened-ne0 c).After-struct_known-1) c.if-opened-ne0.false
 
-abbrev room : Else-list_unused-size → Rung checks 8
+abbrev room : Else-too_few → Rung checks 8
 unfolding add_checks map_checks
 room c =
-    up (map (goal.at.Else-list_unused-size c).Else-opened-ne0)
-    (equal_passes _ _ 14 (room_test _ _ c.cell_size-size.ensures c.list_unused.ensures) c.if-list_unused-size.false)
+    up (map (goal.at.Else-too_few c).Else-opened-ne0)
+    (equal_passes _ _ 14 (room_test _ _ c.cell_size-size.ensures c.list_unused-listed.ensures) c.if-too_few.false)
 
 table : (c : Else-opened-ne0) → MapTable c.args.n c.args.table.now
 unfolding add_checks map_checks
@@ -53,20 +53,20 @@ pub returns-then-opened-ne0 : goal.returns-then-opened-ne0
 unfolding add_checks map_checks
 returns-then-opened-ne0 c = handed_on (opening (goal.at.returns-then-opened-ne0 c).After-struct_known-1) c.if-opened-ne0.true (add_refused _ _ _ _)
 
-pub list_unused-requires : goal.list_unused-requires
+pub list_unused-listed-requires : goal.list_unused-listed-requires
 unfolding add_checks map_checks
-list_unused-requires c =
-    let p = (map (goal.at.list_unused-requires c).Else-opened-ne0).passed in
-    let T = table (goal.at.list_unused-requires c).Else-opened-ne0 in
+list_unused-listed-requires c =
+    let p = (map (goal.at.list_unused-listed-requires c).Else-opened-ne0).passed in
+    let T = table (goal.at.list_unused-listed-requires c).Else-opened-ne0 in
     let few = size_few _ T.dim in
     let is = c.cell_size-size.ensures in
     record { table_value = (search, told_given T); table_in_bounds = omega arith }
 
-pub returns-then-list_unused-size : goal.returns-then-list_unused-size
+pub returns-then-too_few : goal.returns-then-too_few
 unfolding add_checks map_checks
-returns-then-list_unused-size c =
-    add_refused _ _ _ _ (out (map (goal.at.returns-then-list_unused-size c).Else-opened-ne0)
-    (equal_refuses _ _ 14 (room_test _ _ c.cell_size-size.ensures c.list_unused.ensures) c.if-list_unused-size.true))
+returns-then-too_few c =
+    add_refused _ _ _ _ (out (map (goal.at.returns-then-too_few c).Else-opened-ne0)
+    (equal_refuses _ _ 14 (room_test _ _ c.cell_size-size.ensures c.list_unused-listed.ensures) c.if-too_few.true))
 
 pub overflow_mul-changes : goal.overflow_mul-changes
 overflow_mul-changes c =
@@ -85,22 +85,22 @@ record_fits-requires c =
 pub returns-then-not-record_fits : goal.returns-then-not-record_fits
 unfolding add_checks map_checks
 returns-then-not-record_fits c =
-    commit_full _ _ _ _ _ _ _ (add_goes _ _ _ _ (all_passed _ (room (goal.at.returns-then-not-record_fits c).Else-list_unused-size).passed))
-    (changes_number _ _ c.cell_size-size.ensures c.list_unused.ensures (table (goal.at.returns-then-not-record_fits c).Else-opened-ne0) c.if-list_unused-size.false)
+    commit_full _ _ _ _ _ _ _ (add_goes _ _ _ _ (all_passed _ (room (goal.at.returns-then-not-record_fits c).Else-too_few).passed))
+    (changes_number _ _ c.cell_size-size.ensures c.list_unused-listed.ensures (table (goal.at.returns-then-not-record_fits c).Else-opened-ne0) c.if-too_few.false)
     c.record_fits.ensures (c.if-not-record_fits.true)
 
 -- what the record is drafted from
 cell : (c : Else-not-record_fits) →
     let a = c.args in
-    NewCell a.n a.table.now c.list_unused.new.words c.cell_size-size.result a.journal.now
+    NewCell a.n a.table.now c.list_unused-listed.new.words c.cell_size-size.result a.journal.now
 cell c =
     let T = table (goal.at.Else-not-record_fits c).Else-opened-ne0 in
     let few = size_few _ T.dim in
     let is = c.cell_size-size.ensures in
-    let slots = c.list_unused.ensures in
+    let slots = c.list_unused-listed.ensures in
     let long = slots.long in
-    let number = changes_number _ _ is slots T c.if-list_unused-size.false in
-    new_cell _ _ is slots T c.if-list_unused-size.false _ (omega arith) (rule (goal.at.Else-not-record_fits c).Else-opened-ne0)
+    let number = changes_number _ _ is slots T c.if-too_few.false in
+    new_cell _ _ is slots T c.if-too_few.false _ (omega arith) (rule (goal.at.Else-not-record_fits c).Else-opened-ne0)
     (fits_room _ _ _ _ number _ c.record_fits.ensures (c.if-not-record_fits.false))
 
 pub write_cell-requires : goal.write_cell-requires
@@ -121,9 +121,9 @@ unfolding add_checks map_checks
 returns c =
     let C = cell (goal.at.returns c).Else-not-record_fits in
     let is = c.cell_size-size.ensures in
-    let slots = c.list_unused.ensures in
+    let slots = c.list_unused-listed.ensures in
     let T = table (goal.at.returns c).Else-opened-ne0 in
-    commit_done _ _ _ _ _ _ _ (add_goes _ _ _ _ (all_passed _ (room (goal.at.returns c).Else-list_unused-size).passed))
-    (changes_number _ _ is slots T c.if-list_unused-size.false) c.record_fits.ensures (c.if-not-record_fits.false)
+    commit_done _ _ _ _ _ _ _ (add_goes _ _ _ _ (all_passed _ (room (goal.at.returns c).Else-too_few).passed))
+    (changes_number _ _ is slots T c.if-too_few.false) c.record_fits.ensures (c.if-not-record_fits.false)
     (c.carry_out.ensures _ _ (cell_drafted C _ (c.write_cell.ensures _ C)))
-    (first_slot _ _ is slots T c.if-list_unused-size.false) is
+    (first_slot _ _ is slots T c.if-too_few.false) is

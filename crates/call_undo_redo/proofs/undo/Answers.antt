@@ -10,7 +10,7 @@ use Rattle.answers.proofs.Settled.{Opening, opened, handed_on}
 use Rattle.answers.proofs.Opened.{opened_journal}
 use Rattle.call_undo_redo.proofs.Ends.{undo_refused, undo_accepted}
 use Rattle.call_undo_redo.proofs.undo.Goals as goal
-use Rattle.call_undo_redo.proofs.undo.Goals.{After-struct_known-1, Else-journal-eq2, Else-opened-ne0, Start}
+use Rattle.call_undo_redo.proofs.undo.Goals.{After-struct_known-1, Else-none_stands, Else-opened-ne0, Start}
 
 -- ---- the rungs
 abbrev checks : Start → List Check
@@ -28,9 +28,9 @@ abbrev map : Else-opened-ne0 → Rung checks 7
 unfolding step_checks map_checks
 map c = opened (opening (goal.at.Else-opened-ne0 c).After-struct_known-1) c.if-opened-ne0.false
 
-abbrev there : Else-journal-eq2 → Rung checks 8
+abbrev there : Else-none_stands → Rung checks 8
 unfolding step_checks map_checks
-there c = up (map (goal.at.Else-journal-eq2 c).Else-opened-ne0) (differ_passes _ _ 16 (undo_test _) c.if-journal-eq2.false)
+there c = up (map (goal.at.Else-none_stands c).Else-opened-ne0) (differ_passes _ _ 16 (undo_test _) c.if-none_stands.false)
 
 -- what check 4 says
 rule : (r : Else-opened-ne0) → JournalRule (map r).entry.args.journal.now
@@ -45,9 +45,9 @@ pub bounds-journal-0 : goal.bounds-journal-0
 unfolding step_checks map_checks
 bounds-journal-0 c = let long = (rule (goal.at.bounds-journal-0 c).Else-opened-ne0).long in omega arith
 
-pub returns-then-journal-eq2 : goal.returns-then-journal-eq2
+pub returns-then-none_stands : goal.returns-then-none_stands
 unfolding step_checks map_checks
-returns-then-journal-eq2 c = undo_refused _ _ _ (out (map (goal.at.returns-then-journal-eq2 c).Else-opened-ne0) (differ_refuses _ _ 16 (undo_test _) c.if-journal-eq2.true))
+returns-then-none_stands c = undo_refused _ _ _ (out (map (goal.at.returns-then-none_stands c).Else-opened-ne0) (differ_refuses _ _ 16 (undo_test _) c.if-none_stands.true))
 
 -- ---- the record before the cursor
 pub undo_start-found-requires : goal.undo_start-found-requires
@@ -61,11 +61,11 @@ undo_start-found-requires c =
 pub step-requires : goal.step-requires
 unfolding step_checks map_checks
 step-requires c =
-    let p = (there (goal.at.step-requires c).Else-journal-eq2).passed in record { n_value = (search, search, search); to_bound = omega arith }
+    let p = (there (goal.at.step-requires c).Else-none_stands).passed in record { n_value = (search, search, search); to_bound = omega arith }
 
 pub returns : goal.returns
 unfolding step_checks map_checks
 returns c =
-    let p = (there (goal.at.returns c).Else-journal-eq2).passed in
+    let p = (there (goal.at.returns c).Else-none_stands).passed in
     undo_accepted _ _ _ _ _ (all_passed _ p) c.undo_start-found.ensures.count c.undo_start-found.ensures.start
     c.step.ensures

@@ -29,7 +29,7 @@ room : (c : Else-not-record_fits) →
     let a = c.args in
     Room a.table.now (sew_table a.n a.table.now a.i a.d a.e) a.journal.now
 room c =
-    fits_room _ _ _ _ (changes_number (passed (goal.at.Else-not-record_fits c).Start) c.in_step-size.ensures c.if-size-eq0.false) _
+    fits_room _ _ _ _ (changes_number (passed (goal.at.Else-not-record_fits c).Start) c.in_step-size.ensures c.if-unpaired.false) _
     c.record_fits.ensures (c.if-not-record_fits.false)
 
 joins : (c : Else-not-record_fits) →
@@ -42,7 +42,7 @@ joins c =
     let wide = c.in_step-size.auto.ys in
     let left = pre.left in
     let right = pre.right in
-    joining (passed (goal.at.Else-not-record_fits c).Start) c.in_step-size.ensures c.if-size-eq0.false pre.blank pre.wide (omega arith) (omega arith)
+    joining (passed (goal.at.Else-not-record_fits c).Start) c.in_step-size.ensures c.if-unpaired.false pre.blank pre.wide (omega arith) (omega arith)
 
 sewn : (c : After-join) →
     let a = c.args in
@@ -54,14 +54,14 @@ recorded : (c : After-join) →
     let a = c.args in
     MarkedRecord true c.join.new.table a.table.now c.join.new.marks a.i a.journal.now
 recorded c =
-    sewn_record (passed (goal.at.After-join c).Start) c.in_step-size.ensures c.if-size-eq0.false (sewn c) (rule (goal.at.After-join c).Start) (room (goal.at.After-join c).Else-not-record_fits)
+    sewn_record (passed (goal.at.After-join c).Start) c.in_step-size.ensures c.if-unpaired.false (sewn c) (rule (goal.at.After-join c).Start) (room (goal.at.After-join c).Else-not-record_fits)
 
 drafts : (c : After-write_marked) →
     let a = c.args in
     Drafted a.table.now (sew_table a.n a.table.now a.i a.d a.e) a.journal.now (2 * c.in_step-size.result)
     c.write_marked.new.journal
 drafts c =
-    sewn_drafted (passed (goal.at.After-write_marked c).Start) c.in_step-size.ensures c.if-size-eq0.false (sewn (goal.at.After-write_marked c).After-join) (rule (goal.at.After-write_marked c).Start) (room (goal.at.After-write_marked c).Else-not-record_fits)
+    sewn_drafted (passed (goal.at.After-write_marked c).Start) c.in_step-size.ensures c.if-unpaired.false (sewn (goal.at.After-write_marked c).After-join) (rule (goal.at.After-write_marked c).Start) (room (goal.at.After-write_marked c).Else-not-record_fits)
     (c.write_marked.ensures _ (recorded (goal.at.After-write_marked c).After-join))
 
 -- ---- the needs
@@ -69,9 +69,9 @@ pub in_step-size-requires : goal.in_step-size-requires
 in_step-size-requires c =
     sides_apart (passed (goal.at.in_step-size-requires c).Start) c.requires.lent.left c.requires.lent.right
 
-pub returns-then-size-eq0 : goal.returns-then-size-eq0
-returns-then-size-eq0 c =
-    (sew_unpaired _ _ _ _ _ _ _ c.requires.e_value (c.in_step-size.ensures.differs c.if-size-eq0.true), c.requires.lent.blank)
+pub returns-then-unpaired : goal.returns-then-unpaired
+returns-then-unpaired c =
+    (sew_unpaired _ _ _ _ _ _ _ c.requires.e_value (c.in_step-size.ensures.differs c.if-unpaired.true), c.requires.lent.blank)
 
 pub overflow_mul-changes : goal.overflow_mul-changes
 overflow_mul-changes c =
@@ -89,8 +89,8 @@ record_fits-requires c =
 pub returns-then-not-record_fits : goal.returns-then-not-record_fits
 returns-then-not-record_fits c =
     let step = c.in_step-size.ensures in
-    let goes = sew_goes _ _ _ _ _ _ _ c.requires.e_value (step_paired (passed (goal.at.returns-then-not-record_fits c).Start) step c.if-size-eq0.false) in (
-      commit_full _ _ _ _ _ _ _ goes (changes_number (passed (goal.at.returns-then-not-record_fits c).Start) step c.if-size-eq0.false) c.record_fits.ensures
+    let goes = sew_goes _ _ _ _ _ _ _ c.requires.e_value (step_paired (passed (goal.at.returns-then-not-record_fits c).Start) step c.if-unpaired.false) in (
+      commit_full _ _ _ _ _ _ _ goes (changes_number (passed (goal.at.returns-then-not-record_fits c).Start) step c.if-unpaired.false) c.record_fits.ensures
           (c.if-not-record_fits.true),
       c.requires.lent.blank,
     )
@@ -111,9 +111,9 @@ unmark-requires c = (sewn (goal.at.unmark-requires c).After-join).unmarking
 pub returns : goal.returns
 returns c =
     let step = c.in_step-size.ensures in
-    let count = changes_number (passed (goal.at.returns c).Start) step c.if-size-eq0.false in
+    let count = changes_number (passed (goal.at.returns c).Start) step c.if-unpaired.false in
     let D = drafts (goal.at.returns c).After-write_marked in
-    let goes = sew_goes _ _ _ _ _ _ _ c.requires.e_value (step_paired (passed (goal.at.returns c).Start) step c.if-size-eq0.false) in (
+    let goes = sew_goes _ _ _ _ _ _ _ c.requires.e_value (step_paired (passed (goal.at.returns c).Start) step c.if-unpaired.false) in (
       commit_done _ _ _ _ _ _ _ goes count c.record_fits.ensures (c.if-not-record_fits.false)
           ((sewn (goal.at.returns c).After-join).table, c.close_record.ensures _ _ D.draft D.count) refl count,
       c.unmark.ensures,
