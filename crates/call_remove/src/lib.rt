@@ -54,7 +54,8 @@ fn write_one(n: u32, table: &[u32], journal: &mut [u32], marks: &[u8], w: usize,
     ensures { (j : List ℕ) → Clearing n table.now marks.now j x w journal.old
         → Clearing n table.now marks.now j (x + 1) result journal.new }
 {
-    if marks[x as usize] == 3 {
+    let at_edge = marks[x as usize] == 3;
+    if at_edge {
         let y = reading::link_in(table, n as usize, x);
         drafts::write_link(journal, w, x, n, y, first_outside(n, table, marks, x));
         return w + 3;

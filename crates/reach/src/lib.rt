@@ -14,7 +14,8 @@ fn meet(marks: &mut [u8], queue: &mut [u16], tail: usize, y: u32) -> usize
     ensures { search_of marks.new queue.new result
         ≡ meet y (search_of marks.old queue.old tail) }
 {
-    if marks[y as usize] == 0 {
+    let unmarked = marks[y as usize] == 0;
+    if unmarked {
         marks[y as usize] = 1;
         queue[tail] = y as u16;
         tail + 1

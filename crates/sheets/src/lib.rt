@@ -48,7 +48,8 @@ fn touch(n: u32, table: &[u32], marks: &mut [u8], x: u32)
     ensures { Touched marks.old (link table.now n x) marks.new }
 {
     let y = link_in(table, n as usize, x) as usize;
-    if marks[y] == 0 {
+    let unmarked = marks[y] == 0;
+    if unmarked {
         marks[y] = 3;
     }
 }
@@ -58,7 +59,8 @@ pub fn mark_other(n: u32, table: &[u32], marks: &mut [u8], x: u32)
     requires { (4 * x + n < length table.now) × (x < length marks.old) × (link table.now n x < length marks.old) }
     ensures { Other n table.now marks.old x marks.new }
 {
-    if marks[x as usize] != 1 {
+    let outside = marks[x as usize] != 1;
+    if outside {
         marks[x as usize] = 2;
         touch(n, table, marks, x);
     }

@@ -20,7 +20,7 @@ link_in-y-requires c =
 
 pub first_outside-requires : goal.first_outside-requires
 first_outside-requires c =
-    let S = c.requires.clearing.sheet in record { layer = of_layer S; x_value = edge_out S _ c.if-marks-x-eq3.true }
+    let S = c.requires.clearing.sheet in record { layer = of_layer S; x_value = edge_out S _ c.if-at_edge.true }
 
 pub write_link-requires : goal.write_link-requires
 write_link-requires c =
@@ -30,7 +30,7 @@ write_link-requires c =
       u = _;
       j = _;
       pass = to.clearing.pass;
-      one = edge_one to.clearing.sheet _ to.inside c.if-marks-x-eq3.true _ _ c.link_in-y.ensures c.first_outside.ensures;
+      one = edge_one to.clearing.sheet _ to.inside c.if-at_edge.true _ _ c.link_in-y.ensures c.first_outside.ensures;
     }
 
 pub overflow_add-result : goal.overflow_add-result
@@ -40,11 +40,11 @@ overflow_add-result c =
     let word = clearing_word to.clearing (omega arith) in
     omega arith
 
-pub returns-then-marks-x-eq3 : goal.returns-then-marks-x-eq3
-returns-then-marks-x-eq3 c =
+pub returns-then-at_edge : goal.returns-then-at_edge
+returns-then-at_edge c =
     let to = c.requires in
     λ j C. clearing_more C (c.write_link.ensures _ _ _ C.pass
-    (edge_one C.sheet _ to.inside c.if-marks-x-eq3.true _ _ c.link_in-y.ensures c.first_outside.ensures))
+    (edge_one C.sheet _ to.inside c.if-at_edge.true _ _ c.link_in-y.ensures c.first_outside.ensures))
 
 pub links_in-requires : goal.links_in-requires
 links_in-requires c = c.requires.inside
@@ -57,7 +57,7 @@ write_slot-requires c =
       u = _;
       j = _;
       pass = to.clearing.pass;
-      four = gone_four to.clearing.sheet _ to.inside to.mark c.if-marks-x-eq3.false _ c.links_in.ensures;
+      four = gone_four to.clearing.sheet _ to.inside to.mark c.if-at_edge.false _ c.links_in.ensures;
     }
 
 pub overflow_add-result-2 : goal.overflow_add-result-2
@@ -71,4 +71,4 @@ pub returns : goal.returns
 returns c =
     let to = c.requires in
     λ j C. clearing_more C (c.write_slot.ensures _ _ _ C.pass
-    (gone_four C.sheet _ to.inside to.mark c.if-marks-x-eq3.false _ c.links_in.ensures))
+    (gone_four C.sheet _ to.inside to.mark c.if-at_edge.false _ c.links_in.ensures))

@@ -6,10 +6,10 @@ use borrow.Author.Rules.{rules}
 use Rattle.reach.specs.Search.{Search, search_of}
 use Rattle.reach.proofs.Meeting.{meet_new, meet_old}
 use Rattle.reach.proofs.meet.Goals as goal
-use Rattle.reach.proofs.meet.Goals.{Start, Then-marks-y-eq0}
+use Rattle.reach.proofs.meet.Goals.{Start, Then-unmarked}
 
-room : (c : Then-marks-y-eq0) → c.args.tail < length c.args.queue.now
-room c = c.requires.space c.if-marks-y-eq0.true
+room : (c : Then-unmarked) → c.args.tail < length c.args.queue.now
+room c = c.requires.space c.if-unmarked.true
 
 state : Start → Search
 state c = search_of c.args.marks.now c.args.queue.now c.args.tail
@@ -23,10 +23,10 @@ bounds-queue-tail c = room c
 pub overflow_add-result : goal.overflow_add-result
 overflow_add-result c = let r = room c in search rules
 
-pub returns-then-marks-y-eq0 : goal.returns-then-marks-y-eq0
+pub returns-then-unmarked : goal.returns-then-unmarked
 unfolding state
-returns-then-marks-y-eq0 c = sym (meet_new c.args.y (state (goal.at.returns-then-marks-y-eq0 c).Start) c.if-marks-y-eq0.true)
+returns-then-unmarked c = sym (meet_new c.args.y (state (goal.at.returns-then-unmarked c).Start) c.if-unmarked.true)
 
-pub returns-else-marks-y-eq0 : goal.returns-else-marks-y-eq0
+pub returns-else-unmarked : goal.returns-else-unmarked
 unfolding state
-returns-else-marks-y-eq0 c = sym (meet_old c.args.y (state (goal.at.returns-else-marks-y-eq0 c).Start) c.if-marks-y-eq0.false)
+returns-else-unmarked c = sym (meet_old c.args.y (state (goal.at.returns-else-unmarked c).Start) c.if-unmarked.false)
