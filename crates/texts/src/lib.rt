@@ -76,7 +76,8 @@ pub fn number(text: &[u8], top: u32) -> Given
     if text.len() == 1 {
         return digits(text, top);
     }
-    if text[0] == b'0' {
+    let zero_first = text[0] == b'0';
+    if zero_first {
         return Given::Unfit;
     }
     digits(text, top)

@@ -12,11 +12,11 @@ pub returns-then-text-eq1 : goal.returns-then-text-eq1
 returns-then-text-eq1 c =
     c.digits.ensures ∙ ap (up_to c.args.top) (sym (number_one _ c.if-text-eq1.true))
 
-pub returns-then-text-eq48 : goal.returns-then-text-eq48
-returns-then-text-eq48 c =
-    unfit _ (number_zero _ (omega (arith, c.if-text-eq1.false, c.if-text-eq0.false)) c.if-text-eq48.true)
+pub returns-then-zero_first : goal.returns-then-zero_first
+returns-then-zero_first c =
+    unfit _ (number_zero _ (omega (arith, c.if-text-eq1.false, c.if-text-eq0.false)) c.if-zero_first.true)
 
 pub returns : goal.returns
 returns c =
     c.digits-2.ensures ∙ ap (up_to c.args.top) (sym (number_many c.args.text.now (omega arith)
-    c.if-text-eq48.false))
+    c.if-zero_first.false))
