@@ -99,7 +99,8 @@ pub fn unbroken(redo: bool, table: &[u32], journal: &[u32], a: usize, k: u32) ->
     if end < a {
         return false;
     }
-    if end - a <= last {
+    let past_end = end - a <= last;
+    if past_end {
         return false;
     }
     if journal[a] != journal[a + last] {

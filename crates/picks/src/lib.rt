@@ -153,8 +153,8 @@ fn mark_group(n: u32, table: &[u32], marks: &mut [u8], queue: &[u32], from: usiz
     ensures { GroupBeside n table.now marks.old queue.now from marks.new }
 {
     let y = link_in(table, 1, queue[from]);
-    let outside = marks[y as usize] != 1;
-    if outside {
+    let unmet = marks[y as usize] != 1;
+    if unmet {
         for j in 0..group(n) {
             mark_beside(n, table, marks, queue[from + j]);
         }

@@ -59,8 +59,8 @@ pub fn mark_other(n: u32, table: &[u32], marks: &mut [u8], x: u32)
     requires { (4 * x + n < length table.now) × (x < length marks.old) × (link table.now n x < length marks.old) }
     ensures { Other n table.now marks.old x marks.new }
 {
-    let outside = marks[x as usize] != 1;
-    if outside {
+    let unmet = marks[x as usize] != 1;
+    if unmet {
         marks[x as usize] = 2;
         touch(n, table, marks, x);
     }

@@ -188,7 +188,8 @@ fn behind_rows(text: &[u8], at: usize, n: u64, size: u64, points: u64, rows: &mu
         p = end;
         i += 1;
     }
-    if left > 0 {
+    let some_left = left > 0;
+    if some_left {
         return Rows::Unfit;
     }
     Rows::At(eight, p)

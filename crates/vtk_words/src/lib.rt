@@ -186,7 +186,8 @@ fn digits_at(text: &[u8], start: usize) -> Number
         if x > b'9' {
             return Number::Unfit;
         }
-        if v >= 1000000000000000000 {
+        let nineteen_digits = v >= 1000000000000000000;
+        if nineteen_digits {
             return large_at(text, k + 1);
         }
         v = 10 * v + ((x - b'0') as u64);

@@ -56,9 +56,6 @@ overflow_add-behind c = omega arith
 pub bounds-journal-0-2 : goal.bounds-journal-0-2
 bounds-journal-0-2 c = simp length-set (omega arith)
 
-pub bounds-journal-1 : goal.bounds-journal-1
-bounds-journal-1 c = simp length-set (omega arith)
-
 pub shape_of-journal : goal.shape_of-journal
 shape_of-journal c = simp length-set
 

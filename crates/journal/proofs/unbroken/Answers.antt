@@ -20,9 +20,9 @@ pub returns-then-end-a : goal.returns-then-end-a
 unfolding end
 returns-then-end-a c = sym ((unbroken_exactly _ _ _ _ _).1 (passes_end (omega arith)))
 
-pub returns-then-end-a-2 : goal.returns-then-end-a-2
+pub returns-then-past_end : goal.returns-then-past_end
 unfolding end
-returns-then-end-a-2 c = sym ((unbroken_exactly _ _ _ _ _).1 (passes_end (omega arith)))
+returns-then-past_end c = sym ((unbroken_exactly _ _ _ _ _).1 (passes_end (omega arith)))
 
 pub offset_bounds-journal-a : goal.offset_bounds-journal-a
 unfolding end

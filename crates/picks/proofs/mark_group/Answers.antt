@@ -48,8 +48,8 @@ over c =
     let is = c.link_in-y.ensures in
     omega arith
 
-pub overflow_cast-outside : goal.overflow_cast-outside
-overflow_cast-outside c = let low = over c in let D = first_dart (goal.at.overflow_cast-outside c).Start in let slots = D.1.table.few in omega arith
+pub overflow_cast-unmet : goal.overflow_cast-unmet
+overflow_cast-unmet c = let low = over c in let D = first_dart (goal.at.overflow_cast-unmet c).Start in let slots = D.1.table.few in omega arith
 
 pub bounds-marks-y : goal.bounds-marks-y
 bounds-marks-y c = let low = over (goal.at.bounds-marks-y c).After-link_in-y in let long = c.requires.long in omega arith
@@ -88,10 +88,10 @@ pub returns-after-loop-j : goal.returns-after-loop-j
 returns-after-loop-j c =
     let end : c.loop-j.j ≡ group c.args.n = let is = c.loop-j.invariant.1 in let most = c.loop-j.invariant.0 in omega arith in
     inr (
-      λ e. c.if-outside.true (ap (λ (y : ℕ). get_or c.args.marks.now y 0) c.link_in-y.ensures ∙ e),
+      λ e. c.if-unmet.true (ap (λ (y : ℕ). get_or c.args.marks.now y 0) c.link_in-y.ensures ∙ e),
       rw end at c.loop-j.invariant.3,
     )
 
-pub returns-else-outside : goal.returns-else-outside
-returns-else-outside c =
-    inl (ap (λ (y : ℕ). get_or c.args.marks.now y 0) (sym c.link_in-y.ensures) ∙ c.if-outside.false, refl)
+pub returns-else-unmet : goal.returns-else-unmet
+returns-else-unmet c =
+    inl (ap (λ (y : ℕ). get_or c.args.marks.now y 0) (sym c.link_in-y.ensures) ∙ c.if-unmet.false, refl)

@@ -3,8 +3,8 @@ use mathlib.Core.Path.{refl}
 use mathlib.Core.Logic.{inl, inr}
 use Rattle.sheets.proofs.mark_other.Goals as goal
 
-pub returns-then-outside : goal.returns-then-outside
-returns-then-outside c = inr (c.if-outside.true, c.touch.ensures)
+pub returns-then-unmet : goal.returns-then-unmet
+returns-then-unmet c = inr (c.if-unmet.true, c.touch.ensures)
 
-pub returns-else-outside : goal.returns-else-outside
-returns-else-outside c = inl (c.if-outside.false, refl)
+pub returns-else-unmet : goal.returns-else-unmet
+returns-else-unmet c = inl (c.if-unmet.false, refl)

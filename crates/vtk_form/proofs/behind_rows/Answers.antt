@@ -93,8 +93,8 @@ loop-i-preserved c =
       ),
     )
 
-pub returns-then-left-gt0 : goal.returns-then-left-gt0
-returns-then-left-gt0 c = λ rows h _.
+pub returns-then-some_left : goal.returns-then-some_left
+returns-then-some_left c = λ rows h _.
     let (done, g, _, _, _, _) = c.loop-i.invariant.4 in
     none_some (rows_over _ _ _ _ _ done _ g (omega arith) (omega arith)) h
 

@@ -40,8 +40,8 @@ overflow_add-k c = omega arith
 pub large_at-requires : goal.large_at-requires
 large_at-requires c = omega arith
 
-pub returns-then-v-ge1000000000000000000 : goal.returns-then-v-ge1000000000000000000
-returns-then-v-ge1000000000000000000 c =
+pub returns-then-nineteen_digits : goal.returns-then-nineteen_digits
+returns-then-nineteen_digits c =
     let a = c.args in
     let x = get_or a.text.now c.loop-k.k 0 in
     let same =
