@@ -11,7 +11,7 @@
  *     scripts/prove library phlernsap      proves the kernel, writes crates/phlernsap/out/libphlernsap.a
  *     cc -I include program.c crates/phlernsap/out/libphlernsap.a -o program
  *
- * The library is x86-64 code for Linux. Of the C library it takes memcpy and memset, and no more. It
+ * The library is x86-64 code for Linux. Of the C library it takes memset, and no more. It
  * allocates nothing, keeps nothing between calls and has no global state: calls on different buffers
  * may run on different threads.
  * Every call reads the whole table, to see that it is a map: its time is linear in the length of the
@@ -22,20 +22,20 @@
  * (bench/README.md has them for tables of other sizes, as measured):
  *
  *                     up to 2,048   above
- *     phl_check              3112   85080
- *     phl_orbit              4352  168280
- *     phl_sheet              5304   87272
- *     phl_pick               3256   85224
+ *     phl_check              3008   84976
+ *     phl_orbit              4336  168216
+ *     phl_sheet              5168   87136
+ *     phl_pick               3152   85120
  *     phl_add                 304     304
- *     phl_sew                6696  252920
- *     phl_sew_list           6664  252888
- *     phl_unsew              2440   84872
- *     phl_remove             5368   87336
- *     phl_split             10456  294776
- *     phl_insert            15092  396020
- *     phl_read_vtk         159184  159184
- *     phl_undo                256     256
- *     phl_redo                256     256
+ *     phl_sew                6568  252840
+ *     phl_sew_list           6568  252840
+ *     phl_unsew              2344   84760
+ *     phl_remove             5264   87232
+ *     phl_split             10400  294944
+ *     phl_insert            14920  395832
+ *     phl_read_vtk         159088  159088
+ *     phl_undo                224     224
+ *     phl_redo                224     224
  *
  *
  * 2. Words

@@ -87,16 +87,13 @@ fn first_wrong(n: u32, table: &[u32], seen: &mut [u8]) -> u32
     end
 }
 
-// The least live slot in a wrong cell of a larger table, or the number of slots. As it calls itself it has a stack frame of its own,
-// which small tables do not pay for; the table fits, so it never does.
+// The least live slot in a wrong cell of a larger table, or the number of slots. It has a stack frame of its own, which small tables do
+// not pay for.
+#[inline(never)]
 fn least_wrong_large(n: u32, table: &[u32]) -> u32
     requires { (dim_ok n ≡ pass) × (table_ok table.now ≡ pass) × (is_map n table.now ≡ true) }
     ensures { result ≡ least_wrong n table.now }
 {
-    if !reading::table_fits(table) {
-        least_wrong_large(n, table);
-        return 0;
-    }
     if table.len() <= 4 * MIDDLE {
         let mut seen = [0u8; MIDDLE];
         return first_wrong(n, table, &mut seen);
