@@ -22,20 +22,20 @@
  * (bench/README.md has them for tables of other sizes, as measured):
  *
  *                     up to 2,048   above
- *     phl_check              3008   84976
- *     phl_orbit              4336  168216
- *     phl_sheet              5168   87136
- *     phl_pick               3152   85120
- *     phl_add                 304     304
- *     phl_sew                6568  252840
- *     phl_sew_list           6568  252840
- *     phl_unsew              2344   84760
- *     phl_remove             5264   87232
- *     phl_split             10400  294944
- *     phl_insert            14920  395832
- *     phl_read_vtk         159088  159088
- *     phl_undo                224     224
- *     phl_redo                224     224
+ *     phl_check              3008   68592
+ *     phl_orbit              4392  131368
+ *     phl_sheet              3152   68736
+ *     phl_pick               3152   68736
+ *     phl_add                 336     336
+ *     phl_sew                6792  197512
+ *     phl_sew_list           6776  197496
+ *     phl_unsew              2504   66248
+ *     phl_remove             3200   68784
+ *     phl_split              8208  230416
+ *     phl_insert            14808  395736
+ *     phl_read_vtk         158584  158584
+ *     phl_undo                256     256
+ *     phl_redo                256     256
  *
  *
  * 2. Words

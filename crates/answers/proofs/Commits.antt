@@ -9,7 +9,11 @@ use lib.Dec.{leb}
 use Rattle.model.specs.Journal.{Change, cursor, changes_from, record_of, record_length, written}
 use Rattle.model.specs.Calls.{Outcome, refused, commit}
 use Rattle.theorems.proofs.History.Record.{length_record}
-use Rattle.answers.specs.Answers.{outcome, refusal, accepted}
+use Rattle.std.specs.Prelude.{Err}
+use Rattle.refusals.specs.declared.Reason.TheVariants.{NoRoom}
+use Rattle.refusals.specs.declared.Refused.{Refused}
+use Rattle.refusals.specs.Numbers.{alone}
+use Rattle.answers.specs.Answers.{outcome, accepted}
 
 module _ (t u m j : List ℕ) (tag p : ℕ) (size : List Change → ℕ) {k : ℕ} {fits : Bool} {call : Outcome}
     (goes : call ≡ commit t u m j tag p size)
@@ -18,9 +22,9 @@ module _ (t u m j : List ℕ) (tag p : ℕ) (size : List Change → ℕ) {k : �
     record_tested : fits ≡ leb (length (record_of tag (changes_from 0 t u))) (length j - cursor j)
     record_tested = rw (length_record tag (changes_from 0 t u), ← count) tested
 
-    pub commit_full : fits ≡ false → outcome (refusal 15 0 0) t m j ≡ call
+    pub commit_full : {e : Refused} → fits ≡ false → e ≡ alone NoRoom → outcome (Err e) t m j ≡ call
     unfolding commit refused
-    commit_full h = rw goes (rw (← record_tested, h, commit))
+    commit_full h is = rw goes (rw (← record_tested, h, commit, is))
 
     pub commit_done : {t' j' : List ℕ} {place number : ℕ} → fits ≡ true
         → (t' ≡ u) × (j' ≡ written j (record_of tag (changes_from 0 t u))) → place ≡ p → number ≡ size (changes_from 0 t u)

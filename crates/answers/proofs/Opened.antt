@@ -7,14 +7,15 @@ use mathlib.Core.Bool.{Bool, true}
 use mathlib.Core.List.{List, [], ◌∷◌, ◌++◌}
 use Rattle.model.specs.Checks.{Check, and_then, in_order, must, dim_ok, solid_ok, table_ok, marks_ok, journal_ok, map_checks, index_ok, dart_ok, block_ok}
 use Rattle.model.specs.Checks.{sheet_checks, layer_checks}
-use Rattle.answers.specs.declared.Answer.{Answer}
+use Rattle.std.specs.Prelude.{Result}
+use Rattle.refusals.specs.declared.Refused.{Refused}
 use Rattle.answers.specs.Openings.{Settles, opening_checks, side_checks}
 use Rattle.answers.specs.Openings.{layer_checks as opening_layer_checks, wall_checks as opening_wall_checks}
 
-same : {r : Answer} {c c' : Check} → c ≡ c' → Settles r c → Settles r c'
+same : {r : Result (Unit {0}) Refused} {c c' : Check} → c ≡ c' → Settles r c → Settles r c'
 same {r} e s = subst (Settles r) e s
 
-module _ {r : Answer} (n : ℕ) (t : List ℕ) where
+module _ {r : Result (Unit {0}) Refused} (n : ℕ) (t : List ℕ) where
   pub opened_table : Settles r (in_order (opening_checks true true n t)) → Settles r (in_order (dim_ok n ∷ table_ok t ∷ map_checks n t))
   unfolding opening_checks in_order and_then must
   opened_table s = s

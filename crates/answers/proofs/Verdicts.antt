@@ -1,6 +1,6 @@
 -- What a branch of the code says of a check, whether it is left (the check passes) or taken (it refuses): `passes`, `refuses`,
 -- `clear_passes`, `clear_refuses` for a test that is a Boolean, `equal_passes`, `equal_refuses`, `differ_passes`, `differ_refuses` for two numbers,
--- `least_passes`, `least_refuses` for a least slot and the number of slots, `rule_passes`, `rule_refuses` for a rule of a map.
+-- `least_passes`, `least_refuses` for a search for the least slot, `rule_passes`, `rule_refuses` for a rule of a map.
 -- `dart_test` and the like say by which test a check goes.
 use Prim.Native.Nat.{ℕ, ◌≤◌, ◌<◌}
 use mathlib.Core.Path.{◌≡◌, refl, sym, ap, ◌∙◌}
@@ -11,6 +11,7 @@ use native.Mathlib.Omega.{arith}
 use lib.ListN.{get_or}
 use lib.Dec.{eqb}
 use borrow.Author.Tests.{eq-eqb, ne_eqb, le-leb, lt-leb, not-true, not-false}
+use Rattle.std.specs.Prelude.{Some, None}
 use Rattle.model.specs.Table.{slots, live}
 use Rattle.model.specs.Map.{MapRule, keeps_rule, breaking_link, least_breaking, is_map}
 use Rattle.model.specs.Cell.{least_wrong}
@@ -19,6 +20,8 @@ use Rattle.model.specs.Checks.{Check, pass, refuse, must, must_at, rule_number, 
 use Rattle.model.specs.Checks.{undo_ok, redo_ok}
 use Rattle.theorems.proofs.Lists.Scan.{test}
 use Rattle.theorems.proofs.Maps.Broken.{link_below, link_found}
+use Rattle.reading.specs.Found.{found_below}
+use Rattle.reading.proofs.Found.{found_is, none_is}
 
 -- ---- branches; z is the number of the check c
 
@@ -58,26 +61,35 @@ pub differ_refuses : (x y z : ℕ) {c : Check} → must (not (eqb x y)) z ≡ c 
 unfolding must
 differ_refuses x y z e h = sym e ∙ rw (eq-eqb x y h)
 
--- `if a != b`, where a is the least slot x that is wrong, or the number of slots y, and b is y
-pub least_passes : (x y z : ℕ) {c : Check} {a b : ℕ} → must_at (eqb x y) z x 0 ≡ c → a ≡ x → b ≡ y → a ≡ b → c ≡ pass
+-- `None` and `Some a`, where x is the least slot that is wrong, or the number of slots y
+pub least_passes : (x y z : ℕ) {c : Check} → must_at (eqb x y) z x 0 ≡ c → x ≤ y → None ≡ found_below y x → c ≡ pass
 unfolding must_at
-least_passes x y z e p q h = sym e ∙ rw (eq-eqb x y (sym p ∙ h ∙ q))
+least_passes x y z e high none = let least = none_is y x none in sym e ∙ rw (eq-eqb x y (omega arith))
 
-pub least_refuses : (x y z : ℕ) {c : Check} {a b : ℕ} → must_at (eqb x y) z x 0 ≡ c → a ≡ x → b ≡ y → a ≢ b → c ≡ refuse z a 0
+pub least_refuses : (x y z : ℕ) {c : Check} (a : ℕ) → must_at (eqb x y) z x 0 ≡ c → Some a ≡ found_below y x → c ≡ refuse z a 0
 unfolding must_at
-least_refuses x y z e p q h = sym e ∙ rw (ne_eqb x y (λ i. h (p ∙ i ∙ sym q)), p)
+least_refuses x y z a e some =
+    let (is, low) = found_is y x a some in
+    sym e ∙ rw (ne_eqb x y (λ i. omega arith), is)
 
--- `if i < 4`, where i is the least link that breaks the rule r at the least slot d that breaks one, or 4
-module _ (n : ℕ) (t : List ℕ) (r : MapRule) (d : ℕ) {i : ℕ} (least : d ≡ least_breaking n t) (link : i ≡ breaking_link n t d r) where
-  pub rule_passes : 4 ≤ i → rule_ok n t r ≡ pass
-  rule_passes h = unfold rule_ok must_at in test (is_map n t) (λ e. rw e) (λ e. rw (e, ← least, kept))
+-- `None` and `Some i`, where i is the least link that breaks the rule r at the least slot d that breaks one
+module _ (n : ℕ) (t : List ℕ) (r : MapRule) (d : ℕ) (least : d ≡ least_breaking n t) where
+  pub rule_passes : None ≡ found_below 4 (breaking_link n t d r) → rule_ok n t r ≡ pass
+  rule_passes none = unfold rule_ok must_at in test (is_map n t) (λ e. rw e) (λ e. rw (e, ← least, kept))
     where
       kept : keeps_rule n t d r ≡ true
-      kept = test (keeps_rule n t d r) (λ e. e) (λ e. let below = link_below n t d r e in absurd (omega arith))
+      kept =
+          test (keeps_rule n t d r) (λ e. e) (λ e.
+          let below = link_below n t d r e in
+          let above = none_is 4 (breaking_link n t d r) none in
+          absurd (omega arith))
 
-  pub rule_refuses : is_map n t ≡ false → i < 4 → rule_ok n t r ≡ refuse (rule_number r) d i
+  pub rule_refuses : (i : ℕ) → is_map n t ≡ false → Some i ≡ found_below 4 (breaking_link n t d r)
+      → rule_ok n t r ≡ refuse (rule_number r) d i
   unfolding rule_ok must_at
-  rule_refuses e h = rw (e, ← least, link_found n t d r (omega arith), link)
+  rule_refuses i e some =
+      let (is, low) = found_is 4 (breaking_link n t d r) i some in
+      rw (e, ← least, link_found n t d r low, is)
 
 -- `if i > n`
 pub index_passes : (n i : ℕ) → i ≤ n → index_ok n i ≡ pass

@@ -1,7 +1,8 @@
 -- The checks that calls begin with, and what an answer says of them.
-use Rattle.std.specs.Prelude.{ℕ, ◌≡◌, ◌≢◌, Bool, true, List, [], ◌∷◌, ◌++◌}
+use Rattle.std.specs.Prelude.{ℕ, ◌≡◌, Bool, true, List, [], ◌∷◌, ◌++◌, Result, Ok, Err}
 use Rattle.model.specs.Checks.{Check, pass, refuse, must, dim_ok, table_ok, map_checks, index_ok, dart_ok, block_ok}
-use Rattle.answers.specs.declared.Answer.{Answer}
+use Rattle.refusals.specs.declared.Refused.{Refused}
+use Rattle.refusals.specs.Numbers.{number_of}
 
 -- ---- the checks, where `marks` and `journal` are whether 3 and 4 pass
 
@@ -21,8 +22,14 @@ layer_checks marks journal n t d = opening_checks marks journal n t ++ (dart_ok 
 unfoldable pub wall_checks : Bool → Bool → ℕ → List ℕ → List Check
 wall_checks marks journal n t = opening_checks marks journal n t ++ (block_ok n t ∷ [])
 
--- ---- what an answer says of checks whose verdict is c: passed exactly if its number is 0, else that refusal
+-- ---- what the result says of checks whose verdict is c: passed exactly if it is `Ok`, else that refusal
 
-pub record Settles (r : Answer) (c : Check) : Type 0 where
-  pub passes : r.number ≡ 0 → c ≡ pass
-  pub refuses : r.number ≢ 0 → c ≡ refuse r.number r.place r.count
+abbrev pub refusing : Refused → Check
+refusing e = refuse (number_of e.reason) e.place e.count
+
+abbrev pub verdict : Result (Unit {0}) Refused → Check
+verdict (Ok passed) = pass
+verdict (Err e) = refusing e
+
+pub record Settles (r : Result (Unit {0}) Refused) (c : Check) : Type 0 where
+  pub gives : c ≡ verdict r

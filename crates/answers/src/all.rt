@@ -3,28 +3,27 @@ ghost use Rattle.model.specs.Checks.{in_order};
 ghost use Rattle.answers.specs.Openings.{opening_checks, Settles};
 
 use crate::broken::broken_rule;
-use crate::{Answer, numbers};
+use crate::{Reason, Refused};
 
-// Number 0 where these checks pass, else the refusal. Whether 3 and 4 pass the caller says: true, if it has no marks or no
+// Passes where these checks pass, else the refusal. Whether 3 and 4 pass the caller says: true, if it has no marks or no
 // journal.
-pub fn opening(n: u32, table: &[u32], marks: bool, journal: bool) -> Answer
+pub fn opening(n: u32, table: &[u32], marks: bool, journal: bool) -> Result<(), Refused>
     ensures { Settles result (in_order (opening_checks marks journal n table.now)) }
 {
     if !reading::dim_fits(n) {
-        return numbers::WRONG_DIMENSION;
+        return Err(Reason::WrongDimension.into());
     }
     if !reading::table_fits(table) {
-        return numbers::WRONG_TABLE_LENGTH;
+        return Err(Reason::WrongTableLength.into());
     }
     if !marks {
-        return numbers::WRONG_MARKS_LENGTH;
+        return Err(Reason::WrongMarksLength.into());
     }
     if !journal {
-        return numbers::WRONG_JOURNAL;
+        return Err(Reason::WrongJournal.into());
     }
-    let least = reading::least_breaking(n, table);
-    if least != reading::slots(table) {
-        return broken_rule(n, table, least);
+    match reading::least_breaking(n, table) {
+        Some(least) => Err(broken_rule(n, table, least)),
+        None => Ok(()),
     }
-    numbers::PASSED
 }

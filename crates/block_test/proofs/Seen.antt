@@ -1,5 +1,5 @@
 -- Marks of the darts that are seen: how they are set, and that they stay within good cells.
--- Main theorems: `seen_next` and `seen_all` (marking darts), `seen_listed` (a good cell is marked), `visit_answers`.
+-- Main theorems: `seen_next` (marking darts), `seen_listed` (a good cell is marked), `visit_answers`.
 use Prim.Native.Nat.{ℕ, ◌+◌, ◌<◌}
 use mathlib.Core.Path.{◌≡◌, refl, sym, ap, ◌∙◌}
 use mathlib.Core.Logic.{◌⊎◌, inl, inr, ◌≢◌, ⊎_elim}
@@ -10,7 +10,7 @@ use mathlib.Core.List.{List, [], ◌∷◌, ◌++◌, Memᴰ as In}
 use native.Mathlib.Numerals.{add-one}
 use native.Mathlib.Omega.{arith}
 use lib.ListN.{length, get_or, set, take, length-set}
-use lib.Seq.{take-suc, take-length, get_or-set_other}
+use lib.Seq.{take-suc, get_or-set_other}
 use Rattle.model.specs.Lists.{tabulate}
 use Rattle.model.specs.Table.{unused, link, live}
 use Rattle.model.specs.Cell.{cell_size, cell_of, good_cell, in_wrong_cell}
@@ -39,11 +39,7 @@ pub seen_next : (s darts : List ℕ) (k : ℕ) (seen : List ℕ) → k < length 
 seen_next s darts k seen l e =
     rw (e, add-one k, take-suc darts k 0 l) (sym (seen_snoc s (take k darts) (get_or darts k 0)))
 
-pub seen_all : (s darts : List ℕ) (k : ℕ) (seen : List ℕ) → k ≡ length darts → seen ≡ seen_with s (take k darts)
-    → seen ≡ seen_with s darts
-seen_all s darts k seen l e = e ∙ rw (l, take-length darts)
-
-pub seen_length : (s xs : List ℕ) → length (seen_with s xs) ≡ length s
+seen_length : (s xs : List ℕ) → length (seen_with s xs) ≡ length s
 unfolding seen_with
 seen_length s [] = refl
 seen_length s (x ∷ xs) = seen_length (set s x 1) xs ∙ length-set s x 1

@@ -4,14 +4,15 @@
 ghost use Rattle.std.specs.Prelude.{◌≡◌, true, ℕ, ◌<◌, ◌≤◌, length, get_or};
 ghost use Rattle.model.specs.Table.{slots};
 ghost use Rattle.model.specs.Map.{is_map};
-ghost use Rattle.model.specs.Cell.{cell_of, good_cell, in_wrong_cell, least_wrong, is_block};
+ghost use Rattle.model.specs.Cell.{cell_size, cell_of, good_cell, in_wrong_cell, least_wrong, is_block};
 ghost use Rattle.model.specs.Checks.{pass, dim_ok, table_ok};
 ghost use Rattle.model.specs.Meaning.Maps.{MapTable};
+ghost use Rattle.reading.specs.Found.{found_below};
 ghost use Rattle.cells.specs.Listing.{MapDart};
 ghost use Rattle.block_test.specs.Seen.{seen_with, SeenGood};
 
-use cells::{cell_2d, cell_3d};
-use good_cells::{is_good_2d, is_good_3d};
+use cells::cell;
+use good_cells::is_good;
 use reading::{LARGE, MIDDLE, SMALL, UNUSED, link_in, slots};
 
 // Marks the darts as seen.
@@ -19,34 +20,19 @@ fn mark(seen: &mut [u8], darts: &[u32])
     requires { (k : ℕ) → k < length darts.now → get_or darts.now k 0 < length seen.old }
     ensures { seen.new ≡ seen_with seen.old darts.now }
 {
-    for k in 0..darts.len() {
-        let x = darts[k] as usize;
-        seen[x] = 1;
+    for &x in darts {
+        seen[x as usize] = 1;
     }
 }
 
-// Whether the cell of d is good, n = 2. If so, its darts are marked as seen.
-fn visit_2d(table: &[u32], seen: &mut [u8], d: u32) -> bool
-    requires { (MapDart 2 table.now d) × (SeenGood 2 table.now seen.old) }
-    ensures value { result ≡ good_cell 2 table.now (cell_of 2 table.now d) }
-    ensures seen_good { SeenGood 2 table.now seen.new }
+// Whether the cell of d is good. If so, its darts are marked as seen.
+fn visit<const N: u32, const SIZE: usize>(table: &[u32], seen: &mut [u8], d: u32) -> bool
+    requires { (MapDart N table.now d) × (SeenGood N table.now seen.old) × (SIZE ≡ cell_size N) }
+    ensures value { result ≡ good_cell N table.now (cell_of N table.now d) }
+    ensures seen_good { SeenGood N table.now seen.new }
 {
-    let cell = cell_2d(table, d);
-    if !is_good_2d(table, d, cell) {
-        return false;
-    }
-    mark(seen, &cell);
-    true
-}
-
-// The same for n = 3.
-fn visit_3d(table: &[u32], seen: &mut [u8], d: u32) -> bool
-    requires { (MapDart 3 table.now d) × (SeenGood 3 table.now seen.old) }
-    ensures value { result ≡ good_cell 3 table.now (cell_of 3 table.now d) }
-    ensures seen_good { SeenGood 3 table.now seen.new }
-{
-    let cell = cell_3d(table, d);
-    if !is_good_3d(table, d, cell) {
+    let cell = cell::<N, SIZE>(table, d);
+    if !is_good::<N, SIZE>(table, d, cell) {
         return false;
     }
     mark(seen, &cell);
@@ -67,51 +53,53 @@ fn in_wrong_cell(n: u32, table: &[u32], seen: &mut [u8], d: u32) -> bool
         return false;
     }
     if n == 2 {
-        return !visit_2d(table, seen, d);
+        return !visit::<2, 8>(table, seen, d);
     }
-    !visit_3d(table, seen, d)
+    !visit::<3, 48>(table, seen, d)
 }
 
-// The least live slot in a wrong cell, or the number of slots. Each cell is tested once; no slot is marked as seen before.
-fn first_wrong(n: u32, table: &[u32], seen: &mut [u8]) -> u32
+// The least live slot in a wrong cell, if there is one. Each cell is tested once; no slot is marked as seen before.
+fn first_wrong(n: u32, table: &[u32], seen: &mut [u8]) -> Option<u32>
     requires n_value { (dim_ok n ≡ pass) × (table_ok table.now ≡ pass) × (is_map n table.now ≡ true) }
     requires table_in_bounds { (slots table.now ≤ length seen.old) × ((k : ℕ) → k < length seen.old → get_or seen.old k 0 ≡ 0) }
-    ensures { result ≡ least_wrong n table.now }
+    ensures { result ≡ found_below (slots table.now) (least_wrong n table.now) }
 {
-    let end = slots(table);
-    for d in 0..end {
+    // a loop: the closure of `find` would change the marks that it is handed, and no proof goes through a chain with such a closure
+    for d in 0..slots(table) {
         if in_wrong_cell(n, table, seen, d) {
-            return d;
+            return Some(d);
         }
     }
-    end
+    None
 }
 
-// The least live slot in a wrong cell of a larger table, or the number of slots. It has a stack frame of its own, which small tables do
-// not pay for.
+// The same of a larger table, of at most so many slots. Each size has a stack frame of its own, which smaller tables do not pay for.
 #[inline(never)]
-fn least_wrong_large(n: u32, table: &[u32]) -> u32
-    requires { (dim_ok n ≡ pass) × (table_ok table.now ≡ pass) × (is_map n table.now ≡ true) }
-    ensures { result ≡ least_wrong n table.now }
+fn least_wrong_with<const SLOTS: usize>(n: u32, table: &[u32]) -> Option<u32>
+    requires checked { (dim_ok n ≡ pass) × (table_ok table.now ≡ pass) × (is_map n table.now ≡ true) }
+    requires room { (slots table.now ≤ SLOTS) × (SLOTS ≤ 65536) }
+    ensures { result ≡ found_below (slots table.now) (least_wrong n table.now) }
 {
-    if table.len() <= 4 * MIDDLE {
-        let mut seen = [0u8; MIDDLE];
-        return first_wrong(n, table, &mut seen);
-    }
-    let mut seen = [0u8; LARGE];
+    let mut seen = [0u8; SLOTS];
     first_wrong(n, table, &mut seen)
 }
 
-// The least live slot in a wrong cell, or the number of slots.
-pub fn least_wrong(n: u32, table: &[u32]) -> u32
+// The least live slot in a wrong cell, if there is one.
+pub fn least_wrong(n: u32, table: &[u32]) -> Option<u32>
     requires { (dim_ok n ≡ pass) × (table_ok table.now ≡ pass) × (is_map n table.now ≡ true) }
-    ensures { result ≡ least_wrong n table.now }
+    ensures { result ≡ found_below (slots table.now) (least_wrong n table.now) }
 {
-    if table.len() <= 4 * SMALL {
+    let size = slots(table) as usize;
+    if size <= SMALL {
+        // not least_wrong_with::<SMALL>, whose frame takes 16 bytes of stack more than the header gives
         let mut seen = [0u8; SMALL];
         return first_wrong(n, table, &mut seen);
     }
-    least_wrong_large(n, table)
+    if size <= MIDDLE {
+        least_wrong_with::<MIDDLE>(n, table)
+    } else {
+        least_wrong_with::<LARGE>(n, table)
+    }
 }
 
 // Whether the map is a block map.
@@ -119,5 +107,5 @@ pub fn is_block(n: u32, table: &[u32]) -> bool
     requires { (dim_ok n ≡ pass) × (table_ok table.now ≡ pass) × (is_map n table.now ≡ true) }
     ensures { result ≡ is_block n table.now }
 {
-    least_wrong(n, table) == slots(table)
+    least_wrong(n, table).is_none()
 }

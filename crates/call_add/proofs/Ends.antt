@@ -12,7 +12,7 @@ use Rattle.model.specs.Table.{unused_slots}
 use Rattle.model.specs.Cell.{cell_size}
 use Rattle.model.specs.Journal.{changes_from}
 use Rattle.model.specs.Add.{add_slots, add_table}
-use Rattle.model.specs.Checks.{pass, refuse, must, in_order, add_room_ok, add_checks}
+use Rattle.model.specs.Checks.{pass, must, in_order, add_room_ok, add_checks}
 use Rattle.model.specs.Calls.{refused, commit, add_call}
 use Rattle.model.specs.Meaning.Maps.{MapTable}
 use Rattle.model.specs.Meaning.Numbers.{JournalRule}
@@ -21,14 +21,16 @@ use Rattle.theorems.proofs.Operations.Added.{add_length, add_changes}
 use Rattle.scans.specs.Lowest.{Lists}
 use Rattle.drafts.specs.Drafts.{drafted}
 use Rattle.drafts.specs.Passes.{Room, Drafted}
-use Rattle.answers.specs.Answers.{outcome, refusal}
+use Rattle.std.specs.Prelude.{Err}
+use Rattle.answers.specs.Answers.{Refused, outcome}
+use Rattle.answers.specs.Openings.{refusing}
 use Rattle.call_add.specs.NewCell.{NewCell}
 use Rattle.call_add.proofs.Drafting.{word_inside}
 
 module _ (n : ℕ) (t j : List ℕ) (tag : ℕ) where
-  pub add_refused : {k p q : ℕ} → in_order (add_checks n t j) ≡ refuse k p q → outcome (refusal k p q) t [] j ≡ add_call n t j tag
+  pub add_refused : (e : Refused) → in_order (add_checks n t j) ≡ refusing e → outcome (Err e) t [] j ≡ add_call n t j tag
   unfolding add_call refused
-  add_refused e = rw (e, add_call)
+  add_refused e h = rw (h, add_call)
 
   pub add_goes : in_order (add_checks n t j) ≡ pass
       → add_call n t j tag ≡ commit t (add_table n t) [] j tag (get_or (add_slots n t) 0 0) (λ cs. cell_size n)

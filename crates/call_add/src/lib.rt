@@ -13,15 +13,8 @@ ghost use Rattle.drafts.specs.Drafts.{drafted};
 ghost use Rattle.answers.specs.Answers.{outcome};
 ghost use Rattle.call_add.specs.NewCell.{NewCell, SomeCell};
 
-use answers::{Answer, numbers};
+use answers::{Answer, Done, Reason};
 use reading::UNUSED;
-
-// How many darts a cell has: 8 or 48.
-fn cell_size(n: u32) -> u32
-    ensures { result ≡ cell_size n }
-{
-    if n == 3 { 48 } else { 8 }
-}
 
 // Link i of the k-th dart of the new cell, whose slots are `fresh`.
 fn cell_slot(n: u32, fresh: &[u16], i: u32, k: u32) -> u32
@@ -56,26 +49,22 @@ pub fn add(n: u32, table: &mut [u32], journal: &mut [u32], tag: u32) -> Answer
     ensures { outcome result table.new [] journal.new
         ≡ add_call n table.old journal.old tag }
 {
-    let opened = answers::opening(n, table, true, reading::journal_fits(journal));
-    if opened.number != 0 {
-        return opened;
-    }
-    let size = cell_size(n);
+    answers::opening(n, table, true, reading::journal_fits(journal))?;
+    let size = numbering::cell_size(n);
     let mut fresh = [0u16; 48];
     let listed = scans::list_unused(table, &mut fresh, size);
     let too_few = listed != size;
     if too_few {
-        return numbers::TOO_FEW_SLOTS;
+        return Err(Reason::TooFewSlots.into());
     }
     let changes = 4 * size;
     if !journal::record_fits(journal, changes) {
-        return numbers::NO_ROOM;
+        return Err(Reason::NoRoom.into());
     }
     write_cell(n, journal, &fresh, size);
     drafts::carry_out(table, journal, changes, tag);
-    Answer {
-        number: 0,
+    Ok(Done {
         place: fresh[0] as u32,
         count: size,
-    }
+    })
 }

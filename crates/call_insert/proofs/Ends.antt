@@ -17,7 +17,7 @@ use Rattle.model.specs.Table.{slots, unused_slots}
 use Rattle.model.specs.NewDarts.{slots_for}
 use Rattle.model.specs.Insert.{insert_table}
 use Rattle.model.specs.Journal.{cursor, changes_from, record_length}
-use Rattle.model.specs.Checks.{Check, pass, refuse, must, and_then, marks_ok, table_ok, map_checks, in_order, new_room_ok, wall_checks, insert_checks}
+use Rattle.model.specs.Checks.{Check, pass, must, and_then, marks_ok, table_ok, map_checks, in_order, new_room_ok, wall_checks, insert_checks}
 use Rattle.model.specs.Calls.{refused, commit, insert_call}
 use Rattle.model.specs.Runs.{Op}
 use Rattle.model.specs.Meaning.Ends.{op_numbers}
@@ -36,13 +36,17 @@ use Rattle.theorems.proofs.Calls.Pass.{must_pass, journal_pass, rules_pass, bloc
 use Rattle.drafts.specs.Drafts.{drafted}
 use Rattle.drafts.specs.Passes.{Room, Drafted}
 use Rattle.drafts.proofs.Commits.{fits_room}
-use Rattle.answers.specs.Answers.{outcome, refusal}
-use Rattle.walls.specs.Tests.{Tests, verdict}
+use Rattle.answers.specs.Answers.{Reason, Refused, alone, outcome}
+use Rattle.walls.specs.Tests.{Passes, Refuses}
 use Rattle.new_darts.specs.Slots.{SlotsFound}
 use Rattle.new_darts.specs.News.{insert_made, by_insert}
 use Rattle.new_darts.specs.Drafting.{Writing}
 use Rattle.call_insert.specs.Opened.{opening_checks}
 use Rattle.call_insert.specs.Behind.{ListedBehind}
+use Rattle.std.specs.Prelude.{Err}
+use Rattle.answers.specs.Openings.{refusing}
+use Rattle.refusals.specs.declared.Reason.TheVariants.{TooFewSlots}
+use Rattle.answers.proofs.Settled.{by_reason}
 
 module _ (n : ℕ) (t m j : List ℕ) where
   -- the checks that are left behind 8
@@ -53,10 +57,10 @@ module _ (n : ℕ) (t m j : List ℕ) where
   unfolding insert_checks opening_checks map_checks
   checks_are = refl
 
-  pub insert_refused : (tag : ℕ) {k p q : ℕ} → in_order (insert_checks n t m j) ≡ refuse k p q
-      → outcome (refusal k p q) t m j ≡ insert_call n t m j tag
+  pub insert_refused : (tag : ℕ) (r : Refused) → in_order (insert_checks n t m j) ≡ refusing r
+      → outcome (Err r) t m j ≡ insert_call n t m j tag
   unfolding insert_call refused
-  insert_refused tag e = rw (e, insert_call)
+  insert_refused tag r h = rw (h, insert_call)
 
 -- what the passed checks up to 8 say
 pub record Opened (n : ℕ) (t m j : List ℕ) : Type 0 where
@@ -78,25 +82,22 @@ opened {n} {t} {m} {j} h =
       rule = journal_pass j (q 4);
     }
 
--- the wall is tested
-module _ {n : ℕ} {t m j : List ℕ} (O : Opened n t m j) {nexts : List ℕ} {number size : ℕ} (T : Tests n t m nexts number size) where
+module _ {n : ℕ} {t m j : List ℕ} (O : Opened n t m j) where
   left_are : in_order (insert_checks n t m j) ≡ in_order (behind n t m j)
   left_are = ap in_order (checks_are n t m j) ∙ append_passed (opening_checks n t m j) (behind n t m j) O.passed
 
-  pub wall_refused : (tag : ℕ) → number ≢ 0 → outcome (refusal number 0 0) t m j ≡ insert_call n t m j tag
-  wall_refused tag h = insert_refused n t m j tag
-      (left_are ∙ append_refused (wall_checks n t m) (new_room_ok n t (ones m) ∷ []) (T.checks ∙ rw (ne_eqb number 0 h, verdict)))
+  pub wall_refused : (tag : ℕ) {why : Reason} {r : Refused} → Refuses n t m why → r ≡ alone why → outcome (Err r) t m j ≡ insert_call n t m j tag
+  wall_refused tag refuses is = insert_refused n t m j tag _
+      (by_reason is (left_are ∙ append_refused (wall_checks n t m) (new_room_ok n t (ones m) ∷ []) refuses))
 
-  module _ (accepted : number ≡ 0) where
-    wall_passed : in_order (wall_checks n t m) ≡ pass
-    wall_passed = T.checks ∙ rw (accepted, verdict)
-
+  -- the wall passes
+  module _ {nexts : List ℕ} {size : ℕ} (T : Passes n t m nexts size) where
     pub size_is : size ≡ length (ones m)
-    size_is = T.size accepted
+    size_is = T.size
 
     -- what is left is 14
     last_is : in_order (insert_checks n t m j) ≡ in_order (new_room_ok n t (ones m) ∷ [])
-    last_is = left_are ∙ append_passed (wall_checks n t m) (new_room_ok n t (ones m) ∷ []) wall_passed
+    last_is = left_are ∙ append_passed (wall_checks n t m) (new_room_ok n t (ones m) ∷ []) T.checks
 
     size_few : size ≤ 65536
     size_few =
@@ -134,9 +135,9 @@ module _ {n : ℕ} {t m j : List ℕ} (O : Opened n t m j) {nexts : List ℕ} {n
           let is = size_is in
           F.few h (rw size_is (omega arith)) (ap length slots_new ∙ room ∙ ap (λ (k : ℕ). n * k) (sym size_is))
 
-      pub insert_few : (tag : ℕ) → r ≡ false → outcome (refusal 14 0 0) t m j ≡ insert_call n t m j tag
+      pub insert_few : (tag : ℕ) {e : Refused} → r ≡ false → e ≡ alone TooFewSlots → outcome (Err e) t m j ≡ insert_call n t m j tag
       unfolding new_room_ok must in_order and_then
-      insert_few tag h = insert_refused n t m j tag (last_is ∙ rw (ne_eqb _ _ (too_few h)))
+      insert_few tag h is = insert_refused n t m j tag _ (by_reason is (last_is ∙ rw (ne_eqb _ _ (too_few h))))
 
       -- the checks but 15 have passed: the first words of `fresh` are the new slots
       module _ (all : r ≡ true) where
@@ -193,7 +194,7 @@ module _ {n : ℕ} {t m j : List ℕ} (O : Opened n t m j) {nexts : List ℕ} {n
                 let same_places = P.placed.wide in
                 let left = length-drop (n * size) queue in
                 record {
-                  makes = by_insert inserts (record { wide = known; next = T.next accepted });
+                  makes = by_insert inserts (record { wide = known; next = T.next });
                   listed = record {
                     number = size_is;
                     old = P.placed.front;

@@ -17,7 +17,7 @@ ghost use Rattle.new_darts.specs.Drafting.{Writing};
 ghost use Rattle.call_insert.specs.Opened.{opening_checks};
 ghost use Rattle.call_insert.specs.Behind.{ListedBehind};
 
-use answers::{Answer, numbers};
+use answers::{Answer, Done, Reason};
 use reading::{LARGE, MIDDLE, SMALL};
 
 // Lists the `size` darts of the wall behind the new slots, which are the first words of `queue`, with the places of their new darts.
@@ -70,96 +70,41 @@ fn insert_in(
     ensures { outcome result table.new marks.now journal.new
         ≡ insert_call n table.old marks.now journal.old tag }
 {
-    let wall = walls::test(n, table, marks, queue, nexts, places);
-    if wall.number != 0 {
-        return Answer {
-            number: wall.number,
-            place: 0,
-            count: 0,
-        };
+    let size = walls::test(n, table, marks, queue, nexts, places)?;
+    let new = n * size;
+    if !new_darts::find_slots(table, queue, new, size) {
+        return Err(Reason::TooFewSlots.into());
     }
-    let new = n * wall.size;
-    if !new_darts::find_slots(table, queue, new, wall.size) {
-        return numbers::TOO_FEW_SLOTS;
-    }
-    let changes = (4 * n + 1) * wall.size;
+    let changes = (4 * n + 1) * size;
     if !journal::record_fits(journal, changes) {
-        return numbers::NO_ROOM;
+        return Err(Reason::NoRoom.into());
     }
-    list_behind(n, marks, queue, places, wall.size);
-    write_in(n, table, journal, queue, places, nexts, wall.size);
+    list_behind(n, marks, queue, places, size);
+    write_in(n, table, journal, queue, places, nexts, size);
     drafts::carry_out(table, journal, changes, tag);
-    Answer {
-        number: 0,
+    Ok(Done {
         place: queue[0] as u32,
         count: new,
-    }
+    })
 }
 
-// insert on a small table, where the checks up to 8 have passed. As it calls itself it has a stack frame of its own, so that the stack has one
-// size of buffers only; the table fits, so it never does.
-fn insert_small(n: u32, table: &mut [u32], marks: &[u8], journal: &mut [u32], tag: u32) -> Answer
-    requires { (in_order (opening_checks n table.old marks.now journal.old) ≡ pass) × (slots table.old ≤ 2048) }
+// The same with buffers of so many words. Each size has a stack frame of its own, so that the stack has one size of buffers only.
+#[inline(never)]
+fn insert_with<const WORDS: usize>(
+    n: u32,
+    table: &mut [u32],
+    marks: &[u8],
+    journal: &mut [u32],
+    tag: u32,
+) -> Answer
+    requires journal_value { in_order (opening_checks n table.old marks.now journal.old) ≡ pass }
+    requires room { (slots table.old ≤ WORDS) × (WORDS ≤ 65536) }
     ensures { outcome result table.new marks.now journal.new
         ≡ insert_call n table.old marks.now journal.old tag }
 {
-    if !reading::table_fits(table) {
-        insert_small(n, table, marks, journal, tag);
-        return numbers::WRONG_TABLE_LENGTH;
-    }
-    let mut queue = [0u16; SMALL];
-    let mut nexts = [0u16; SMALL];
-    let mut places = [0u16; SMALL];
-    insert_in(
-        n,
-        table,
-        marks,
-        journal,
-        tag,
-        &mut queue,
-        &mut nexts,
-        &mut places,
-    )
-}
-
-// insert on a larger table, where the checks up to 8 have passed. It has a stack frame of its own as well.
-fn insert_middle(n: u32, table: &mut [u32], marks: &[u8], journal: &mut [u32], tag: u32) -> Answer
-    requires { (in_order (opening_checks n table.old marks.now journal.old) ≡ pass) × (slots table.old ≤ 16384) }
-    ensures { outcome result table.new marks.now journal.new
-        ≡ insert_call n table.old marks.now journal.old tag }
-{
-    if !reading::table_fits(table) {
-        insert_middle(n, table, marks, journal, tag);
-        return numbers::WRONG_TABLE_LENGTH;
-    }
-    let mut queue = [0u16; MIDDLE];
-    let mut nexts = [0u16; MIDDLE];
-    let mut places = [0u16; MIDDLE];
-    insert_in(
-        n,
-        table,
-        marks,
-        journal,
-        tag,
-        &mut queue,
-        &mut nexts,
-        &mut places,
-    )
-}
-
-// insert on any table, where the checks up to 8 have passed. It has a stack frame of its own as well.
-fn insert_large(n: u32, table: &mut [u32], marks: &[u8], journal: &mut [u32], tag: u32) -> Answer
-    requires { (in_order (opening_checks n table.old marks.now journal.old) ≡ pass) × (slots table.old ≤ 65536) }
-    ensures { outcome result table.new marks.now journal.new
-        ≡ insert_call n table.old marks.now journal.old tag }
-{
-    if !reading::table_fits(table) {
-        insert_large(n, table, marks, journal, tag);
-        return numbers::WRONG_TABLE_LENGTH;
-    }
-    let mut queue = [0u16; LARGE];
-    let mut nexts = [0u16; LARGE];
-    let mut places = [0u16; LARGE];
+    let mut queue = [0u16; WORDS];
+    let mut nexts = [0u16; WORDS];
+    let mut places = [0u16; WORDS];
     insert_in(
         n,
         table,
@@ -178,20 +123,17 @@ pub fn insert(n: u32, table: &mut [u32], marks: &[u8], journal: &mut [u32], tag:
     ensures { outcome result table.new marks.now journal.new
         ≡ insert_call n table.old marks.now journal.old tag }
 {
-    let opened = answers::opening_wall(
+    answers::opening_wall(
         n,
         table,
         reading::marks_fit(table, marks),
         reading::journal_fits(journal),
-    );
-    if opened.number != 0 {
-        return opened;
-    }
+    )?;
     if table.len() <= 4 * SMALL {
-        return insert_small(n, table, marks, journal, tag);
+        return insert_with::<SMALL>(n, table, marks, journal, tag);
     }
     if table.len() <= 4 * MIDDLE {
-        return insert_middle(n, table, marks, journal, tag);
+        return insert_with::<MIDDLE>(n, table, marks, journal, tag);
     }
-    insert_large(n, table, marks, journal, tag)
+    insert_with::<LARGE>(n, table, marks, journal, tag)
 }

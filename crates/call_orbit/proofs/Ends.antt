@@ -6,21 +6,23 @@ use lib.ListN.{length}
 use Rattle.model.specs.Lists.{count}
 use Rattle.model.specs.Table.{slots}
 use Rattle.model.specs.Orbit.{orbit, orbit_place}
-use Rattle.model.specs.Checks.{pass, refuse, in_order, table_ok, map_checks, orbit_checks}
+use Rattle.model.specs.Checks.{pass, in_order, table_ok, map_checks, orbit_checks}
 use Rattle.model.specs.Calls.{refused, orbit_call}
 use Rattle.theorems.proofs.Calls.Checks.{passed_at}
 use Rattle.theorems.proofs.Calls.Pass.{table_of, dart_pass}
 use Rattle.reach.specs.Given.{Given}
-use Rattle.answers.specs.Answers.{outcome, refusal, accepted}
+use Rattle.answers.specs.Answers.{Refused, outcome, accepted}
 use Rattle.answers.proofs.Ladder.{passed_all}
 use Rattle.answers.proofs.Given.{rules_given, marks_given}
 use Rattle.call_orbit.proofs.Masks.{mask_bound}
+use Rattle.std.specs.Prelude.{Err}
+use Rattle.answers.specs.Openings.{refusing}
 
 module _ (n : ℕ) (t m : List ℕ) (mask d : ℕ) where
-  pub orbit_refused : {k p q : ℕ} → in_order (orbit_checks n t m mask d) ≡ refuse k p q
-      → outcome (refusal k p q) t m [] ≡ orbit_call n t m mask d
+  pub orbit_refused : (r : Refused) → in_order (orbit_checks n t m mask d) ≡ refusing r
+      → outcome (Err r) t m [] ≡ orbit_call n t m mask d
   unfolding orbit_call refused
-  orbit_refused e = rw (e, orbit_call)
+  orbit_refused r h = rw (h, orbit_call)
 
   pub orbit_accepted : {p k : ℕ} {s : List ℕ} → in_order (orbit_checks n t m mask d) ≡ pass → p ≡ orbit_place n mask
       → (s ≡ orbit n t mask d) × (k ≡ count 1 (orbit n t mask d)) → outcome (accepted p k) t s [] ≡ orbit_call n t m mask d

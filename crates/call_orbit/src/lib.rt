@@ -8,7 +8,7 @@ ghost use Rattle.model.specs.Checks.{must, pass, in_order, dim_ok, mask_ok, orbi
 ghost use Rattle.model.specs.Calls.{orbit_call};
 ghost use Rattle.answers.specs.Answers.{outcome};
 
-use answers::{Answer, numbers};
+use answers::{Answer, Done, Reason};
 use reading::{LARGE, MIDDLE, SMALL};
 
 // Whether check 6 passes.
@@ -39,29 +39,27 @@ fn orbit_in(n: u32, table: &[u32], marks: &mut [u8], queue: &mut [u16], mask: u3
         ≡ orbit_call n table.now marks.old mask d }
 {
     let size = reach::orbit(n, table, marks, queue, mask, d);
-    Answer {
-        number: 0,
+    Ok(Done {
         place: orbit_place(n, mask),
         count: size,
-    }
+    })
 }
 
-// orbit on a larger table, where its checks pass. As it calls itself it has a stack frame of its own, which small tables and refusals
-// do not pay for; the table fits, so it never does.
-fn orbit_large(n: u32, table: &[u32], marks: &mut [u8], mask: u32, d: u32) -> Answer
-    requires { in_order (orbit_checks n table.now marks.old mask d) ≡ pass }
+// The same with a queue of so many words. Each size has a stack frame of its own, which smaller tables and refusals do not pay for.
+#[inline(never)]
+fn orbit_with<const WORDS: usize>(
+    n: u32,
+    table: &[u32],
+    marks: &mut [u8],
+    mask: u32,
+    d: u32,
+) -> Answer
+    requires d_value { in_order (orbit_checks n table.now marks.old mask d) ≡ pass }
+    requires room { (slots table.now ≤ WORDS) × (WORDS ≤ 65536) }
     ensures { outcome result table.now marks.new []
         ≡ orbit_call n table.now marks.old mask d }
 {
-    if !reading::table_fits(table) {
-        orbit_large(n, table, marks, mask, d);
-        return numbers::WRONG_TABLE_LENGTH;
-    }
-    if table.len() <= 4 * MIDDLE {
-        let mut queue = [0u16; MIDDLE];
-        return orbit_in(n, table, marks, &mut queue, mask, d);
-    }
-    let mut queue = [0u16; LARGE];
+    let mut queue = [0u16; WORDS];
     orbit_in(n, table, marks, &mut queue, mask, d)
 }
 
@@ -70,19 +68,18 @@ pub fn orbit(n: u32, table: &[u32], marks: &mut [u8], mask: u32, d: u32) -> Answ
     ensures { outcome result table.now marks.new []
         ≡ orbit_call n table.now marks.old mask d }
 {
-    let opened = answers::opening(n, table, reading::marks_fit(table, marks), true);
-    if opened.number != 0 {
-        return opened;
-    }
+    answers::opening(n, table, reading::marks_fit(table, marks), true)?;
     if !mask_fits(n, mask) {
-        return numbers::OUT_OF_RANGE;
+        return Err(Reason::OutOfRange.into());
     }
     if !reading::live(table, d) {
-        return numbers::NOT_LIVE;
+        return Err(Reason::NotLive.into());
     }
     if table.len() <= 4 * SMALL {
-        let mut queue = [0u16; SMALL];
-        return orbit_in(n, table, marks, &mut queue, mask, d);
+        return orbit_with::<SMALL>(n, table, marks, mask, d);
     }
-    orbit_large(n, table, marks, mask, d)
+    if table.len() <= 4 * MIDDLE {
+        return orbit_with::<MIDDLE>(n, table, marks, mask, d);
+    }
+    orbit_with::<LARGE>(n, table, marks, mask, d)
 }

@@ -1,15 +1,18 @@
--- Whether no slot is live, by the entries of the table: `entries_more`, `entries_all`; where none is, the checks of a map pass
+-- Whether no slot is live, by the entries of the table: `entries_fold`, `entries_all`; where none is, the checks of a map pass
 -- (`empty_passes`); and what is known where the checks up to 18 pass (`empty_opened`).
-use Prim.Native.Nat.{ℕ, ◌+◌, ◌*◌, ◌/◌, ◌%◌, ◌≤◌, ◌<◌}
-use mathlib.Core.Path.{◌≡◌, refl, sym, ap, ap₂, ◌∙◌}
+use Prim.Native.Nat.{ℕ, zero, suc, ◌+◌, ◌*◌, ◌/◌, ◌%◌, ◌≤◌, ◌<◌}
+use mathlib.Core.Path.{◌≡◌, refl, sym, ap, ap₂, ◌∙◌, subst}
 use mathlib.Core.Logic.{◌≢◌}
 use mathlib.Core.Bool.{Bool, true, not}
 use mathlib.Core.List.{List}
 use native.Mathlib.Omega.{arith}
-use lib.ListN.{length, get_or}
+use lib.ListN.{length, get_or, take}
 use lib.Dec.{eqb}
 use lib.Bits.{bit_and, and_le_l, and_le_r, and_self}
 use borrow.Author.Tests.{eqb-true, eqb-false, not-true}
+use Rattle.std.specs.List.{fold}
+use Rattle.std.proofs.Math.Seq.{take-length}
+use Rattle.std.proofs.lemmas.List.Sums.{fold_more}
 use Rattle.model.specs.Lists.{all_below}
 use Rattle.model.specs.Table.{unused, slots, link, live}
 use Rattle.model.specs.Map.{MapRule, links_live, links_return, pairs_commute, stays_flat, is_map}
@@ -28,10 +31,10 @@ pub record Entries (t : List ℕ) (e common : ℕ) : Type 0 where
   all : common ≡ unused → (k : ℕ) → k < e → get_or t k 0 ≡ unused
   some : common ≢ unused → (k : ℕ) × (k < e) × (get_or t k 0 ≢ unused)
 
-pub entries_none : (t : List ℕ) → Entries t 0 unused
+entries_none : (t : List ℕ) → Entries t 0 unused
 entries_none t = record { low = omega arith; all = λ h k l. absurd (omega arith); some = λ h. absurd (h refl) }
 
-pub entries_more : {t : List ℕ} {e common : ℕ} → get_or t e 0 ≤ unused → Entries t e common → Entries t (e + 1) (bit_and common (get_or t e 0))
+entries_more : {t : List ℕ} {e common : ℕ} → get_or t e 0 ≤ unused → Entries t e common → Entries t (e + 1) (bit_and common (get_or t e 0))
 entries_more {t} {e} {common} fits E =
     let next = get_or t e 0 in
     let left = and_le_l common next in
@@ -44,6 +47,17 @@ entries_more {t} {e} {common} fits E =
           (λ q. (e, omega arith, λ r. h (ap₂ bit_and q r ∙ and_self unused)))
           (λ q. let (k, l, other) = E.some q in (k, omega arith, other));
     }
+
+entries_upto : {t : List ℕ} → ((k : ℕ) → get_or t k 0 ≤ unused) → (e : ℕ) → e ≤ length t → Entries t e (fold bit_and unused (take e t))
+entries_upto {t} fits zero l = entries_none t
+entries_upto {t} fits (suc e) l =
+    let next : e + 1 ≡ suc e = omega arith in
+    subst (λ (n : ℕ). Entries t n (fold bit_and unused (take n t))) next
+    (rw (fold_more bit_and unused t e 0 (omega arith)) (entries_more (fits e) (entries_upto fits e (omega arith))))
+
+pub entries_fold : (t : List ℕ) → ((k : ℕ) → get_or t k 0 ≤ unused) → Entries t (length t) (fold bit_and unused t)
+entries_fold t fits =
+    rw (take-length t) at (entries_upto fits (length t) (omega arith))
 
 pub entries_all : (t : List ℕ) → length t ≡ 4 * slots t → {common : ℕ} → Entries t (length t) common
     → eqb common unused ≡ all_below (slots t) (λ d. not (live t d))

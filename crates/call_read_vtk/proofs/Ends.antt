@@ -3,7 +3,6 @@
 -- draft (`cells_drafted`).
 use Prim.Native.Nat.{ℕ, ◌*◌, ◌≤◌, ◌<◌}
 use mathlib.Core.Path.{◌≡◌, refl, sym, ap, ◌∙◌, subst}
-use mathlib.Core.Logic.{◌≢◌}
 use mathlib.Core.Bool.{false}
 use mathlib.Core.List.{List, [], ◌∷◌, ◌++◌}
 use mathlib.Core.Option.{Option, some}
@@ -26,17 +25,20 @@ use Rattle.theorems.proofs.Vtk.Passed.{empty_pass, form_eight, room_test, vtk_pa
 use Rattle.theorems.proofs.Vtk.Call.{vtk_commits}
 use Rattle.drafts.specs.Drafts.{drafted}
 use Rattle.drafts.specs.Passes.{Room, Drafted}
-use Rattle.answers.specs.Answers.{outcome, refusal}
+use Rattle.std.specs.Prelude.{Result, Ok, Err}
+use Rattle.answers.specs.Answers.{Reason, Refused, number_of, alone, outcome}
+use Rattle.refusals.specs.declared.Reason.TheVariants.{TooFewSlots}
+use Rattle.answers.proofs.Settled.{by_reason}
 use Rattle.answers.proofs.Ladder.{rise, up, out, all_passed}
 use Rattle.vtk_faces.specs.Texts.{CellsAt}
 use Rattle.vtk_table.specs.Cells.{NewCells}
-use Rattle.call_read_vtk.specs.Formed.{Formed, CellsHeld, cell_checks, Judged, JudgedHeld, Passed, Checked}
+use Rattle.call_read_vtk.specs.Formed.{Formed, CellsHeld, cell_checks, first_refusal, Judged, JudgedHeld, Passed, Checked}
 use Rattle.call_read_vtk.proofs.Forms.{vtk_ends}
 
 -- where the text gives this grid
-read_refused : (t j : List ℕ) (tag : ℕ) (text : List ℕ) (g : Grid) → grid_of text ≡ some g → {k p q : ℕ}
-    → in_order (vtk_checks 3 t j (some g)) ≡ refuse k p q → outcome (refusal k p q) t [] j ≡ vtk_call 3 t j tag text
-read_refused t j tag text g is h = vtk_ends 3 t j tag text (rw is h)
+read_refused : (t j : List ℕ) (tag : ℕ) (text : List ℕ) (g : Grid) → grid_of text ≡ some g → {reason : Reason} {e : Refused} → e ≡ alone reason
+    → in_order (vtk_checks 3 t j (some g)) ≡ refuse (number_of reason) 0 0 → outcome (Err e) t [] j ≡ vtk_call 3 t j tag text
+read_refused t j tag text g is alike h = vtk_ends 3 t j tag text _ (by_reason alike (rw is h))
 
 -- the first ten checks, 21 to 23, and 14
 parts : (t j : List ℕ) (g : Grid) → vtk_checks 3 t j (some g) ≡ take 10 (vtk_checks 3 t j (some g)) ++ (cell_checks g.rows ++ (cells_room_ok t g.rows ∷ []))
@@ -66,22 +68,23 @@ module _ {t j text buffer : List ℕ} {at cells : ℕ} (F : Formed t j text buff
         number = number;
       }
 
-  module _ {number : ℕ} (J : Judged F.grid.rows number) where
+  module _ {found : Result (Unit {0}) Reason} (J : Judged F.grid.rows found) where
     -- 21 to 23
-    pub judged_refused : (tag : ℕ) → number ≢ 0 → outcome (refusal number 0 0) t [] j ≡ vtk_call 3 t j tag text
-    judged_refused tag h = read_refused t j tag text F.grid F.is
+    pub judged_refused : (tag : ℕ) {reason : Reason} {e : Refused} → found ≡ Err reason → e ≡ alone reason
+        → outcome (Err e) t [] j ≡ vtk_call 3 t j tag text
+    judged_refused tag h alike = read_refused t j tag text F.grid F.is alike
         (ap in_order (parts t j F.grid) ∙ append_passed (take 10 (vtk_checks 3 t j (some F.grid))) _ F.passed
-        ∙ append_refused (cell_checks F.grid.rows) _ (J.refuses h))
+        ∙ append_refused (cell_checks F.grid.rows) _ (J.gives ∙ ap first_refusal h))
 
-    pub judged_passed : number ≡ 0 → Passed t j text cells
+    pub judged_passed : found ≡ Ok tt → Passed t j text cells
     judged_passed h = record {
       grid = F.grid;
       is = F.is;
-      passed = ap in_order (fronts t j F.grid) ∙ append_passed (take 10 (vtk_checks 3 t j (some F.grid))) _ F.passed ∙ J.passes h;
+      passed = ap in_order (fronts t j F.grid) ∙ append_passed (take 10 (vtk_checks 3 t j (some F.grid))) _ F.passed ∙ (J.gives ∙ ap first_refusal h);
       number = F.number;
     }
 
-  pub judged_checked : {mates : List ℕ} {number : ℕ} → JudgedHeld F.grid.rows mates number → number ≡ 0 → Checked t j text mates cells
+  pub judged_checked : {mates : List ℕ} {found : Result (Unit {0}) Reason} → JudgedHeld F.grid.rows mates found → found ≡ Ok tt → Checked t j text mates cells
   unfolding judged_passed
   judged_checked J h = record { pass = judged_passed J.judged h; mated = J.mated h }
 
@@ -108,12 +111,12 @@ module _ {t j text : List ℕ} {cells : ℕ} (P : Passed t j text cells) where
   empty = empty_pass t sized.0 (check 7)
 
   -- 14
-  pub read_few : (tag : ℕ) → length t < 192 * cells → outcome (refusal 14 0 0) t [] j ≡ vtk_call 3 t j tag text
+  pub read_few : (tag : ℕ) {e : Refused} → e ≡ alone TooFewSlots → length t < 192 * cells → outcome (Err e) t [] j ≡ vtk_call 3 t j tag text
   unfolding vtk_checks map_checks grid_checks rows_in must darts
-  read_few tag h =
+  read_few tag alike h =
       let number = P.number in
       let whole = sized.0 in
-      read_refused t j tag text P.grid P.is (out {checks = checks} (rise 13 tt P.passed)
+      read_refused t j tag text P.grid P.is alike (out {checks = checks} (rise 13 tt P.passed)
       (sym (room_test t rows empty) ∙ ap (λ b. must b 14) (lt-leb (darts rows) (slots t) (omega arith))))
 
   module _ (room : 192 * cells ≤ length t) where
@@ -148,9 +151,9 @@ module _ {t j text : List ℕ} {cells : ℕ} (P : Passed t j text cells) where
       }
 
 -- more cells than any table takes
-pub read_many : {t j text : List ℕ} {cells : ℕ} → Passed t j text cells → (tag : ℕ) → 1365 < cells
-    → outcome (refusal 14 0 0) t [] j ≡ vtk_call 3 t j tag text
-read_many P tag many = let (whole, few) = sized P in read_few P tag (omega arith)
+pub read_many : {t j text : List ℕ} {cells : ℕ} → Passed t j text cells → (tag : ℕ) {e : Refused} → e ≡ alone TooFewSlots → 1365 < cells
+    → outcome (Err e) t [] j ≡ vtk_call 3 t j tag text
+read_many P tag alike many = let (whole, few) = sized P in read_few P tag alike (omega arith)
 
 pub new_cells : {t j text mates : List ℕ} {cells : ℕ} (C : Checked t j text mates cells) → 192 * cells ≤ length t
     → Room t (vtk_table t C.pass.grid.rows) j → NewCells t C.pass.grid.rows mates cells j

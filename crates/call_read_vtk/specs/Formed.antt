@@ -1,5 +1,5 @@
 -- What a read knows where the checks up to 20 have passed (`Formed`), of 21 to 23 (`Judged`), and where these have passed (`Passed`, `Checked`).
-use Rattle.std.specs.Prelude.{ℕ, ◌<◌, ◌≡◌, ◌≢◌, List, [], ◌∷◌, ◌++◌, length, get_or, take}
+use Rattle.std.specs.Prelude.{ℕ, ◌<◌, ◌≡◌, Result, Ok, Err, List, [], ◌∷◌, ◌++◌, length, get_or, take}
 use Rattle.std.proofs.Math.Option.{some}
 use Rattle.model.specs.Vtk.{Grid, grid_of}
 use Rattle.model.specs.Checks.{Check, pass, refuse, in_order, solid_ok, table_ok, journal_ok, map_checks, empty_ok}
@@ -7,6 +7,7 @@ use Rattle.model.specs.Checks.{vertices_ok, sharing_ok, order_ok, vtk_checks}
 use Rattle.model.specs.Meaning.Vtk.{RowsAt}
 use Rattle.vtk_faces.specs.Buffers.{Held, Mated}
 use Rattle.vtk_form.specs.Parts.{Keeps}
+use Rattle.answers.specs.Answers.{Reason, number_of}
 
 -- the checks up to 18
 unfoldable pub empty_checks : ℕ → List ℕ → List ℕ → List Check
@@ -42,15 +43,18 @@ pub record SomeCellsHeld (buffer : List ℕ) (cells : ℕ) : Type 0 where
 unfoldable pub cell_checks : List (List ℕ) → List Check
 cell_checks rows = vertices_ok rows ∷ sharing_ok rows ∷ order_ok rows ∷ []
 
--- the number says which of them refuses first, or is 0
-pub record Judged (rows : List (List ℕ)) (number : ℕ) : Type 0 where
-  pub passes : number ≡ 0 → in_order (cell_checks rows) ≡ pass
-  pub refuses : number ≢ 0 → in_order (cell_checks rows) ≡ refuse number 0 0
+-- a result tells which of them refuses first, if any
+abbrev pub first_refusal : Result (Unit {0}) Reason → Check
+first_refusal (Ok passed) = pass
+first_refusal (Err reason) = refuse (number_of reason) 0 0
 
--- and where it is 0 the buffer `mates` has the mates of the cells' faces
-pub record JudgedHeld (rows : List (List ℕ)) (mates : List ℕ) (number : ℕ) : Type 0 where
-  pub judged : Judged rows number
-  pub mated : number ≡ 0 → Mated rows mates
+pub record Judged (rows : List (List ℕ)) (found : Result (Unit {0}) Reason) : Type 0 where
+  pub gives : in_order (cell_checks rows) ≡ first_refusal found
+
+-- and where none does the buffer `mates` has the mates of the cells' faces
+pub record JudgedHeld (rows : List (List ℕ)) (mates : List ℕ) (found : Result (Unit {0}) Reason) : Type 0 where
+  pub judged : Judged rows found
+  pub mated : found ≡ Ok tt → Mated rows mates
 
 -- the checks before 14 have passed
 pub record Passed (t j text : List ℕ) (cells : ℕ) : Type 0 where

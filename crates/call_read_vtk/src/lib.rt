@@ -9,24 +9,18 @@ ghost use Rattle.model.specs.Checks.{pass, in_order, table_ok};
 ghost use Rattle.model.specs.Calls.{vtk_call};
 ghost use Rattle.answers.specs.Answers.{outcome};
 ghost use Rattle.answers.specs.Openings.{Settles};
-ghost use Rattle.vtk_form.specs.Form.{FormOf};
 ghost use Rattle.vtk_faces.specs.Texts.{CellsAt, SomeCellsAt};
 ghost use Rattle.call_read_vtk.specs.Formed.{empty_checks, Formed, Lent, CellsHeld, SomeCellsHeld, Judged, JudgedHeld, Checked, SomeChecked};
 
-use answers::{Answer, numbers};
+use answers::{Answer, Done, Reason, Refused};
 use reading::UNUSED;
-use vtk_form::Form;
 
 // Whether no slot is live: the bits that all entries have in common are those of an unused one.
 fn is_empty(table: &[u32]) -> bool
     requires { table_ok table.now ≡ pass }
     ensures { result ≡ all_below (slots table.now) (λ d. not (live table.now d)) }
 {
-    let mut common = UNUSED;
-    for e in 0..table.len() {
-        common = common & table[e];
-    }
-    common == UNUSED
+    table.iter().fold(UNUSED, |common, entry| common & *entry) == UNUSED
 }
 
 // Whether the checks up to 18 pass; where no slot is live, the table is a map.
@@ -45,46 +39,43 @@ fn opens_empty(n: u32, table: &[u32], journal: &[u32]) -> bool
     is_empty(table)
 }
 
-// The checks up to 18, one after the other: number 0 where they pass, else the refusal.
-fn open_table(n: u32, table: &[u32], journal: &[u32]) -> Answer
+// The checks up to 18, one after the other: passes where they pass, else the refusal.
+fn open_table(n: u32, table: &[u32], journal: &[u32]) -> Result<(), Refused>
     ensures { Settles result (in_order (empty_checks n table.now journal.now)) }
 {
     if n != 3 {
-        return numbers::WRONG_DIMENSION;
+        return Err(Reason::WrongDimension.into());
     }
-    let opened = answers::opening(n, table, true, reading::journal_fits(journal));
-    if opened.number != 0 {
-        return opened;
-    }
+    answers::opening(n, table, true, reading::journal_fits(journal))?;
     if !is_empty(table) {
-        return numbers::NOT_EMPTY;
+        return Err(Reason::NotEmpty.into());
     }
-    numbers::PASSED
+    Ok(())
 }
 
 // The same, for a read that is most often of an empty table.
-fn open_read(n: u32, table: &[u32], journal: &[u32]) -> Answer
+fn open_read(n: u32, table: &[u32], journal: &[u32]) -> Result<(), Refused>
     ensures { Settles result (in_order (empty_checks n table.now journal.now)) }
 {
     if opens_empty(n, table, journal) {
-        return numbers::PASSED;
+        return Ok(());
     }
     open_table(n, table, journal)
 }
 
-// 21 to 23 for no more cells than a table takes: the number of the first that refuses, or 0.
+// 21 to 23 for no more cells than a table takes: the first that refuses.
 fn judge_few(
     rows: &[u64],
     cells: usize,
     heads: &mut [u16],
     nexts: &mut [u16],
     mates: &mut [u16],
-) -> u32
+) -> Result<(), Reason>
     requires { (SomeCellsHeld rows.now cells) × (cells ≤ 1365) × (Lent rows.now heads.old nexts.old mates.old) }
     ensures { (rs : List (List ℕ)) → CellsHeld rows.now cells rs → JudgedHeld rs mates.new result }
 {
     if vtk_faces::repeated(rows, cells) {
-        return 21;
+        return Err(Reason::VertexRepeated);
     }
     vtk_faces::judge_held(rows, cells, heads, nexts, mates)
 }
@@ -98,12 +89,12 @@ fn judge_many(
     heads: &mut [u16],
     nexts: &mut [u16],
     mates: &mut [u16],
-) -> u32
+) -> Result<(), Reason>
     requires { (SomeCellsAt text.now at cells) × (Lent rows.old heads.old nexts.old mates.old) }
     ensures { (rs : List (List ℕ)) → CellsAt text.now at cells rs → Judged rs result }
 {
     if vtk_faces::any_repeated(text, at, cells, rows) {
-        return 21;
+        return Err(Reason::VertexRepeated);
     }
     vtk_faces::judge(text, at, cells, rows, heads, nexts, mates)
 }
@@ -122,19 +113,18 @@ fn place_cells(
         ≡ vtk_call 3 table.old journal.old tag text }
 {
     if table.len() < 192 * cells {
-        return numbers::TOO_FEW_SLOTS;
+        return Err(Reason::TooFewSlots.into());
     }
     let changes = 192 * cells as u32;
     if !journal::record_fits(journal, changes) {
-        return numbers::NO_ROOM;
+        return Err(Reason::NoRoom.into());
     }
     vtk_table::write_cells(table, journal, mates, cells);
     drafts::close_record(journal, changes, tag);
-    Answer {
-        number: 0,
+    Ok(Done {
         place: 0,
         count: 48 * cells as u32,
-    }
+    })
 }
 
 // The read of more cells than any table takes: it is refused, by 21 to 23 or by 14.
@@ -151,15 +141,8 @@ fn read_many(
     ensures { (t j : List ℕ) (tag : ℕ) → Formed t j text.now rows.old at cells
         → outcome result t [] j ≡ vtk_call 3 t j tag text.now }
 {
-    let number = judge_many(text, at, cells, rows, heads, nexts, mates);
-    if number != 0 {
-        return Answer {
-            number,
-            place: 0,
-            count: 0,
-        };
-    }
-    numbers::TOO_FEW_SLOTS
+    judge_many(text, at, cells, rows, heads, nexts, mates)?;
+    Err(Reason::TooFewSlots.into())
 }
 
 // The read where the checks up to 20 have passed.
@@ -183,40 +166,22 @@ fn read_formed(
     if cells > 1365 {
         return read_many(text, at, cells, rows, heads, nexts, mates);
     }
-    let number = judge_few(rows, cells, heads, nexts, mates);
-    if number != 0 {
-        return Answer {
-            number,
-            place: 0,
-            count: 0,
-        };
-    }
+    judge_few(rows, cells, heads, nexts, mates)?;
     place_cells(table, journal, tag, mates, cells)
 }
 
-// The read where the checks up to 18 have passed, with what is known of the form, and buffers.
-fn read_in(
-    table: &mut [u32],
-    journal: &mut [u32],
-    tag: u32,
-    text: &[u8],
-    form: Form,
-    rows: &mut [u64],
-    heads: &mut [u16],
-    nexts: &mut [u16],
-    mates: &mut [u16],
-) -> Answer
-    requires { (in_order (empty_checks 3 table.old journal.old) ≡ pass) × (FormOf text.now rows.old form)
-        × (Lent rows.old heads.old nexts.old mates.old) }
+// The read where the checks up to 18 have passed. It has a stack frame of its own, so that the checks before do not pay for its buffers.
+#[inline(never)]
+fn read_cells(table: &mut [u32], journal: &mut [u32], tag: u32, text: &[u8]) -> Answer
+    requires { in_order (empty_checks 3 table.old journal.old) ≡ pass }
     ensures { outcome result table.new [] journal.new
         ≡ vtk_call 3 table.old journal.old tag text.now }
 {
-    if !form.fits {
-        return numbers::WRONG_FORM;
-    }
-    if !form.twelve {
-        return numbers::OTHER_TYPE;
-    }
+    let mut rows = [0u64; 10920];
+    let mut heads = [0u16; 16384];
+    let mut nexts = [0u16; 8191];
+    let mut mates = [0u16; 8191];
+    let form = vtk_form::read_form(text, &mut rows)?;
     read_formed(
         table,
         journal,
@@ -224,31 +189,10 @@ fn read_in(
         text,
         form.at,
         form.cells as usize,
-        rows,
-        heads,
-        nexts,
-        mates,
-    )
-}
-
-// The same with buffers of its own. As it calls itself it has a stack frame of its own, so that the checks before do not pay for them; the
-// table fits, so it never does.
-fn read_cells(table: &mut [u32], journal: &mut [u32], tag: u32, text: &[u8]) -> Answer
-    requires { in_order (empty_checks 3 table.old journal.old) ≡ pass }
-    ensures { outcome result table.new [] journal.new
-        ≡ vtk_call 3 table.old journal.old tag text.now }
-{
-    if !reading::table_fits(table) {
-        read_cells(table, journal, tag, text);
-        return numbers::WRONG_TABLE_LENGTH;
-    }
-    let mut rows = [0u64; 10920];
-    let mut heads = [0u16; 16384];
-    let mut nexts = [0u16; 8191];
-    let mut mates = [0u16; 8191];
-    let form = vtk_form::read_form(text, &mut rows);
-    read_in(
-        table, journal, tag, text, form, &mut rows, &mut heads, &mut nexts, &mut mates,
+        &mut rows,
+        &mut heads,
+        &mut nexts,
+        &mut mates,
     )
 }
 
@@ -257,9 +201,6 @@ pub fn read_vtk(n: u32, table: &mut [u32], journal: &mut [u32], tag: u32, text: 
     ensures { outcome result table.new [] journal.new
         ≡ vtk_call n table.old journal.old tag text.now }
 {
-    let opened = open_read(n, table, journal);
-    if opened.number != 0 {
-        return opened;
-    }
+    open_read(n, table, journal)?;
     read_cells(table, journal, tag, text)
 }

@@ -8,20 +8,22 @@ use lib.ListN.{length}
 use Rattle.model.specs.Lists.{count}
 use Rattle.model.specs.Journal.{changes_from}
 use Rattle.model.specs.Remove.{count_marked, removed, remove_table}
-use Rattle.model.specs.Checks.{refuse, in_order, layer_checks}
+use Rattle.model.specs.Checks.{in_order, layer_checks}
 use Rattle.model.specs.Calls.{refused, commit, remove_call}
 use Rattle.theorems.proofs.Layers.RemoveCounts.{remove_changes}
 use Rattle.drafts.specs.Drafts.{drafted}
 use Rattle.drafts.specs.Passes.{Room, Drafted}
-use Rattle.answers.specs.Answers.{outcome, refusal}
+use Rattle.answers.specs.Answers.{Refused, outcome}
 use Rattle.answers.proofs.Layered.{Sheeted, given}
 use Rattle.call_remove.specs.Removing.{OfSheet, Removing}
 use Rattle.call_remove.proofs.Clearings.{of_long}
+use Rattle.std.specs.Prelude.{Err}
+use Rattle.answers.specs.Openings.{refusing}
 
-pub remove_refused : (n : ℕ) (t m j : List ℕ) (tag d : ℕ) {k p q : ℕ} → in_order (layer_checks n t m j d) ≡ refuse k p q
-    → outcome (refusal k p q) t m j ≡ remove_call n t m j tag d
+pub remove_refused : (n : ℕ) (t m j : List ℕ) (tag d : ℕ) (r : Refused) → in_order (layer_checks n t m j d) ≡ refusing r
+    → outcome (Err r) t m j ≡ remove_call n t m j tag d
 unfolding remove_call refused
-remove_refused n t m j tag d e = rw (e, remove_call)
+remove_refused n t m j tag d r h = rw (h, remove_call)
 
 module _ {n d : ℕ} {t m j s : List ℕ} (H : Sheeted n t m j d s) where
   pub remove_goes : (tag : ℕ) → remove_call n t m j tag d ≡ commit t (removed n t s) s j tag 0 (λ cs. count_marked s)

@@ -13,8 +13,8 @@ ghost use Rattle.drafts.specs.Drafts.{drafted};
 ghost use Rattle.answers.specs.Answers.{outcome};
 ghost use Rattle.call_remove.specs.Removing.{Removing, Clearing, ToClear};
 
-use answers::{Answer, numbers};
-use reading::{LARGE, MIDDLE, SMALL, UNUSED};
+use answers::{Answer, Done, Reason};
+use reading::{LARGE_HALF, MIDDLE, MIDDLE_HALF, SMALL, SMALL_HALF, UNUSED};
 use scans::{skip_blocks, skip_clear};
 use walk::first_outside;
 
@@ -35,8 +35,7 @@ fn count_layer(marks: &[u8]) -> Counts
 {
     let mut darts: u32 = 0;
     let mut edge: u32 = 0;
-    for x in 0..marks.len() {
-        let mark = marks[x];
+    for &mark in marks {
         if mark == 3 {
             edge += 1;
         }
@@ -99,20 +98,20 @@ fn remove_in(
     let counts = count_layer(marks);
     let changes = 4 * counts.darts + counts.edge;
     if !journal::record_fits(journal, changes) {
-        return numbers::NO_ROOM;
+        return Err(Reason::NoRoom.into());
     }
     write_layer(n, table, journal, marks);
     drafts::carry_out(table, journal, changes, tag);
-    Answer {
-        number: 0,
+    Ok(Done {
         place: 0,
         count: counts.darts,
-    }
+    })
 }
 
-// remove on a larger table, where the checks up to 8 have passed. As it calls itself it has a stack frame of its own, which small
-// tables and refusals do not pay for; the table fits, so it never does.
-fn remove_large(
+// The same with a work list of so many words. Each size has a stack frame of its own, which smaller tables and refusals do not
+// pay for.
+#[inline(never)]
+fn remove_with<const WORDS: usize>(
     n: u32,
     table: &mut [u32],
     marks: &mut [u8],
@@ -120,19 +119,12 @@ fn remove_large(
     tag: u32,
     d: u32,
 ) -> Answer
-    requires { in_order (layer_checks n table.old marks.old journal.old d) ≡ pass }
+    requires d_value { in_order (layer_checks n table.old marks.old journal.old d) ≡ pass }
+    requires room { (slots table.old ≤ 2 * WORDS) × (WORDS ≤ 32768) }
     ensures { outcome result table.new marks.new journal.new
         ≡ remove_call n table.old marks.old journal.old tag d }
 {
-    if !reading::table_fits(table) {
-        remove_large(n, table, marks, journal, tag, d);
-        return numbers::WRONG_TABLE_LENGTH;
-    }
-    if table.len() <= 4 * MIDDLE {
-        let mut work = [0u16; MIDDLE / 2];
-        return remove_in(n, table, marks, journal, tag, d, &mut work);
-    }
-    let mut work = [0u16; LARGE / 2];
+    let mut work = [0u16; WORDS];
     remove_in(n, table, marks, journal, tag, d, &mut work)
 }
 
@@ -148,20 +140,18 @@ pub fn remove(
     ensures { outcome result table.new marks.new journal.new
         ≡ remove_call n table.old marks.old journal.old tag d }
 {
-    let opened = answers::opening_layer(
+    answers::opening_layer(
         n,
         table,
         reading::marks_fit(table, marks),
         reading::journal_fits(journal),
         d,
-    );
-    let refused = opened.number != 0;
-    if refused {
-        return opened;
-    }
+    )?;
     if table.len() <= 4 * SMALL {
-        let mut work = [0u16; SMALL / 2];
-        return remove_in(n, table, marks, journal, tag, d, &mut work);
+        return remove_with::<SMALL_HALF>(n, table, marks, journal, tag, d);
     }
-    remove_large(n, table, marks, journal, tag, d)
+    if table.len() <= 4 * MIDDLE {
+        return remove_with::<MIDDLE_HALF>(n, table, marks, journal, tag, d);
+    }
+    remove_with::<LARGE_HALF>(n, table, marks, journal, tag, d)
 }

@@ -10,8 +10,7 @@ use reading::{link, opposite_edge};
 fn mark(marks: &[u8], x: u32) -> u8
     ensures { result ≡ get_or marks.now x 0 }
 {
-    let at = x as usize;
-    if at < marks.len() { marks[at] } else { 0 }
+    marks.get(x as usize).copied().unwrap_or(0)
 }
 
 // Whether a mark is 1 or 2, as in the layer's cells.

@@ -16,7 +16,7 @@ use Rattle.model.specs.Map.{links_live, links_return, pairs_commute, stays_flat,
 use Rattle.model.specs.Reach.{in_set}
 use Rattle.model.specs.Journal.{changes_from}
 use Rattle.model.specs.Sew.{side, is_paired, sew_table}
-use Rattle.model.specs.Checks.{pass, refuse, must, and_then, in_order, dim_ok, table_ok, journal_ok, map_checks, apart_ok, free_ok, pairing_ok, sides_checks, sew_checks}
+use Rattle.model.specs.Checks.{pass, must, and_then, in_order, dim_ok, table_ok, journal_ok, map_checks, apart_ok, free_ok, pairing_ok, sides_checks, sew_checks}
 use Rattle.model.specs.Checks.{list_ok, list_checks}
 use Rattle.model.specs.Calls.{refused, commit, sew_call, sew_list_call}
 use Rattle.model.specs.Meaning.Maps.{MapTable}
@@ -32,24 +32,27 @@ use Rattle.theorems.proofs.Sewing.Sew.{sew_relinked, sew_rest, sew_other}
 use Rattle.theorems.proofs.Sewing.Counts.{own_moved, other_moved, sew_changes}
 use Rattle.drafts.specs.Drafts.{drafted}
 use Rattle.drafts.specs.Passes.{Room, Drafted}
-use Rattle.sides.specs.Turns.{Apart, Listing, InStep}
+use Rattle.sides.specs.Turns.{Apart, Listed}
 use Rattle.marked_links.specs.Marked.{Freed, MarkedRecord}
-use Rattle.answers.specs.Answers.{outcome, refusal}
+use Rattle.answers.specs.Answers.{Refused, alone, outcome}
 use Rattle.answers.proofs.Given.{map_given}
 use Rattle.call_sew.specs.Joins.{Blank, Joining, Joined}
 use Rattle.call_sew.specs.Items.{pair_checks}
+use Rattle.std.specs.Prelude.{Err}
+use Rattle.answers.specs.Openings.{refusing}
+use Rattle.refusals.specs.declared.Reason.TheVariants.{NoPairing}
 
 module _ (n : ℕ) (t j : List ℕ) (tag i d e : ℕ) where
   -- by a check before 12
-  pub sew_refused : {k p q : ℕ} → in_order (sides_checks n t j i d e) ≡ refuse k p q
-      → outcome (refusal k p q) t [] j ≡ sew_call n t j tag i d e
+  pub sew_refused : (r : Refused) → in_order (sides_checks n t j i d e) ≡ refusing r
+      → outcome (Err r) t [] j ≡ sew_call n t j tag i d e
   unfolding sew_call refused sew_checks
-  sew_refused h = rw (append_refused (sides_checks n t j i d e) (pairing_ok n t i d e ∷ []) h, sew_call)
+  sew_refused r h = rw (append_refused (sides_checks n t j i d e) (pairing_ok n t i d e ∷ []) h, sew_call)
 
   module _ (h : in_order (sides_checks n t j i d e) ≡ pass) where
-    pub sew_unpaired : is_paired n t i d e ≡ false → outcome (refusal 12 0 0) t [] j ≡ sew_call n t j tag i d e
+    pub sew_unpaired : {r : Refused} → is_paired n t i d e ≡ false → r ≡ alone NoPairing → outcome (Err r) t [] j ≡ sew_call n t j tag i d e
     unfolding sew_call refused sew_checks pairing_ok must in_order and_then
-    sew_unpaired none = rw (append_passed (sides_checks n t j i d e) (pairing_ok n t i d e ∷ []) h, none, sew_call)
+    sew_unpaired none is = rw (is, append_passed (sides_checks n t j i d e) (pairing_ok n t i d e ∷ []) h, none, sew_call)
 
     pub sew_goes : is_paired n t i d e ≡ true
         → sew_call n t j tag i d e ≡ commit t (sew_table n t i d e) [] j tag 0 (λ cs. length cs)
@@ -79,10 +82,10 @@ module _ (n : ℕ) (t j l : List ℕ) where
       let dim = at 0 in
       record { dim = dim; table = at 1; journal = at 2; map = map_given n t dim (rules_pass n t (at 3) (at 4) (at 5) (at 6)) }
 
-  pub list_refused : (tag : ℕ) {k p q : ℕ} → in_order (list_checks n t j l) ≡ refuse k p q
-      → outcome (refusal k p q) t [] j ≡ sew_list_call n t j tag l
+  pub list_refused : (tag : ℕ) (r : Refused) → in_order (list_checks n t j l) ≡ refusing r
+      → outcome (Err r) t [] j ≡ sew_list_call n t j tag l
   unfolding sew_list_call refused
-  list_refused tag h = rw (h, sew_list_call)
+  list_refused tag r h = rw (h, sew_list_call)
 
   module _ (h : in_order (list_checks n t j l) ≡ pass) where
     pub list_ready : Ready n t j
@@ -131,81 +134,76 @@ module _ {n : ℕ} {t : List ℕ} {i d e : ℕ} (passed : SidesPassed n t i d e)
     right_room = right;
   }
 
-  module _ {size : ℕ} {xs ys : List ℕ} (step : InStep n t i d e size xs ys) where
+  module _ {size : ℕ} {xs ys : List ℕ} (step : Listed n t i d e size xs ys) where
     pub size_few : size + size ≤ 65536
     size_few = let fit = step.few in let few = passed.table.few in omega arith
 
-    -- they are paired
-    module _ (some : size ≢ 0) where
-      lists : Listing n t i d e size xs ys
-      lists = step.lists (omega arith)
+    pub step_paired : is_paired n t i d e ≡ true
+    step_paired = step.lists.paired
 
-      pub step_paired : is_paired n t i d e ≡ true
-      step_paired = lists.paired
+    able : Sewable n t i d e
+    able = sides_sewable passed step_paired
 
-      able : Sewable n t i d e
-      able = sides_sewable passed step_paired
+    pub changes_number : 2 * size ≡ length (changes_from 0 t (sew_table n t i d e))
+    changes_number = rw step.lists.size (sym (sew_changes able))
 
-      pub changes_number : 2 * size ≡ length (changes_from 0 t (sew_table n t i d e))
-      changes_number = rw lists.size (sym (sew_changes able))
+    pub joining : {m gs : List ℕ} → Blank m gs → slots t ≤ length m → slots t ≤ 2 * length xs → slots t ≤ 2 * length ys
+        → Joining n t m gs i d e xs ys size
+    joining blank wide left right = let fit = step.few in record {
+      able = able;
+      lists = step.lists;
+      blank = blank;
+      wide = wide;
+      room = (omega arith, omega arith);
+    }
 
-      pub joining : {m gs : List ℕ} → Blank m gs → slots t ≤ length m → slots t ≤ 2 * length xs → slots t ≤ 2 * length ys
-          → Joining n t m gs i d e xs ys size
-      joining blank wide left right = let fit = step.few in record {
-        able = able;
-        lists = lists;
-        blank = blank;
-        wide = wide;
-        room = (omega arith, omega arith);
+    -- .. and joined
+    module _ {t' m' gs' : List ℕ} (J : Joined n t i d e xs ys size t' m' gs') where
+      map : MapTable n t
+      map = passed.table
+
+      sewn : MapTable n (sew_table n t i d e)
+      sewn = relinked_table map passed.index (sew_relinked able)
+
+      long : length (sew_table n t i d e) ≡ length t
+      long = relinked_long map passed.index (sew_relinked able)
+
+      same_slots : slots (sew_table n t i d e) ≡ slots t
+      unfolding slots
+      same_slots = rw long
+
+      -- a marked dart was free, and is sewn
+      free : (x : ℕ) → Marked m' x → link t i x ≡ x
+      free x h = ⊎_elim (side_free able.left able.free_left x) (side_free able.right able.free_right x) (J.marked x h)
+
+      moved : (x : ℕ) → Marked m' x → link t i x ≢ link (sew_table n t i d e) i x
+      moved x h = ⊎_elim (own_moved able x) (other_moved able x) (J.marked x h)
+
+      index : i < 4
+      index = let top = map.dim.1 in let low = passed.index in omega arith
+
+      freed : Freed (sew_table n t i d e) t m' i
+      freed = record {
+        long = sym long;
+        fits = sewn.whole;
+        few = sewn.few;
+        wide = rw same_slots J.wide;
+        index = index;
+        sewn = λ x _ h q. moved x h (free x h ∙ sym q);
+        free = λ x _ h. free x h;
+        rest = λ x _ out. let (a, b) = J.unmarked x out in sym (sew_rest able x a b i index);
+        other = λ x j _ low ne. sym (sew_other able x j low ne);
       }
 
-      -- .. and joined
-      module _ {t' m' gs' : List ℕ} (J : Joined n t i d e xs ys size t' m' gs') where
-        map : MapTable n t
-        map = passed.table
+      module _ {j : List ℕ} (rule : JournalRule j) (room : Room t (sew_table n t i d e) j) where
+        pub sewn_record : MarkedRecord true t' t m' i j
+        sewn_record = rw J.table (record { freed = freed; rule = rule; room = room })
 
-        sewn : MapTable n (sew_table n t i d e)
-        sewn = relinked_table map passed.index (sew_relinked able)
-
-        long : length (sew_table n t i d e) ≡ length t
-        long = relinked_long map passed.index (sew_relinked able)
-
-        same_slots : slots (sew_table n t i d e) ≡ slots t
-        unfolding slots
-        same_slots = rw long
-
-        -- a marked dart was free, and is sewn
-        free : (x : ℕ) → Marked m' x → link t i x ≡ x
-        free x h = ⊎_elim (side_free able.left able.free_left x) (side_free able.right able.free_right x) (J.marked x h)
-
-        moved : (x : ℕ) → Marked m' x → link t i x ≢ link (sew_table n t i d e) i x
-        moved x h = ⊎_elim (own_moved able x) (other_moved able x) (J.marked x h)
-
-        index : i < 4
-        index = let top = map.dim.1 in let low = passed.index in omega arith
-
-        freed : Freed (sew_table n t i d e) t m' i
-        freed = record {
+        pub sewn_drafted : {w : List ℕ} → w ≡ drafted j (changes_from 0 t t') → Drafted t (sew_table n t i d e) j (2 * size) w
+        sewn_drafted draft = record {
           long = sym long;
-          fits = sewn.whole;
-          few = sewn.few;
-          wide = rw same_slots J.wide;
-          index = index;
-          sewn = λ x _ h q. moved x h (free x h ∙ sym q);
-          free = λ x _ h. free x h;
-          rest = λ x _ out. let (a, b) = J.unmarked x out in sym (sew_rest able x a b i index);
-          other = λ x j _ low ne. sym (sew_other able x j low ne);
+          rule = rule;
+          room = room;
+          count = changes_number;
+          draft = rw J.table at draft;
         }
-
-        module _ {j : List ℕ} (rule : JournalRule j) (room : Room t (sew_table n t i d e) j) where
-          pub sewn_record : MarkedRecord true t' t m' i j
-          sewn_record = rw J.table (record { freed = freed; rule = rule; room = room })
-
-          pub sewn_drafted : {w : List ℕ} → w ≡ drafted j (changes_from 0 t t') → Drafted t (sew_table n t i d e) j (2 * size) w
-          sewn_drafted draft = record {
-            long = sym long;
-            rule = rule;
-            room = room;
-            count = changes_number;
-            draft = rw J.table at draft;
-          }

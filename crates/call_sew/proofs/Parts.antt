@@ -319,14 +319,14 @@ cleared m gs long marks groups =
     let fewer = length-replicate {A = ℕ} (length gs) 0 in
     rw (marks, groups) (record { long = omega arith; marks = zeros (length m); groups = zeros (length gs) })
 
-pub lent_new : (t : List ℕ) (g : ℕ) → slots t ≤ 256 * g
-    → Lent t (replicate (256 * g) 0) (replicate g 0) (replicate (128 * g) 0) (replicate (128 * g) 0)
-lent_new t g room =
-    let marks = length-replicate {A = ℕ} (256 * g) 0 in
+pub lent_new : (t : List ℕ) (k h g : ℕ) → (slots t ≤ k) × (k ≡ 2 * h) × (k ≡ 256 * g)
+    → Lent t (replicate k 0) (replicate g 0) (replicate h 0) (replicate h 0)
+lent_new t k h g (room, half, whole) =
+    let marks = length-replicate {A = ℕ} k 0 in
     let groups = length-replicate {A = ℕ} g 0 in
-    let words = length-replicate {A = ℕ} (128 * g) 0 in
+    let words = length-replicate {A = ℕ} h 0 in
     record {
-      blank = record { long = omega arith; marks = zeros (256 * g); groups = zeros g };
+      blank = record { long = omega arith; marks = zeros k; groups = zeros g };
       wide = omega arith;
       left = omega arith;
       right = omega arith;

@@ -9,7 +9,7 @@ ghost use Rattle.answers.specs.Openings.{Settles};
 ghost use Rattle.call_sew.specs.Joins.{Slot, Fit, Joining, SomeJoining, Joined, Unmarking, Blank, Lent};
 ghost use Rattle.call_sew.specs.Items.{pair_checks};
 
-use answers::{Answer, numbers};
+use answers::{Answer, Done, Reason, Refused};
 use reading::GROUP;
 
 // Link i of x becomes y, and x gets the mark 1, its group too.
@@ -40,6 +40,7 @@ fn join(
         → Joined n table.old i d e xs.now ys.now size
         table.new marks.new groups.new }
 {
+    // a zip of xs[..size] and ys[..size], word by word, says no more
     for k in 0..size {
         let x = xs[k as usize] as u32;
         let y = ys[k as usize] as u32;
@@ -68,35 +69,33 @@ fn unmark(marks: &mut [u8], groups: &mut [u8], xs: &[u16], ys: &[u16], size: u32
         scans::clear(groups);
         return;
     }
-    let mut k = size;
-    while k > 0 {
-        k -= 1;
+    for k in (0..size).rev() {
         wipe(marks, groups, ys[k as usize]);
         wipe(marks, groups, xs[k as usize]);
     }
 }
 
-// Number 0 where the checks 6 to 10 pass, else the refusal.
-fn pair_fits(n: u32, table: &[u32], i: u32, d: u32, e: u32) -> Answer
+// Passes where the checks 6 to 10 pass, else the refusal.
+fn pair_fits(n: u32, table: &[u32], i: u32, d: u32, e: u32) -> Result<(), Refused>
     requires { (dim_ok n ≡ pass) × (table_ok table.now ≡ pass) × (is_map n table.now ≡ true) }
     ensures { Settles result (in_order (pair_checks n table.now i d e)) }
 {
     if i > n {
-        return numbers::OUT_OF_RANGE;
+        return Err(Reason::OutOfRange.into());
     }
     if !reading::live(table, d) {
-        return numbers::NOT_LIVE;
+        return Err(Reason::NotLive.into());
     }
     if !reading::live(table, e) {
-        return numbers::NOT_LIVE;
+        return Err(Reason::NotLive.into());
     }
     if sides::meets(n, table, i, d, e) {
-        return numbers::SAME_SIDE;
+        return Err(Reason::SameSide.into());
     }
     if !(reading::is_free(table, i, d) & reading::is_free(table, i, e)) {
-        return numbers::NOT_FREE;
+        return Err(Reason::NotFree.into());
     }
-    numbers::PASSED
+    Ok(())
 }
 
 // sew, where the checks up to 10 have passed, with a mark for each slot and two lists for half of them. No mark is set, before and
@@ -120,24 +119,20 @@ fn sew_pair(
         ≡ sew_call n table.old journal.old tag i d e)
         × (Blank marks.new groups.new) }
 {
-    let size = sides::in_step(n, table, i, d, e, xs, ys);
-    let unpaired = size == 0;
-    if unpaired {
-        return numbers::NO_PAIRING;
-    }
+    let pairing = sides::in_step(n, table, i, d, e, xs, ys);
+    let size = pairing.ok_or(Reason::NoPairing)?;
     let changes = 2 * size;
     if !journal::record_fits(journal, changes) {
-        return numbers::NO_ROOM;
+        return Err(Reason::NoRoom.into());
     }
     join(table, marks, groups, i, xs, ys, size);
     marked_links::write_marked(table, journal, marks, groups, i, true);
     drafts::close_record(journal, changes, tag);
     unmark(marks, groups, xs, ys, size);
-    Answer {
-        number: 0,
+    Ok(Done {
         place: 0,
         count: changes,
-    }
+    })
 }
 
 // sew, where the checks of the table and the journal have passed.
@@ -160,9 +155,6 @@ pub fn sew_item(
         ≡ sew_call n table.old journal.old tag i d e)
         × (Blank marks.new groups.new) }
 {
-    let fit = pair_fits(n, table, i, d, e);
-    if fit.number != 0 {
-        return fit;
-    }
+    pair_fits(n, table, i, d, e)?;
     sew_pair(n, table, journal, tag, i, d, e, marks, groups, xs, ys)
 }

@@ -2,15 +2,19 @@
 // equations with the model's definitions of them.
 #![tactic(auto)]
 
-ghost use Rattle.std.specs.Prelude.{◌≡◌, []};
+ghost use Rattle.std.specs.Prelude.{◌≡◌, [], ◌*◌, ◌≤◌};
+ghost use Rattle.model.specs.Table.{slots};
 ghost use Rattle.model.specs.Checks.{pass, in_order, list_checks};
 ghost use Rattle.model.specs.Calls.{sew_call, sew_list_call};
 ghost use Rattle.answers.specs.Answers.{outcome};
 ghost use Rattle.call_sew.specs.Joins.{Lent};
 
-use answers::{Answer, numbers};
+use answers::{Answer, Done, Reason, Refused};
 use item::sew_item;
-use reading::{GROUP, LARGE, MIDDLE, SMALL};
+use reading::{
+    LARGE, LARGE_GROUPS, LARGE_HALF, MIDDLE, MIDDLE_GROUPS, MIDDLE_HALF, SMALL, SMALL_GROUPS,
+    SMALL_HALF,
+};
 
 mod item;
 
@@ -31,74 +35,43 @@ fn sew_items(
     ensures { outcome result table.new [] journal.new
         ≡ sew_list_call n table.old journal.old tag list.now }
 {
-    let mut w: usize = 0;
-    let mut items: u32 = 0;
+    let mut place: u32 = 0;
     let mut count: u32 = 0;
-    while w < list.len() {
-        let answer = sew_item(
-            n,
-            table,
-            journal,
-            tag,
-            list[w],
-            list[w + 1],
-            list[w + 2],
-            marks,
-            groups,
-            xs,
-            ys,
-        );
-        let place = items + 1;
-        if answer.number != 0 {
-            return Answer {
-                number: answer.number,
-                place: place,
-                count: count,
-            };
+    for item in list.chunks_exact(3) {
+        place += 1;
+        match sew_item(
+            n, table, journal, tag, item[0], item[1], item[2], marks, groups, xs, ys,
+        ) {
+            Ok(done) => count += done.count,
+            Err(refused) => return Err(Refused {
+                place,
+                count,
+                ..refused
+            }),
         }
-        items = place;
-        count += answer.count;
-        w += 3;
     }
-    Answer {
-        number: 0,
-        place: 0,
-        count: count,
-    }
+    Ok(Done { place: 0, count })
 }
 
-// The same on a larger table, with buffers. As it calls itself it has a stack frame of its own, which small tables and refusals do not
-// pay for; the table fits, so it never does.
-fn sew_large(n: u32, table: &mut [u32], journal: &mut [u32], tag: u32, list: &[u32]) -> Answer
-    requires { in_order (list_checks n table.old journal.old list.now) ≡ pass }
+// The same with so many marks and groups, and lists of a half. Each size has a stack frame of its own, which smaller tables and refusals do not
+// pay for.
+#[inline(never)]
+fn sew_with<const SLOTS: usize, const HALF: usize, const GROUPS: usize>(
+    n: u32,
+    table: &mut [u32],
+    journal: &mut [u32],
+    tag: u32,
+    list: &[u32],
+) -> Answer
+    requires list_value { in_order (list_checks n table.old journal.old list.now) ≡ pass }
+    requires room { (slots table.old ≤ SLOTS) × (SLOTS ≤ 65536) × (SLOTS ≡ 2 * HALF) × (SLOTS ≡ 256 * GROUPS) }
     ensures { outcome result table.new [] journal.new
         ≡ sew_list_call n table.old journal.old tag list.now }
 {
-    if !reading::table_fits(table) {
-        sew_large(n, table, journal, tag, list);
-        return numbers::WRONG_TABLE_LENGTH;
-    }
-    if table.len() <= 4 * MIDDLE {
-        let mut marks = [0u8; MIDDLE];
-        let mut groups = [0u8; MIDDLE / GROUP];
-        let mut xs = [0u16; MIDDLE / 2];
-        let mut ys = [0u16; MIDDLE / 2];
-        return sew_items(
-            n,
-            table,
-            journal,
-            tag,
-            list,
-            &mut marks,
-            &mut groups,
-            &mut xs,
-            &mut ys,
-        );
-    }
-    let mut marks = [0u8; LARGE];
-    let mut groups = [0u8; LARGE / GROUP];
-    let mut xs = [0u16; LARGE / 2];
-    let mut ys = [0u16; LARGE / 2];
+    let mut marks = [0u8; SLOTS];
+    let mut groups = [0u8; GROUPS];
+    let mut xs = [0u16; HALF];
+    let mut ys = [0u16; HALF];
     sew_items(
         n,
         table,
@@ -112,30 +85,19 @@ fn sew_large(n: u32, table: &mut [u32], journal: &mut [u32], tag: u32, list: &[u
     )
 }
 
-// The same with buffers. A small table does not pay for clearing large ones.
+// The same, with buffers as large as the table needs.
 fn sew_opened(n: u32, table: &mut [u32], journal: &mut [u32], tag: u32, list: &[u32]) -> Answer
     requires { in_order (list_checks n table.old journal.old list.now) ≡ pass }
     ensures { outcome result table.new [] journal.new
         ≡ sew_list_call n table.old journal.old tag list.now }
 {
     if table.len() <= 4 * SMALL {
-        let mut marks = [0u8; SMALL];
-        let mut groups = [0u8; SMALL / GROUP];
-        let mut xs = [0u16; SMALL / 2];
-        let mut ys = [0u16; SMALL / 2];
-        return sew_items(
-            n,
-            table,
-            journal,
-            tag,
-            list,
-            &mut marks,
-            &mut groups,
-            &mut xs,
-            &mut ys,
-        );
+        return sew_with::<SMALL, SMALL_HALF, SMALL_GROUPS>(n, table, journal, tag, list);
     }
-    sew_large(n, table, journal, tag, list)
+    if table.len() <= 4 * MIDDLE {
+        return sew_with::<MIDDLE, MIDDLE_HALF, MIDDLE_GROUPS>(n, table, journal, tag, list);
+    }
+    sew_with::<LARGE, LARGE_HALF, LARGE_GROUPS>(n, table, journal, tag, list)
 }
 
 // "Count: entries changed." It is a list of one item, but that its place is not told.
@@ -151,16 +113,14 @@ pub fn sew(
     ensures { outcome result table.new [] journal.new
         ≡ sew_call n table.old journal.old tag i d e }
 {
-    let opened = answers::opening(n, table, true, reading::journal_fits(journal));
-    if opened.number != 0 {
-        return opened;
-    }
+    answers::opening(n, table, true, reading::journal_fits(journal))?;
     let list = [i, d, e];
-    let answer = sew_opened(n, table, journal, tag, &list);
-    Answer {
-        number: answer.number,
-        place: 0,
-        count: answer.count,
+    match sew_opened(n, table, journal, tag, &list) {
+        Ok(done) => Ok(Done { place: 0, ..done }),
+        Err(refused) => Err(Refused {
+            place: 0,
+            ..refused
+        }),
     }
 }
 
@@ -169,12 +129,9 @@ pub fn sew_list(n: u32, table: &mut [u32], journal: &mut [u32], tag: u32, list: 
     ensures { outcome result table.new [] journal.new
         ≡ sew_list_call n table.old journal.old tag list.now }
 {
-    let opened = answers::opening(n, table, true, reading::journal_fits(journal));
-    if opened.number != 0 {
-        return opened;
-    }
+    answers::opening(n, table, true, reading::journal_fits(journal))?;
     if list.len() % 3 != 0 {
-        return numbers::WRONG_LIST_LENGTH;
+        return Err(Reason::WrongListLength.into());
     }
     sew_opened(n, table, journal, tag, list)
 }

@@ -7,8 +7,8 @@ ghost use Rattle.model.specs.Checks.{in_order, pass, sheet_checks};
 ghost use Rattle.model.specs.Calls.{sheet_call};
 ghost use Rattle.answers.specs.Answers.{outcome};
 
-use answers::{Answer, numbers};
-use reading::{LARGE, MIDDLE, SMALL};
+use answers::{Answer, Done};
+use reading::{LARGE_HALF, MIDDLE, MIDDLE_HALF, SMALL, SMALL_HALF};
 
 // sheet, where its checks pass and the work list has a word for every two slots.
 fn sheet_in(n: u32, table: &[u32], marks: &mut [u8], work: &mut [u16], d: u32) -> Answer
@@ -18,29 +18,22 @@ fn sheet_in(n: u32, table: &[u32], marks: &mut [u8], work: &mut [u16], d: u32) -
         ≡ sheet_call n table.now marks.old d }
 {
     let size = sheets::sheet(n, table, marks, work, d);
-    Answer {
-        number: 0,
+    Ok(Done {
         place: 0,
         count: size,
-    }
+    })
 }
 
-// sheet on a larger table, where its checks pass. As it calls itself it has a stack frame of its own, which small tables and refusals
-// do not pay for; the table fits, so it never does.
-fn sheet_large(n: u32, table: &[u32], marks: &mut [u8], d: u32) -> Answer
-    requires { in_order (sheet_checks n table.now marks.old d) ≡ pass }
+// The same with a work list of so many words. Each size has a stack frame of its own, which smaller tables and refusals do not
+// pay for.
+#[inline(never)]
+fn sheet_with<const WORDS: usize>(n: u32, table: &[u32], marks: &mut [u8], d: u32) -> Answer
+    requires d_value { in_order (sheet_checks n table.now marks.old d) ≡ pass }
+    requires room { (slots table.now ≤ 2 * WORDS) × (WORDS ≤ 32768) }
     ensures { outcome result table.now marks.new []
         ≡ sheet_call n table.now marks.old d }
 {
-    if !reading::table_fits(table) {
-        sheet_large(n, table, marks, d);
-        return numbers::WRONG_TABLE_LENGTH;
-    }
-    if table.len() <= 4 * MIDDLE {
-        let mut work = [0u16; MIDDLE / 2];
-        return sheet_in(n, table, marks, &mut work, d);
-    }
-    let mut work = [0u16; LARGE / 2];
+    let mut work = [0u16; WORDS];
     sheet_in(n, table, marks, &mut work, d)
 }
 
@@ -50,13 +43,12 @@ pub fn sheet(n: u32, table: &[u32], marks: &mut [u8], d: u32) -> Answer
     ensures { outcome result table.now marks.new []
         ≡ sheet_call n table.now marks.old d }
 {
-    let opened = answers::opening_layer(n, table, reading::marks_fit(table, marks), true, d);
-    if opened.number != 0 {
-        return opened;
-    }
+    answers::opening_layer(n, table, reading::marks_fit(table, marks), true, d)?;
     if table.len() <= 4 * SMALL {
-        let mut work = [0u16; SMALL / 2];
-        return sheet_in(n, table, marks, &mut work, d);
+        return sheet_with::<SMALL_HALF>(n, table, marks, d);
     }
-    sheet_large(n, table, marks, d)
+    if table.len() <= 4 * MIDDLE {
+        return sheet_with::<MIDDLE_HALF>(n, table, marks, d);
+    }
+    sheet_with::<LARGE_HALF>(n, table, marks, d)
 }

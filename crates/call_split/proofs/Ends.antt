@@ -18,7 +18,7 @@ use Rattle.model.specs.Sheet.{sheet}
 use Rattle.model.specs.NewDarts.{slots_for}
 use Rattle.model.specs.Split.{crosses, split_table}
 use Rattle.model.specs.Journal.{cursor, changes_from, record_length}
-use Rattle.model.specs.Checks.{refuse, must, and_then, marks_ok, in_order, layer_checks, crossing_ok, new_room_ok, split_checks}
+use Rattle.model.specs.Checks.{must, and_then, marks_ok, in_order, layer_checks, crossing_ok, new_room_ok, split_checks}
 use Rattle.model.specs.Calls.{refused, commit, split_call}
 use Rattle.model.specs.Meaning.Maps.{Dim, MapTable}
 use Rattle.model.specs.Meaning.Sets.{Marked}
@@ -34,7 +34,7 @@ use Rattle.theorems.proofs.Layers.Split.{split_changes, split_length}
 use Rattle.drafts.specs.Drafts.{drafted}
 use Rattle.drafts.specs.Passes.{Room, Drafted}
 use Rattle.drafts.proofs.Commits.{fits_room}
-use Rattle.answers.specs.Answers.{outcome, refusal}
+use Rattle.answers.specs.Answers.{Refused, alone, outcome}
 use Rattle.answers.proofs.Layered.{Layered, Sheeted, given, layer, marks_few}
 use Rattle.call_split.specs.Sheets.{LeadsIn}
 use Rattle.new_darts.specs.Slots.{SlotsFound}
@@ -43,11 +43,15 @@ use Rattle.new_darts.specs.News.{split_made, by_split}
 use Rattle.new_darts.specs.Drafting.{Writing}
 use Rattle.call_split.proofs.Ones.{marks_ones, marks_crosses}
 use Rattle.call_split.proofs.Room.{split_room}
+use Rattle.std.specs.Prelude.{Err}
+use Rattle.answers.specs.Openings.{refusing}
+use Rattle.refusals.specs.declared.Reason.TheVariants.{CrossesItself, TooFewSlots}
+use Rattle.answers.proofs.Settled.{by_reason}
 
-pub split_refused : (n : ℕ) (t m j : List ℕ) (tag d : ℕ) {k p q : ℕ} → in_order (layer_checks n t m j d) ≡ refuse k p q
-    → outcome (refusal k p q) t m j ≡ split_call n t m j tag d
+pub split_refused : (n : ℕ) (t m j : List ℕ) (tag d : ℕ) (r : Refused) → in_order (layer_checks n t m j d) ≡ refusing r
+    → outcome (Err r) t m j ≡ split_call n t m j tag d
 unfolding split_call refused
-split_refused n t m j tag d e = rw (e, split_call)
+split_refused n t m j tag d r h = rw (h, split_call)
 
 -- what `sheets::sheet` asks
 pub marks_long : {n d : ℕ} {t m j : List ℕ} → Layered n t m j d → length m ≡ slots t
@@ -68,10 +72,10 @@ pub record Ready (n : ℕ) (t m j : List ℕ) (d : ℕ) (s : List ℕ) (size : �
 
 -- the sheet is marked, and its size known
 module _ {n d : ℕ} {t m j s : List ℕ} (H : Sheeted n t m j d s) {size : ℕ} (number : size ≡ count 1 (sheet n t d)) where
-  split_stops : (tag : ℕ) {k p q : ℕ} → in_order (split_checks n t (sheet n t d) (darts_of n t d)) ≡ refuse k p q
-      → outcome (refusal k p q) t s j ≡ split_call n t m j tag d
+  split_stops : (tag : ℕ) (r : Refused) → in_order (split_checks n t (sheet n t d) (darts_of n t d)) ≡ refusing r
+      → outcome (Err r) t s j ≡ split_call n t m j tag d
   unfolding split_call refused
-  split_stops tag e = rw (H.passed, split_call, e, split_call, H.marked)
+  split_stops tag r h = rw (H.passed, split_call, h, split_call, H.marked)
 
   pub size_is : size ≡ length (darts_of n t d)
   size_is = number ∙ sym (length_ones (sheet n t d) 0)
@@ -129,9 +133,9 @@ module _ {n d : ℕ} {t m j s : List ℕ} (H : Sheeted n t m j d s) {size : ℕ}
     crossed : crosses t (sheet n t d) (darts_of n t d) ≡ b
     crossed = sym (is ∙ rw H.marked (marks_crosses (given H).dart))
 
-    pub split_crosses : (tag : ℕ) → b ≡ true → outcome (refusal 13 0 0) t s j ≡ split_call n t m j tag d
+    pub split_crosses : (tag : ℕ) {r : Refused} → b ≡ true → r ≡ alone CrossesItself → outcome (Err r) t s j ≡ split_call n t m j tag d
     unfolding split_checks crossing_ok in_order and_then must
-    split_crosses tag h = split_stops tag (rw (crossed, h))
+    split_crosses tag h is = split_stops tag _ (by_reason is (rw (crossed, h)))
 
     -- 14
     module _ (uncrossed : b ≡ false) {r : Bool} {fresh₀ fresh : List ℕ} (F : SlotsFound t (n * size) (n * size) fresh₀ fresh r) where
@@ -147,9 +151,9 @@ module _ {n d : ℕ} {t m j s : List ℕ} (H : Sheeted n t m j d s) {size : ℕ}
       too_few h room =
           F.few h (rw size_is (split_room (would room))) (ap length slots_new ∙ room ∙ ap (λ (k : ℕ). n * k) (sym size_is))
 
-      pub split_few : (tag : ℕ) → r ≡ false → outcome (refusal 14 0 0) t s j ≡ split_call n t m j tag d
+      pub split_few : (tag : ℕ) {e : Refused} → r ≡ false → e ≡ alone TooFewSlots → outcome (Err e) t s j ≡ split_call n t m j tag d
       unfolding split_checks crossing_ok new_room_ok in_order and_then must
-      split_few tag h = split_stops tag (rw (crossed, uncrossed, ne_eqb _ _ (too_few h)))
+      split_few tag h is = split_stops tag _ (by_reason is (rw (crossed, uncrossed, ne_eqb _ _ (too_few h))))
 
       -- they are
       pub ready : r ≡ true → Ready n t m j d s size fresh

@@ -11,8 +11,11 @@ ghost use Rattle.model.specs.Calls.{split_call};
 ghost use Rattle.answers.specs.Answers.{outcome};
 ghost use Rattle.call_split.specs.Sheets.{LeadsIn};
 
-use answers::{Answer, numbers};
-use reading::{LARGE, MIDDLE, SMALL, link_in};
+use answers::{Answer, Done, Reason};
+use reading::{
+    LARGE, LARGE_HALF, LARGE_QUARTER, MIDDLE, MIDDLE_HALF, MIDDLE_QUARTER, SMALL, SMALL_HALF,
+    SMALL_QUARTER, link_in,
+};
 
 // Whether some g with the mark 1 has g.1 with the mark 1.
 fn crosses(table: &[u32], marks: &[u8]) -> bool
@@ -52,30 +55,30 @@ fn split_in(
 {
     let size = sheets::sheet(n, table, marks, fresh, d);
     if crosses(table, marks) {
-        return numbers::CROSSES_ITSELF;
+        return Err(Reason::CrossesItself.into());
     }
     // as many slots are live as are new
     let new = n * size;
     if !new_darts::find_slots(table, fresh, new, new) {
-        return numbers::TOO_FEW_SLOTS;
+        return Err(Reason::TooFewSlots.into());
     }
     let changes = (4 * n + 1) * size;
     if !journal::record_fits(journal, changes) {
-        return numbers::NO_ROOM;
+        return Err(Reason::NoRoom.into());
     }
     new_darts::list_darts(n, marks, darts, places, size);
     new_darts::write_split(n, table, journal, darts, fresh, places, size);
     drafts::carry_out(table, journal, changes, tag);
-    Answer {
-        number: 0,
+    Ok(Done {
         place: fresh[0] as u32,
         count: new,
-    }
+    })
 }
 
-// split on a larger table, where the checks up to 8 have passed. As it calls itself it has a stack frame of its own, which small tables
-// and refusals do not pay for; the table fits, so it never does.
-fn split_large(
+// The same with so many places, a half of them for new slots and a quarter for darts. Each size has a stack frame of its own, which smaller tables and refusals do not
+// pay for.
+#[inline(never)]
+fn split_with<const SLOTS: usize, const HALF: usize, const QUARTER: usize>(
     n: u32,
     table: &mut [u32],
     marks: &mut [u8],
@@ -83,33 +86,14 @@ fn split_large(
     tag: u32,
     d: u32,
 ) -> Answer
-    requires { in_order (layer_checks n table.old marks.old journal.old d) ≡ pass }
+    requires d_value { in_order (layer_checks n table.old marks.old journal.old d) ≡ pass }
+    requires room { (slots table.old ≤ SLOTS) × (SLOTS ≤ 65536) × (SLOTS ≡ 2 * HALF) × (SLOTS ≡ 4 * QUARTER) }
     ensures { outcome result table.new marks.new journal.new
         ≡ split_call n table.old marks.old journal.old tag d }
 {
-    if !reading::table_fits(table) {
-        split_large(n, table, marks, journal, tag, d);
-        return numbers::WRONG_TABLE_LENGTH;
-    }
-    if table.len() <= 4 * MIDDLE {
-        let mut fresh = [0u16; MIDDLE / 2];
-        let mut darts = [0u16; MIDDLE / 4];
-        let mut places = [0u16; MIDDLE];
-        return split_in(
-            n,
-            table,
-            marks,
-            journal,
-            tag,
-            d,
-            &mut fresh,
-            &mut darts,
-            &mut places,
-        );
-    }
-    let mut fresh = [0u16; LARGE / 2];
-    let mut darts = [0u16; LARGE / 4];
-    let mut places = [0u16; LARGE];
+    let mut fresh = [0u16; HALF];
+    let mut darts = [0u16; QUARTER];
+    let mut places = [0u16; SLOTS];
     split_in(
         n,
         table,
@@ -136,31 +120,18 @@ pub fn split(
     ensures { outcome result table.new marks.new journal.new
         ≡ split_call n table.old marks.old journal.old tag d }
 {
-    let opened = answers::opening_layer(
+    answers::opening_layer(
         n,
         table,
         reading::marks_fit(table, marks),
         reading::journal_fits(journal),
         d,
-    );
-    if opened.number != 0 {
-        return opened;
-    }
+    )?;
     if table.len() <= 4 * SMALL {
-        let mut fresh = [0u16; SMALL / 2];
-        let mut darts = [0u16; SMALL / 4];
-        let mut places = [0u16; SMALL];
-        return split_in(
-            n,
-            table,
-            marks,
-            journal,
-            tag,
-            d,
-            &mut fresh,
-            &mut darts,
-            &mut places,
-        );
+        return split_with::<SMALL, SMALL_HALF, SMALL_QUARTER>(n, table, marks, journal, tag, d);
     }
-    split_large(n, table, marks, journal, tag, d)
+    if table.len() <= 4 * MIDDLE {
+        return split_with::<MIDDLE, MIDDLE_HALF, MIDDLE_QUARTER>(n, table, marks, journal, tag, d);
+    }
+    split_with::<LARGE, LARGE_HALF, LARGE_QUARTER>(n, table, marks, journal, tag, d)
 }

@@ -7,7 +7,7 @@ ghost use Rattle.model.specs.Checks.{pass, dim_ok, table_ok, journal_ok};
 ghost use Rattle.model.specs.Calls.{step_outcome, undo_call, redo_call};
 ghost use Rattle.answers.specs.Answers.{outcome};
 
-use answers::{Answer, numbers};
+use answers::{Answer, Done, Reason};
 
 // Puts the new values (redo), or the old ones, of the record of k changes at the word a, and moves the cursor to `to`; the
 // record's tag is the place. If it is broken or the result no map, table and journal are left as they were: 17.
@@ -26,20 +26,19 @@ fn step(
         ≡ step_outcome redo n table.old journal.old a k to }
 {
     if !journal::unbroken(redo, table, journal, a, k) {
-        return numbers::BROKEN_RECORD;
+        return Err(Reason::BrokenRecord.into());
     }
     journal::put_record(redo, table, journal, a, k as usize);
     if !reading::is_map(n, table) {
         journal::put_record(!redo, table, journal, a, k as usize);
-        return numbers::BROKEN_RECORD;
+        return Err(Reason::BrokenRecord.into());
     }
     let tag = journal[a + 1];
     journal[0] = to as u32;
-    Answer {
-        number: 0,
+    Ok(Done {
         place: tag,
         count: k,
-    }
+    })
 }
 
 // Puts back the old values of the record before the cursor, and moves the cursor before it. The record's tag is the place.
@@ -48,13 +47,10 @@ pub fn undo(n: u32, table: &mut [u32], journal: &mut [u32]) -> Answer
     ensures { outcome result table.new [] journal.new
         ≡ undo_call n table.old journal.old }
 {
-    let opened = answers::opening(n, table, true, reading::journal_fits(journal));
-    if opened.number != 0 {
-        return opened;
-    }
+    answers::opening(n, table, true, reading::journal_fits(journal))?;
     let none_stands = journal[0] == 2;
     if none_stands {
-        return numbers::NO_RECORD;
+        return Err(Reason::NoRecord.into());
     }
     let found = journal::undo_start(journal);
     step(
@@ -74,12 +70,9 @@ pub fn redo(n: u32, table: &mut [u32], journal: &mut [u32]) -> Answer
     ensures { outcome result table.new [] journal.new
         ≡ redo_call n table.old journal.old }
 {
-    let opened = answers::opening(n, table, true, reading::journal_fits(journal));
-    if opened.number != 0 {
-        return opened;
-    }
+    answers::opening(n, table, true, reading::journal_fits(journal))?;
     if journal[0] == journal[1] {
-        return numbers::NO_RECORD;
+        return Err(Reason::NoRecord.into());
     }
     let a = journal[0] as usize;
     let k = journal[a];

@@ -9,7 +9,7 @@ use lib.Dec.{eqb}
 use Rattle.model.specs.Table.{slots, link}
 use Rattle.model.specs.Journal.{changes_from}
 use Rattle.model.specs.Sew.{unsew_table}
-use Rattle.model.specs.Checks.{pass, refuse, must, in_order, table_ok, sewn_ok, unsew_checks}
+use Rattle.model.specs.Checks.{pass, must, in_order, table_ok, sewn_ok, unsew_checks}
 use Rattle.model.specs.Calls.{refused, commit, unsew_call}
 use Rattle.model.specs.Meaning.Sets.{Marked}
 use Rattle.model.specs.Meaning.Numbers.{JournalRule}
@@ -18,15 +18,17 @@ use Rattle.theorems.proofs.Calls.Pass.{journal_pass, UnsewPassed, unsew_side}
 use Rattle.drafts.specs.Drafts.{drafted}
 use Rattle.drafts.specs.Passes.{Room, Drafted}
 use Rattle.marked_links.specs.Marked.{MarkedRecord}
-use Rattle.answers.specs.Answers.{outcome, refusal}
+use Rattle.answers.specs.Answers.{Refused, outcome}
 use Rattle.call_unsew.specs.Marking.{Marking, Unsewn}
 use Rattle.call_unsew.proofs.Freeing.{unsewn_freed, unsewn_number}
+use Rattle.std.specs.Prelude.{Err}
+use Rattle.answers.specs.Openings.{refusing}
 
 module _ (n : ℕ) (t j : List ℕ) (tag i d : ℕ) where
-  pub unsew_refused : {k p q : ℕ} → in_order (unsew_checks n t j i d) ≡ refuse k p q
-      → outcome (refusal k p q) t [] j ≡ unsew_call n t j tag i d
+  pub unsew_refused : (r : Refused) → in_order (unsew_checks n t j i d) ≡ refusing r
+      → outcome (Err r) t [] j ≡ unsew_call n t j tag i d
   unfolding unsew_call refused
-  unsew_refused e = rw (e, unsew_call)
+  unsew_refused r h = rw (h, unsew_call)
 
   pub unsew_goes : in_order (unsew_checks n t j i d) ≡ pass
       → unsew_call n t j tag i d ≡ commit t (unsew_table n t i d) [] j tag 0 (λ cs. length cs)

@@ -66,8 +66,8 @@ full_grouped {m} {m'} {gs} F long = record {
       (λ past. get_or-eq_default m' 0 (let all = F.long in omega arith));
 }
 
-pub full_new : (g : ℕ) → Full (replicate (256 * g) 0) (replicate g 1)
-full_new g =
-    let marks = length-replicate {A = ℕ} (256 * g) 0 in
+pub full_new : (k g : ℕ) → k ≡ 256 * g → Full (replicate k 0) (replicate g 1)
+full_new k g whole =
+    let marks = length-replicate {A = ℕ} k 0 in
     let groups = length-replicate {A = ℕ} g 1 in
     record { long = omega arith; marked = λ x low. get_or-replicate g x 1 0 (omega arith) }

@@ -2,8 +2,8 @@
 // model's definition of the call.
 #![tactic(auto)]
 
-ghost use Rattle.std.specs.Prelude.{◌≡◌, true, [], ℕ, ◌<◌, length};
-ghost use Rattle.model.specs.Table.{live};
+ghost use Rattle.std.specs.Prelude.{◌≡◌, true, [], ℕ, ◌*◌, ◌<◌, ◌≤◌, length};
+ghost use Rattle.model.specs.Table.{live, slots};
 ghost use Rattle.model.specs.Checks.{pass, in_order, unsew_checks};
 ghost use Rattle.model.specs.Calls.{unsew_call};
 ghost use Rattle.model.specs.Meaning.Sets.{Marked};
@@ -12,8 +12,8 @@ ghost use Rattle.sides.specs.Turns.{Linked};
 ghost use Rattle.answers.specs.Answers.{outcome};
 ghost use Rattle.call_unsew.specs.Marking.{Marking, Couple, Unsewn, Wide, Full};
 
-use answers::{Answer, numbers};
-use reading::{GROUP, LARGE, MIDDLE, SMALL};
+use answers::{Answer, Done, Reason};
+use reading::{LARGE, LARGE_GROUPS, MIDDLE, MIDDLE_GROUPS, SMALL, SMALL_GROUPS};
 
 // The dart x gets the mark 1; 0 if it has it already, else 1.
 fn mark(marks: &mut [u8], x: u32) -> u32
@@ -79,35 +79,34 @@ fn unsew_in(
 {
     let changes = mark_side(n, table, marks, i, d);
     if !journal::record_fits(journal, changes) {
-        return numbers::NO_ROOM;
+        return Err(Reason::NoRoom.into());
     }
     marked_links::write_marked(table, journal, marks, groups, i, false);
     drafts::carry_out(table, journal, changes, tag);
-    Answer {
-        number: 0,
+    Ok(Done {
         place: 0,
         count: changes,
-    }
+    })
 }
 
-// unsew on a larger table, where its checks have passed. As it calls itself it has a stack frame of its own, which small tables and
-// refusals do not pay for; the table fits, so it never does.
-fn unsew_large(n: u32, table: &mut [u32], journal: &mut [u32], tag: u32, i: u32, d: u32) -> Answer
-    requires { in_order (unsew_checks n table.old journal.old i d) ≡ pass }
+// The same with so many marks and groups. Each size has a stack frame of its own, which smaller tables and refusals do not
+// pay for.
+#[inline(never)]
+fn unsew_with<const SLOTS: usize, const GROUPS: usize>(
+    n: u32,
+    table: &mut [u32],
+    journal: &mut [u32],
+    tag: u32,
+    i: u32,
+    d: u32,
+) -> Answer
+    requires d_value { in_order (unsew_checks n table.old journal.old i d) ≡ pass }
+    requires room { (slots table.old ≤ SLOTS) × (SLOTS ≤ 65536) × (SLOTS ≡ 256 * GROUPS) }
     ensures { outcome result table.new [] journal.new
         ≡ unsew_call n table.old journal.old tag i d }
 {
-    if !reading::table_fits(table) {
-        unsew_large(n, table, journal, tag, i, d);
-        return numbers::WRONG_TABLE_LENGTH;
-    }
-    if table.len() <= 4 * MIDDLE {
-        let mut marks = [0u8; MIDDLE];
-        let groups = [1u8; MIDDLE / GROUP];
-        return unsew_in(n, table, journal, tag, i, d, &mut marks, &groups);
-    }
-    let mut marks = [0u8; LARGE];
-    let groups = [1u8; LARGE / GROUP];
+    let mut marks = [0u8; SLOTS];
+    let groups = [1u8; GROUPS];
     unsew_in(n, table, journal, tag, i, d, &mut marks, &groups)
 }
 
@@ -116,17 +115,15 @@ pub fn unsew(n: u32, table: &mut [u32], journal: &mut [u32], tag: u32, i: u32, d
     ensures { outcome result table.new [] journal.new
         ≡ unsew_call n table.old journal.old tag i d }
 {
-    let opened = answers::opening_side(n, table, reading::journal_fits(journal), i, d);
-    if opened.number != 0 {
-        return opened;
-    }
+    answers::opening_side(n, table, reading::journal_fits(journal), i, d)?;
     if reading::is_free(table, i, d) {
-        return numbers::FREE;
+        return Err(Reason::Free.into());
     }
     if table.len() <= 4 * SMALL {
-        let mut marks = [0u8; SMALL];
-        let groups = [1u8; SMALL / GROUP];
-        return unsew_in(n, table, journal, tag, i, d, &mut marks, &groups);
+        return unsew_with::<SMALL, SMALL_GROUPS>(n, table, journal, tag, i, d);
     }
-    unsew_large(n, table, journal, tag, i, d)
+    if table.len() <= 4 * MIDDLE {
+        return unsew_with::<MIDDLE, MIDDLE_GROUPS>(n, table, journal, tag, i, d);
+    }
+    unsew_with::<LARGE, LARGE_GROUPS>(n, table, journal, tag, i, d)
 }

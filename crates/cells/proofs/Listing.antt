@@ -1,5 +1,5 @@
 -- The listing of a cell: a step keeps a live slot at each place, and after all steps each place has its dart.
--- Main theorems: `start_listing`, `walked_listing`, `around_listing` and `spread_listing`; `listed_flat` and `listed_solid`;
+-- Main theorems: `walked_listing`, `around_listing` and `spread_listing`; `listed_flat` and `listed_solid`;
 -- `walk_starts`, `walk_next` and `walk_ends` (the loop of a walk).
 use Prim.Native.Nat.{ℕ, zero, suc, ◌+◌, ◌*◌, ◌-◌, ◌%◌, ◌^◌, ◌≤◌, ◌<◌}
 use mathlib.Core.Path.{◌≡◌, refl, ◌∙◌}
@@ -7,7 +7,7 @@ use mathlib.Core.Bool.{true}
 use mathlib.Core.List.{List}
 use native.Mathlib.Numerals.{add-one}
 use native.Mathlib.Omega.{arith}
-use lib.ListN.{length, get_or, set, length-set, length-replicate, get_or-replicate}
+use lib.ListN.{length, get_or, set, length-set}
 use lib.Seq.{get_or-set_same, get_or-set_other}
 use Rattle.model.specs.Table.{link, live}
 use Rattle.model.specs.Cell.{cell_size}
@@ -38,14 +38,6 @@ module _ {n : ℕ} {t : List ℕ} {d : ℕ} (D : MapDart n t d) where
 
   pub places_listing : Listing n t (places n t d)
   places_listing = record { table = D.table; long = places_length; lives = λ k l. rw (places_at k l) (place_live k l) }
-
-  pub start_listing : Listing n t (start n d)
-  unfolding start
-  start_listing = record {
-    table = D.table;
-    long = length-replicate (cell_size n) d;
-    lives = λ k l. rw (get_or-replicate (cell_size n) k d 0 l) D.lives;
-  }
 
 -- ---- steps
 

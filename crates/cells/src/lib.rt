@@ -1,12 +1,12 @@
 // One cell as a value: its darts listed by their places.
 #![tactic(auto)]
 
-ghost use Rattle.std.specs.Prelude.{◌≡◌, ◌^◌, ◌<◌, ◌≤◌, length, get_or};
+ghost use Rattle.std.specs.Prelude.{◌≡◌, ℕ, ◌^◌, ◌<◌, ◌≤◌, length, get_or};
 ghost use Rattle.model.specs.Cell.{cell_size};
 ghost use Rattle.model.specs.Numbering.{corners};
 ghost use Rattle.model.specs.Meaning.Maps.{Dim};
 ghost use Rattle.numbering.specs.Orders.{orders, place_of};
-ghost use Rattle.cells.specs.Listing.{MapDart, Listing, walked, around, spread, places};
+ghost use Rattle.cells.specs.Listing.{MapDart, Listing, walked, around, spread, start, places};
 
 use numbering::{next_order, next_vertex, place};
 use reading::link_in;
@@ -37,7 +37,7 @@ fn walk(
     let mut p = order;
     let mut s = vertex;
     let mut by = i;
-    for step in 0..count {
+    for _ in 0..count {
         let from = dart_at(n, cell, p, s);
         s = next_vertex(n, by, p, s);
         p = next_order(n, by, p);
@@ -46,15 +46,13 @@ fn walk(
     }
 }
 
-// The darts of the cell of d by their places, n = 2: both ways round the quad.
-pub fn cell_2d(table: &[u32], d: u32) -> [u32; 8]
-    requires { MapDart 2 table.now d }
-    ensures { result ≡ places 2 table.now d }
+// Lists a quad, both ways round: where each place held d, the darts of the cell of d.
+fn list_quad(table: &[u32], cell: &mut [u32])
+    requires { Listing 2 table.now cell.old }
+    ensures { (d : ℕ) → cell.old ≡ start 2 d → cell.new ≡ places 2 table.now d }
 {
-    let mut cell = [d; 8];
-    walk(2, table, &mut cell, 0, 0, 0, 1, 4);
-    walk(2, table, &mut cell, 0, 0, 1, 0, 3);
-    cell
+    walk(2, table, cell, 0, 0, 0, 1, 4);
+    walk(2, table, cell, 0, 0, 1, 0, 3);
 }
 
 // Lists the other orders at a vertex of a hexahedron, one of which is listed: `far` of the five by links 1, 2, 1, .., the others by
@@ -81,15 +79,28 @@ fn spread(table: &[u32], cell: &mut [u32], axis: u32, far: u32)
     }
 }
 
-// The darts of the cell of d by their places, n = 3: vertex by vertex, and round each by axis orders both ways up to zxy and zyx.
-pub fn cell_3d(table: &[u32], d: u32) -> [u32; 48]
-    requires { MapDart 3 table.now d }
-    ensures { result ≡ places 3 table.now d }
+// Lists a hexahedron, vertex by vertex, and round each by axis orders both ways up to zxy and zyx: where each place held d, the darts of
+// the cell of d.
+fn list_hexahedron(table: &[u32], cell: &mut [u32])
+    requires { Listing 3 table.now cell.old }
+    ensures { (d : ℕ) → cell.old ≡ start 3 d → cell.new ≡ places 3 table.now d }
 {
-    let mut cell = [d; 48];
-    around(table, &mut cell, 0, 0, 3);
-    spread(table, &mut cell, 0, 3);
-    spread(table, &mut cell, 1, 3);
-    spread(table, &mut cell, 2, 5);
+    around(table, cell, 0, 0, 3);
+    spread(table, cell, 0, 3);
+    spread(table, cell, 1, 3);
+    spread(table, cell, 2, 5);
+}
+
+// The darts of the cell of d by their places.
+pub fn cell<const N: u32, const SIZE: usize>(table: &[u32], d: u32) -> [u32; SIZE]
+    requires { (MapDart N table.now d) × (SIZE ≡ cell_size N) }
+    ensures { result ≡ places N table.now d }
+{
+    let mut cell = [d; SIZE];
+    if N == 3 {
+        list_hexahedron(table, &mut cell);
+    } else {
+        list_quad(table, &mut cell);
+    }
     cell
 }

@@ -32,6 +32,7 @@ pub fn write_slot(journal: &mut [u32], w: usize, x: u32, old: [u32; 4], new: [u3
     ensures { (t u j : List ℕ) → Pass t u j x w journal.old → FourLinks t u x old new
         → Pass t u j (x + 1) (w + 12) journal.new }
 {
+    // k stays a number: it is the link, and moves the word and the entry, so a zip of old and new would need it beside them.
     for k in 0..4 {
         write_triple(journal, w + 3 * k, 4 * x + k as u32, old[k], new[k]);
     }

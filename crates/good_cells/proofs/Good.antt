@@ -8,7 +8,8 @@ use mathlib.Core.Logic.{◌≢◌, inl, inr, ⊎_elim}
 use mathlib.Core.Bool.{Bool, true, false, not, ◌&&◌, ◌||◌}
 use mathlib.Core.List.{List}
 use native.Mathlib.Omega.{arith}
-use lib.ListN.{length, get_or}
+use lib.ListN.{length, get_or, take, drop, length-drop}
+use Rattle.std.proofs.Common.{length-take-le, get_or-drop, get_or-take}
 use lib.Dec.{eqb, ltb}
 use borrow.Author.Tests.{eqb-true, eq-eqb, ne_eqb, not-true}
 use Rattle.model.specs.Lists.{tabulate, all_below}
@@ -46,6 +47,18 @@ module _ (d : ℕ) (cell : List ℕ) where
   pub again : (k : ℕ) → 0 < k → get_or cell k 0 ≡ d → not_again d cell k ≡ false
   unfolding not_again
   again k some e = rw (ne_eqb k 0 (λ e. omega arith), eq-eqb _ _ e)
+
+  -- the places behind the first, as a slice has them
+  abbrev pub later : List ℕ
+  later = take (length cell - 1) (drop 1 cell)
+
+  pub later_length : length later ≡ length cell - 1
+  later_length = let tail = length-drop 1 cell in length-take-le (length cell - 1) (drop 1 cell) (omega arith)
+
+  pub later_at : (k : ℕ) → suc k < length cell → get_or later k 0 ≡ get_or cell (suc k) 0
+  later_at k l =
+      get_or-take (length cell - 1) (drop 1 cell) k 0 (omega arith) ∙ get_or-drop 1 cell k 0
+      ∙ ap (λ (j : ℕ). get_or cell j 0) (omega arith)
 
 -- ---- the links that are tested
 

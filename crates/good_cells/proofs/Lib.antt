@@ -1,3 +1,4 @@
 pub mod Good
+mod Ranges
 pub mod Sides
 pub mod Tested

@@ -2,12 +2,13 @@
 // folded.
 #![tactic(auto)]
 
-ghost use Rattle.std.specs.Prelude.{◌≡◌, ◌*◌, ◌<◌};
+ghost use Rattle.std.specs.Prelude.{◌≡◌, ◌*◌, ◌<◌, length};
 ghost use Rattle.model.specs.Cell.{cell_of, good_cell};
 ghost use Rattle.model.specs.Numbering.{corners};
+ghost use Rattle.model.specs.Meaning.Maps.{Dim};
 ghost use Rattle.numbering.specs.Orders.{orders, place_of};
 ghost use Rattle.cells.specs.Listing.{MapDart, Listing, places};
-ghost use Rattle.good_cells.specs.Good.{follows_at, follow_from, all_follow, only_first, side_of, is_straight, all_straight};
+ghost use Rattle.good_cells.specs.Good.{follows_at, follow_from, all_follow, only_first, side_size, side_of, is_straight, all_straight};
 
 use cells::dart_at;
 use numbering::{corners, next_order, next_vertex};
@@ -33,14 +34,9 @@ fn follow_from(n: u32, table: &[u32], cell: &[u32], i: u32, order: u32, first: u
     requires { (Listing n table.now cell.now) × (order < orders n) × (i < n) }
     ensures { result ≡ follow_from n table.now cell.now i order first }
 {
-    for vertex in first..corners(n) {
-        if next_vertex(n, i, order, vertex) >= vertex {
-            if !follows(n, table, cell, i, order, vertex) {
-                return false;
-            }
-        }
-    }
-    true
+    (first..corners(n)).all(|vertex| {
+        next_vertex(n, i, order, vertex) < vertex || follows(n, table, cell, i, order, vertex)
+    })
 }
 
 // Whether the links of a listed cell lead where the numbering says. Those that it was listed by do, and in a map links 0 and 2 commute.
@@ -50,28 +46,31 @@ fn all_follow(n: u32, table: &[u32], cell: &[u32]) -> bool
     requires { Listing n table.now cell.now }
     ensures { result ≡ all_follow n table.now cell.now }
 {
-    if !follow_from(n, table, cell, 0, 0, 2) {
-        return false;
-    }
-    if n == 2 {
-        return true;
-    }
-    if !follow_from(n, table, cell, 0, 2, 4) {
-        return false;
-    }
-    follow_from(n, table, cell, 2, 4, 0)
+    follow_from(n, table, cell, 0, 0, 2)
+        && (n == 2
+            || (follow_from(n, table, cell, 0, 2, 4) && follow_from(n, table, cell, 2, 4, 0)))
 }
 
 // Whether no place but the first holds d.
 fn only_first(d: u32, cell: &[u32]) -> bool
+    requires { 0 < length cell.now }
     ensures { result ≡ only_first d cell.now }
 {
-    for k in 1..cell.len() {
-        if cell[k] == d {
+    // a loop, since the calls in `contains` take 288 bytes of stack more, which the header does not give
+    for &x in &cell[1..] {
+        if x == d {
             return false;
         }
     }
     true
+}
+
+// The number of darts of a side.
+fn side_size(n: u32) -> u32
+    requires { Dim n }
+    ensures { result ≡ side_size n }
+{
+    if n == 3 { 8 } else { 2 }
 }
 
 // Whether link n leads from the first place of the k-th side to no other of it. An axis and a value of its bit have one side, which
@@ -84,9 +83,8 @@ fn is_straight(n: u32, table: &[u32], cell: &[u32], k: u32) -> bool
     let mut p = next_order(n, 2, next_order(n, 1, (n - 1) * axis));
     let mut s = (k % 2) << axis;
     let to = link_in(table, n as usize, dart_at(n, cell, p, s));
-    let size: u32 = if n == 3 { 8 } else { 2 };
     let mut by = 0;
-    for step in 1..size {
+    for _ in 1..side_size(n) {
         s = next_vertex(n, by, p, s);
         p = next_order(n, by, p);
         if dart_at(n, cell, p, s) == to {
@@ -102,40 +100,13 @@ fn all_straight(n: u32, table: &[u32], cell: &[u32]) -> bool
     requires { Listing n table.now cell.now }
     ensures { result ≡ all_straight n table.now cell.now }
 {
-    for k in 0..2 * n {
-        if !is_straight(n, table, cell, k) {
-            return false;
-        }
-    }
-    true
+    (0..2 * n).all(|k| is_straight(n, table, cell, k))
 }
 
 // Whether the cell of d, listed by its places, is good.
-fn is_good(n: u32, table: &[u32], d: u32, cell: &[u32]) -> bool
-    requires { (MapDart n table.now d) × (cell.now ≡ places n table.now d) }
-    ensures { result ≡ good_cell n table.now (cell_of n table.now d) }
+pub fn is_good<const N: u32, const SIZE: usize>(table: &[u32], d: u32, cell: [u32; SIZE]) -> bool
+    requires { (MapDart N table.now d) × (cell ≡ places N table.now d) }
+    ensures { result ≡ good_cell N table.now (cell_of N table.now d) }
 {
-    if !all_follow(n, table, cell) {
-        return false;
-    }
-    if !only_first(d, cell) {
-        return false;
-    }
-    all_straight(n, table, cell)
-}
-
-// Whether the cell of d is good, n = 2.
-pub fn is_good_2d(table: &[u32], d: u32, cell: [u32; 8]) -> bool
-    requires { (MapDart 2 table.now d) × (cell ≡ places 2 table.now d) }
-    ensures { result ≡ good_cell 2 table.now (cell_of 2 table.now d) }
-{
-    is_good(2, table, d, &cell)
-}
-
-// The same for n = 3.
-pub fn is_good_3d(table: &[u32], d: u32, cell: [u32; 48]) -> bool
-    requires { (MapDart 3 table.now d) × (cell ≡ places 3 table.now d) }
-    ensures { result ≡ good_cell 3 table.now (cell_of 3 table.now d) }
-{
-    is_good(3, table, d, &cell)
+    all_follow(N, table, &cell) && only_first(d, &cell) && all_straight(N, table, &cell)
 }

@@ -10,8 +10,7 @@ use Rattle.model.specs.Runs.{begin}
 use Rattle.model.specs.Text.{bytes, said}
 use Rattle.model.specs.Session.{answered}
 use Rattle.model.specs.Import.{longest_text, to_lines, map_lines, told, imported}
-use Rattle.answers.specs.declared.Answer.{Answer}
-use Rattle.answers.specs.Answers.{outcome}
+use Rattle.answers.specs.Answers.{Answer, number, count, outcome}
 use Rattle.texts.specs.Texts.{Appended}
 
 begun_table : (s w : ℕ) → (begin s w).table ≡ replicate (4 * s) 4294967295
@@ -35,7 +34,7 @@ unfolding told
 told_accepted o h = rw (h, told)
 
 -- what a call on an empty table and a fresh journal gives is told
-module _ {r : Answer} {t u j k : List ℕ} (text : List ℕ) {s w : ℕ} (short : length text ≤ longest_text)
+module _ (r : Answer) {t u j k : List ℕ} (text : List ℕ) {s w : ℕ} (short : length text ≤ longest_text)
     (empty : t ≡ replicate s 4294967295) (slots : s ≡ 262144) (fresh : j ≡ (begin 0 w).journal) (words : w ≡ 786437)
     (call : outcome r u [] k ≡ vtk_call 3 t j 0 text) where
   given_told : told (outcome r u [] k) ≡ imported text
@@ -45,13 +44,13 @@ module _ {r : Answer} {t u j k : List ℕ} (text : List ℕ) {s w : ℕ} (short 
       let journal : j ≡ (begin 65536 786437).journal = fresh ∙ ap (λ (n : ℕ). (begin 0 n).journal) words ∙ begun_journal 65536 786437 in
       rw (le-leb (length text) longest_text short, imported) (ap told call ∙ rw (table, journal))
 
-  pub refused_whole : {out out' : List ℕ} {at : ℕ} → r.number ≢ 0 → Appended out 0 (answered (outcome r [] [] [])) out' at
+  pub refused_whole : {out out' : List ℕ} {at : ℕ} → number r ≢ 0 → Appended out 0 (answered (outcome r [] [] [])) out' at
       → take at out' ++ to_lines 0 0 u ≡ imported text
   unfolding to_lines answered
   refused_whole no_zero a = rw (a.holds, append-nil) (sym (told_refused (outcome r u [] k) no_zero) ∙ given_told)
 
-  pub accepted_whole : {out out' : List ℕ} {at : ℕ} → r.number ≡ 0
-      → Appended out 0 (said (bytes "dim=") 3 ++ said (bytes "slots=") r.count) out' at
-      → take at out' ++ to_lines r.count 0 u ≡ imported text
+  pub accepted_whole : {out out' : List ℕ} {at : ℕ} → number r ≡ 0
+      → Appended out 0 (said (bytes "dim=") 3 ++ said (bytes "slots=") (count r)) out' at
+      → take at out' ++ to_lines (count r) 0 u ≡ imported text
   unfolding map_lines
   accepted_whole is_zero a = rw (a.holds, append_assoc) (sym (told_accepted (outcome r u [] k) is_zero) ∙ given_told)

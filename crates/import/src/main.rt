@@ -26,18 +26,17 @@ fn first(text: &[u8], table: &mut [u32], journal: &mut [u32], out: &mut [u8]) ->
     ensures { (result.at ≤ length out.new)
         × (take result.at out.new ++ to_lines result.slots 0 table.new ≡ imported text.now) }
 {
-    fresh::fill_words(table, UNUSED);
+    table.fill(UNUSED);
     fresh::fresh_journal(journal);
-    let given = kernel::read_vtk(3, table, journal, 0, text);
-    if given.number != 0 {
-        return Begun {
-            at: printing::answer(out, 0, given),
+    match kernel::read_vtk(3, table, journal, 0, text) {
+        Ok(done) => Begun {
+            at: printing::map_head(out, 0, 3, done.count),
+            slots: done.count,
+        },
+        Err(refused) => Begun {
+            at: printing::answer(out, 0, Err(refused)),
             slots: 0,
-        };
-    }
-    Begun {
-        at: printing::map_head(out, 0, 3, given.count),
-        slots: given.count,
+        },
     }
 }
 
@@ -48,20 +47,13 @@ fn put(out: &[u8], end: usize) -> bool
     io::write_all(1, &out[..end])
 }
 
-// How many of the slots that are left have their lines in the next piece.
-fn part(left: u32) -> u32
-    ensures { (result ≤ left) × (result ≤ 512) × (0 < left → 0 < result) }
-{
-    if left < SLOTS { left } else { SLOTS }
-}
-
 // Writes the lines of so many slots. After a write that fails nothing more is done.
 fn write_lines(table: &[u32], slots: u32, out: &mut [u8])
     requires { 49152 ≤ length out.old }
 {
     let mut a = 0;
     while a < slots {
-        let k = part(slots - a);
+        let k = SLOTS.min(slots - a);
         let end = printing::to_lines(out, 0, table, a, k);
         if !put(out, end) {
             return;
@@ -110,28 +102,17 @@ fn run(text: &mut [u8], table: &mut [u32], journal: &mut [u32], out: &mut [u8])
     tell(&text[..n], table, journal, out);
 }
 
-fn text_buffer() -> [u8; 2097152]
-    ensures { 2097152 ≡ length result }
+// A buffer of equal words; its length is told here, so that nothing counts them.
+fn buffer<T: Copy, const N: usize>(word: T) -> [T; N]
+    ensures { N ≡ length result }
 {
-    [0; 2097152]
-}
-
-fn table_buffer() -> [u32; 262144]
-    ensures { 262144 ≡ length result }
-{
-    [0; 262144]
-}
-
-fn journal_buffer() -> [u32; 786437]
-    ensures { 786437 ≡ length result }
-{
-    [0; 786437]
+    [word; N]
 }
 
 fn main() {
-    let mut text = text_buffer();
-    let mut table = table_buffer();
-    let mut journal = journal_buffer();
+    let mut text: [u8; 2097152] = buffer(0);
+    let mut table: [u32; 262144] = buffer(0);
+    let mut journal: [u32; 786437] = buffer(0);
     let mut out = [0u8; BYTES];
     run(&mut text, &mut table, &mut journal, &mut out);
 }

@@ -1,18 +1,18 @@
 -- The tests by which a record is broken: of a change (`sound_low` to `sound_differs`), of the changes one after another
 -- (`sound_stops`, `sound_goes`), of a record (`unbroken_tested`), and what they say where all are passed (`sound_within`).
-use Prim.Native.Nat.{ℕ, zero, suc, ◌+◌, ◌*◌, ◌-◌, ◌≤◌, ◌<◌}
+use Prim.Native.Nat.{ℕ, suc, ◌+◌, ◌*◌, ◌≤◌, ◌<◌}
 use mathlib.Core.Path.{◌≡◌, refl, ◌∙◌}
 use mathlib.Core.Bool.{Bool, true, false, not, ◌&&◌}
 use mathlib.Core.List.{List, [], ◌∷◌}
 use native.Mathlib.Numerals.{add-one}
-use lib.ListN.{length, get_or, drop}
+use lib.ListN.{length, get_or}
 use lib.Dec.{leb, ltb, eqb}
 use borrow.Author.Tests.{le-leb, lt-leb, lt-ltb, le-ltb, eq-eqb, ne_eqb}
-use Rattle.model.specs.Journal.{Change, end, record_length, read_changes, changes_at, sound, unbroken}
+use Rattle.model.specs.Journal.{Change, end, record_length, changes_at, sound, unbroken}
 use Rattle.theorems.proofs.Lists.Scan.{and_i}
 use Rattle.theorems.proofs.History.Sound.{first_sound}
 use Rattle.journal.specs.Records.{change_at, value_put, within}
-use Rattle.journal.proofs.Puts.{read_next}
+use Rattle.journal.proofs.Puts.{rest_from, rest_next}
 
 -- the tests of a change, and of those behind it
 sound_tests : (redo : Bool) (t : List ℕ) (e : ℕ) (c : Change) (cs : List Change) → sound redo t e (c ∷ cs)
@@ -70,22 +70,22 @@ module _ (redo : Bool) (t j : List ℕ) (a k : ℕ) where
   unbroken_tested some low fits counts r h =
       rw (h, ne_eqb k 0 some, le-leb 2 a low, le-leb (a + record_length k) (end j) fits, eq-eqb _ _ counts)
 
--- ---- a turn of the loop over the triples: the one at the word w, of as many as are left
+-- ---- a turn of the loop over the triples of the record of k changes at the word a
 
-module _ (j : List ℕ) (w left : ℕ) (some : zero < left) where
-  sound_turn : (redo : Bool) (t : List ℕ) (e : ℕ) → sound redo t e (read_changes left (drop w j))
-      ≡ (sound redo t e (change_at j w ∷ []) && sound redo t (suc (get_or j w 0)) (read_changes (left - 1) (drop (w + 3) j)))
+module _ (j : List ℕ) (a k i : ℕ) (low : i < k) where
+  sound_turn : (redo : Bool) (t : List ℕ) (e : ℕ) → sound redo t e (rest_from j a k i)
+      ≡ (sound redo t e (change_at j (a + 2 + 3 * i) ∷ []) && sound redo t (suc (get_or j (a + 2 + 3 * i) 0)) (rest_from j a k (i + 1)))
   unfolding change_at
-  sound_turn redo t e = rw (read_next j w left some) (sound_next redo t e (change_at j w) _)
+  sound_turn redo t e = rw (rest_next j a k i low) (sound_next redo t e (change_at j (a + 2 + 3 * i)) _)
 
   -- r is what the test of the change gave
-  module _ (redo : Bool) (t : List ℕ) (e : ℕ) (r : Bool) (tested : r ≡ sound redo t e (change_at j w ∷ [])) where
-    pub sound_stops : r ≡ false → sound redo t e (read_changes left (drop w j)) ≡ false
+  module _ (redo : Bool) (t : List ℕ) (e : ℕ) (r : Bool) (tested : r ≡ sound redo t e (change_at j (a + 2 + 3 * i) ∷ [])) where
+    pub sound_stops : r ≡ false → sound redo t e (rest_from j a k i) ≡ false
     sound_stops h = sound_turn redo t e ∙ rw (← tested, h)
 
     pub sound_goes : r ≡ true
-        → sound redo t e (read_changes left (drop w j)) ≡ sound redo t (get_or j w 0 + 1) (read_changes (left - 1) (drop (w + 3) j))
-    sound_goes h = sound_turn redo t e ∙ rw (← tested, h, add-one)
+        → sound redo t e (rest_from j a k i) ≡ sound redo t (get_or j (a + 2 + 3 * i) 0 + 1) (rest_from j a k (i + 1))
+    sound_goes h = sound_turn redo t e ∙ rw (← tested, h, add-one (get_or j (a + 2 + 3 * i) 0))
 
 -- ---- what the tests say where all are passed
 

@@ -1,6 +1,6 @@
--- Putting the values of a record, one change after another: `read_next` takes the first of those that are left, `put_turn` and
--- `within_turn` are a turn of the loop.
-use Prim.Native.Nat.{ℕ, zero, suc, ◌+◌, ◌-◌, ◌<◌}
+-- Putting the values of a record, one change after another: `rest_from` has those that are left (`rest_first`, `rest_next`, `rest_none`),
+-- `put_turn` and `within_turn` are a turn of the loop.
+use Prim.Native.Nat.{ℕ, zero, suc, ◌+◌, ◌*◌, ◌-◌, ◌≤◌, ◌<◌}
 use mathlib.Core.Path.{◌≡◌, refl, sym, ap, ◌∙◌}
 use mathlib.Core.Bool.{Bool, true, false}
 use mathlib.Core.List.{List, [], ◌∷◌}
@@ -9,7 +9,7 @@ use lib.ListN.{length, get_or, set, drop, length-set}
 use lib.Seq.{get_or-drop, drop-drop}
 use lib.Dec.{ltb}
 use borrow.Author.Tests.{ltb-true}
-use Rattle.model.specs.Journal.{Change, read_changes, put_new, put_old, put}
+use Rattle.model.specs.Journal.{Change, read_changes, changes_at, put_new, put_old, put}
 use Rattle.theorems.proofs.Lists.Scan.{and_l, and_r}
 use Rattle.journal.specs.Records.{change_at, value_put, within}
 
@@ -42,15 +42,36 @@ put_length redo (c ∷ cs) t =
     let v = value_put redo c in
     ap length (put_next redo c cs t) ∙ put_length redo cs (set t c.entry v) ∙ length-set t c.entry v
 
--- ---- a turn of a loop over the triples: the one at the word w, of as many as are left
+-- ---- a turn of a loop over the triples of the record of k changes at the word a
 
-module _ (j : List ℕ) (w left : ℕ) (some : zero < left) where
-  pub put_turn : (redo : Bool) (t : List ℕ) (v : ℕ) → v ≡ value_put redo (change_at j w)
-      → put redo (read_changes (left - 1) (drop (w + 3) j)) (set t (get_or j w 0) v) ≡ put redo (read_changes left (drop w j)) t
-  unfolding change_at
-  put_turn redo t v h = rw (h, read_next j w left some) (sym (put_next redo (change_at j w) _ t))
+-- the changes from the turn i on
+abbrev pub rest_from : List ℕ → ℕ → ℕ → ℕ → List Change
+rest_from j a k i = read_changes (k - i) (drop (a + 2 + 3 * i) j)
 
-  pub within_turn : (n : ℕ) → within n (read_changes left (drop w j)) ≡ true
-      → (get_or j w 0 < n) × (within n (read_changes (left - 1) (drop (w + 3) j)) ≡ true)
+module _ (j : List ℕ) (a k i : ℕ) where
+  pub rest_first : i ≡ 0 → rest_from j a k i ≡ changes_at j a k
+  unfolding changes_at
+  rest_first e =
+      let p : k - i ≡ k = omega arith in
+      let q : a + 2 + 3 * i ≡ a + 2 = omega arith in
+      rw (p, q)
+
+  pub rest_next : i < k → rest_from j a k i ≡ change_at j (a + 2 + 3 * i) ∷ rest_from j a k (i + 1)
+  rest_next low =
+      let p : k - i - 1 ≡ k - (i + 1) = omega arith in
+      let q : a + 2 + 3 * i + 3 ≡ a + 2 + 3 * (i + 1) = omega arith in
+      rw (p, q) at (read_next j (a + 2 + 3 * i) (k - i) (omega arith))
+
+  pub rest_none : k ≤ i → rest_from j a k i ≡ []
+  unfolding read_changes
+  rest_none high = let p : k - i ≡ 0 = omega arith in rw p
+
+  pub put_turn : i < k → (redo : Bool) (t : List ℕ) (v : ℕ) → v ≡ value_put redo (change_at j (a + 2 + 3 * i))
+      → put redo (rest_from j a k (i + 1)) (set t (get_or j (a + 2 + 3 * i) 0) v) ≡ put redo (rest_from j a k i) t
   unfolding change_at
-  within_turn n h = within_next n (change_at j w) _ (rw (read_next j w left some) at h)
+  put_turn low redo t v h = rw (h, rest_next low) (sym (put_next redo (change_at j (a + 2 + 3 * i)) _ t))
+
+  pub within_turn : i < k → (n : ℕ) → within n (rest_from j a k i) ≡ true
+      → (get_or j (a + 2 + 3 * i) 0 < n) × (within n (rest_from j a k (i + 1)) ≡ true)
+  unfolding change_at
+  within_turn low n h = within_next n (change_at j (a + 2 + 3 * i)) _ (rw (rest_next low) at h)

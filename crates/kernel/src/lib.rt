@@ -1,6 +1,7 @@
-// The calls, each exported from its crate.
+// The calls, each exported from its crate, and what they give.
 #![tactic(auto)]
 
+pub use answers::{Answer, Done, Reason, Refused, Told};
 pub use call_add::add;
 pub use call_check::check;
 pub use call_insert::insert;

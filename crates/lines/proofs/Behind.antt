@@ -1,26 +1,39 @@
 -- The value behind a key.
-use Prim.Native.Nat.{ℕ, ◌-◌, ◌≤◌}
-use mathlib.Core.Path.{◌≡◌}
-use mathlib.Core.Bool.{true, false}
-use mathlib.Core.List.{List}
+use Prim.Native.Nat.{ℕ}
+use mathlib.Core.Path.{◌≡◌, refl, sym, ◌∙◌}
+use mathlib.Core.Bool.{Bool, true, false}
+use mathlib.Core.List.{List, [], ◌∷◌}
 use mathlib.Core.Option.{Option, none}
-use native.Mathlib.Omega.{arith}
-use lib.ListN.{length, take, drop, length-drop}
-use lib.Seq.{take_all}
+use lib.ListN.{length, take, drop}
+use lib.Dec.{eqb}
+use Rattle.std.specs.Cmp.Lexicographic.{pointwise}
+use Rattle.model.specs.Lists.{equal}
 use Rattle.model.specs.Text.{begins}
 use Rattle.model.specs.Session.{behind}
-use Rattle.theorems.proofs.Lists.Scan.{clash, if_lt}
-use Rattle.texts.proofs.Comparing.{short_begins}
+use Rattle.theorems.proofs.Lists.Scan.{test}
+use Rattle.theorems.proofs.History.Record.{eqb_comm}
+use Rattle.texts.proofs.Comparing.{equal_pointwise}
 
-pub key_length : (key xs : List ℕ) → begins key xs ≡ true → length key ≤ length xs
-key_length key xs e = if_lt (length xs) (length key) (λ h. absurd (clash e (short_begins key xs h))) (λ h. h)
+equal_back : (xs ys : List ℕ) → equal ys xs ≡ equal xs ys
+unfolding equal
+equal_back [] [] = refl
+equal_back [] (y ∷ ys) = refl
+equal_back (x ∷ xs) [] = refl
+equal_back (x ∷ xs) (y ∷ ys) =
+    test (eqb x y)
+    (λ e. let f : eqb y x ≡ true = eqb_comm x y ∙ e in rw (equal, e, f) (equal_back xs ys))
+    (λ e. let f : eqb y x ≡ false = eqb_comm x y ∙ e in rw (equal, e, f))
 
 module _ (key : List ℕ) (value : List ℕ → Option ℕ) (xs : List ℕ) where
-  pub behind_other : begins key xs ≡ false → none ≡ behind key value xs
+  starts : (b : Bool) → pointwise eqb (take (length key) xs) key ≡ b → begins key xs ≡ b
+  unfolding begins
+  starts b e = equal_back (take (length key) xs) key ∙ sym (equal_pointwise (take (length key) xs) key) ∙ e
+
+  pub behind_other : pointwise eqb (take (length key) xs) key ≡ false → none ≡ behind key value xs
   unfolding behind
-  behind_other e = rw (e, behind)
+  behind_other e = rw (starts false e, behind)
 
   -- the part of the line from the key on
-  pub behind_key : begins key xs ≡ true → value (take (length xs - length key) (drop (length key) xs)) ≡ behind key value xs
+  pub behind_key : pointwise eqb (take (length key) xs) key ≡ true → value (drop (length key) xs) ≡ behind key value xs
   unfolding behind
-  behind_key e = rw (e, behind, take_all (length xs - length key) (drop (length key) xs) (simp length-drop (omega arith)))
+  behind_key e = rw (starts true e, behind)

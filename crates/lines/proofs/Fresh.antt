@@ -8,8 +8,7 @@ use lib.Seq.{take_at, length-take-le}
 use Rattle.model.specs.Table.{slots}
 use Rattle.model.specs.Calls.{Outcome}
 use Rattle.model.specs.Runs.{begin}
-use Rattle.answers.specs.declared.Answer.{Answer}
-use Rattle.answers.specs.Answers.{outcome}
+use Rattle.answers.specs.Answers.{Answer, outcome}
 use Rattle.lines.specs.Held.{lent}
 
 pub part_back : (k : ℕ) (t p : List ℕ) → k ≤ length t → length p ≡ length (take k t) → take k (p ++ drop k t) ≡ p

@@ -2,7 +2,7 @@
 use Prim.Native.Nat.{ℕ, suc, ◌+◌, ◌*◌, ◌-◌, ◌^◌, ◌<◌, ◌≤◌}
 use mathlib.Core.Path.{◌≡◌, refl, sym, ap, ◌∙◌}
 use mathlib.Core.Logic.{◌≢◌}
-use mathlib.Core.Bool.{Bool, true, ◌&&◌}
+use mathlib.Core.Bool.{Bool, true, false, ◌&&◌}
 use mathlib.Core.List.{List, [], ◌∷◌}
 use mathlib.Core.Option.{Option, none}
 use native.Mathlib.Omega.{arith}
@@ -11,10 +11,19 @@ use lib.ListN.{length, take, drop, length-drop}
 use lib.Seq.{take_all, length-take-le}
 use lib.Dec.{leb, eqb}
 use borrow.Author.Tests.{lt-leb, leb-true, eqb-false}
+use Rattle.model.specs.Lists.{equal}
 use Rattle.model.specs.Text.{begins, is_digit, digits, number, up_to}
 use Rattle.model.specs.Session.{Due, dim_due, slots_due, op_due, i_due, d_due, e_due, names, place_from, behind, reads}
 use Rattle.theorems.proofs.Lists.Scan.{test, if_lt, and_l, and_r}
-use Rattle.texts.proofs.Comparing.{equal_lengths}
+
+-- texts of other lengths are other texts
+equal_lengths : (xs ys : List ℕ) → length xs ≢ length ys → equal xs ys ≡ false
+unfolding equal
+equal_lengths [] [] h = absurd (h refl)
+equal_lengths [] (y ∷ ys) h = refl
+equal_lengths (x ∷ xs) [] h = refl
+equal_lengths (x ∷ xs) (y ∷ ys) h =
+    test (eqb x y) (λ e. rw (e, equal) (equal_lengths xs ys (λ p. h (ap suc p)))) (λ e. rw (e, equal))
 
 -- ---- a number with many digits is large
 

@@ -10,21 +10,32 @@ use native.Mathlib.Numerals.{add-one}
 use lib.ListN.{length, take, set}
 use lib.Seq.{take-suc-set, length-take-le}
 use lib.Dec.{leb}
+use denote.Enum.Bare.{sameb}
 use borrow.Author.Tests.{lt-ltb, le-ltb, leb-true, ne_eqb}
 use Rattle.model.specs.Calls.{Outcome}
 use Rattle.model.specs.Runs.{do_call, begin}
 use Rattle.model.specs.Text.{bytes, newline, begins, number, up_to, said}
 use Rattle.model.specs.Session.{call_of, session_tag, behind, reads, left, taken, answered, printed, ending, bad, closing}
 use Rattle.theorems.proofs.Lists.Scan.{test, clash}
-use Rattle.answers.specs.declared.Answer.{Answer}
-use Rattle.answers.specs.Answers.{outcome}
+use Rattle.answers.specs.Answers.{Answer, outcome}
 use Rattle.texts.specs.Texts.{Appended}
 use Rattle.texts.proofs.Writing.{appended_none}
 use Rattle.lines.specs.declared.Key.{Key}
 use Rattle.lines.specs.declared.Key.TheVariants.{Dim, Slots, Op, I, D, E}
+use Rattle.lines.specs.contracts.Key.{the_type}
 use Rattle.lines.specs.declared.Session.{Session}
 use Rattle.lines.specs.Machine.{reading, hold, next, prints, fed, says, ends}
 use Rattle.lines.specs.Held.{lent, due_at, due_of, at_op, unless, machine_of, Kept, noted_at, Fits, Noted, Told}
+
+-- the library's comparison with `Op`
+pub at_op_same : (k : Key) → at_op k ≡ sameb the_type k Op
+unfolding at_op
+at_op_same Dim = refl
+at_op_same Slots = refl
+at_op_same Op = refl
+at_op_same I = refl
+at_op_same D = refl
+at_op_same E = refl
 
 -- ---- a byte is held
 

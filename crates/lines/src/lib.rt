@@ -7,15 +7,13 @@ ghost use Rattle.model.specs.Text.{newline};
 ghost use Rattle.model.specs.Session.{session};
 ghost use Rattle.texts.specs.Texts.{Appended};
 ghost use Rattle.lines.specs.Machine.{start, hold, fed, says, fed_all, says_all, ends};
-ghost use Rattle.lines.specs.Held.{at_op, machine_of, Room, Kept, Told};
+ghost use Rattle.lines.specs.Held.{machine_of, Room, Kept, Told};
 
 mod giving;
 mod taking;
 
-use texts::Given;
-
 // The key of the line that is due.
-#[derive(Clone, Copy)]
+#[derive(Clone, Copy, PartialEq, Eq)]
 pub enum Key {
     Dim,
     Slots,
@@ -97,22 +95,18 @@ fn line_ended(
         result text.now table.new marks.new journal.new
         out.old at out.new }
 {
-    let held = s.held;
-    let key = s.key;
-    match giving::given(key, &text[..held]) {
-        Given::Value(v) => {
+    match giving::given(s.key, &text[..s.held]) {
+        Some(v) => {
             let end = taking::done(s, v, table, marks, journal, out, at);
             Step {
                 session: taking::noted(s, v),
                 at: end,
             }
         }
-        Given::Unfit => {
+        None => {
             let end = texts::say(out, at, b"bad=", s.line);
-            let mut stopped = s;
-            stopped.done = true;
             Step {
-                session: stopped,
+                session: Session { done: true, ..s },
                 at: end,
             }
         }
@@ -139,16 +133,15 @@ fn feed_byte(
         out.old at out.new }
 {
     if s.done {
-        return Step { session: s, at: at };
+        return Step { session: s, at };
     }
     if b == b'\n' {
         return line_ended(s, text, table, marks, journal, out, at);
     }
-    let mut longer = s;
-    longer.held = hold(text, s.held, b);
+    let held = hold(text, s.held, b);
     Step {
-        session: longer,
-        at: at,
+        session: Session { held, ..s },
+        at,
     }
 }
 
@@ -176,36 +169,11 @@ pub fn feed(
         result text.new table.new marks.new journal.new
         out.old at out.new }
 {
-    let mut step = Step { session: s, at: at };
-    let mut k = 0;
-    while k < piece.len() {
-        step = feed_byte(
-            step.session,
-            piece[k],
-            text,
-            table,
-            marks,
-            journal,
-            out,
-            step.at,
-        );
-        k += 1;
+    let mut step = Step { session: s, at };
+    for &b in piece {
+        step = feed_byte(step.session, b, text, table, marks, journal, out, step.at);
     }
     step
-}
-
-// Whether `op=` is due.
-fn at_op(key: Key) -> bool
-    ensures { result ≡ at_op key }
-{
-    match key {
-        Key::Op => true,
-        Key::Dim => false,
-        Key::Slots => false,
-        Key::I => false,
-        Key::D => false,
-        Key::E => false,
-    }
 }
 
 // The input has ended: it is whole if it ends before an `op=`.
@@ -217,11 +185,7 @@ pub fn finish(s: Session, table: &[u32], out: &mut [u8], at: usize) -> usize
     if s.done {
         return at;
     }
-    if s.held != 0 {
-        return texts::say(out, at, b"bad=", s.line);
-    }
-    let key = s.key;
-    if !at_op(key) {
+    if s.held != 0 || s.key != Key::Op {
         return texts::say(out, at, b"bad=", s.line);
     }
     let end = 4 * s.slots;

@@ -16,8 +16,8 @@ fn fresh(slots: usize, table: &mut [u32], marks: &mut [u8], journal: &mut [u32])
     ensures { lent slots table.new marks.new journal.new ≡ begin slots 16384 }
 {
     let end = 4 * slots;
-    fresh::fill_words(&mut table[..end], reading::UNUSED);
-    fresh::fill_bytes(&mut marks[..slots], 0);
+    table[..end].fill(reading::UNUSED);
+    marks[..slots].fill(0);
     fresh::fresh_journal(journal);
 }
 
@@ -57,15 +57,10 @@ fn due(s: Session, key: Key) -> Session
     ensures { result ≡ due s key }
 {
     Session {
-        done: s.done,
         line: s.line + 1,
         held: 0,
-        key: key,
-        n: s.n,
-        slots: s.slots,
-        op: s.op,
-        i: s.i,
-        d: s.d,
+        key,
+        ..s
     }
 }
 
@@ -74,33 +69,27 @@ pub fn noted(s: Session, v: u32) -> Session
     requires { s.line < 18446744073709551615 }
     ensures { result ≡ noted_at s.key s v }
 {
-    let key = s.key;
-    match key {
-        Key::Dim => {
-            let mut r = due(s, Key::Slots);
-            r.n = v;
-            r
-        }
-        Key::Slots => {
-            let mut r = due(s, Key::Op);
-            r.slots = v as usize;
-            r
-        }
-        Key::Op => {
-            let mut r = due(s, Key::I);
-            r.op = v;
-            r
-        }
-        Key::I => {
-            let mut r = due(s, Key::D);
-            r.i = v;
-            r
-        }
-        Key::D => {
-            let mut r = due(s, Key::E);
-            r.d = v;
-            r
-        }
+    match s.key {
+        Key::Dim => Session {
+            n: v,
+            ..due(s, Key::Slots)
+        },
+        Key::Slots => Session {
+            slots: v as usize,
+            ..due(s, Key::Op)
+        },
+        Key::Op => Session {
+            op: v,
+            ..due(s, Key::I)
+        },
+        Key::I => Session {
+            i: v,
+            ..due(s, Key::D)
+        },
+        Key::D => Session {
+            d: v,
+            ..due(s, Key::E)
+        },
         Key::E => due(s, Key::Op),
     }
 }
@@ -121,8 +110,7 @@ pub fn done(
     ensures { Noted s v table.old marks.old journal.old table.new
         marks.new journal.new out.old at out.new result }
 {
-    let key = s.key;
-    match key {
+    match s.key {
         Key::Slots => {
             fresh(v as usize, table, marks, journal);
             at
@@ -131,9 +119,6 @@ pub fn done(
             let answer = ask(s, v, table, marks, journal);
             printing::answer(out, at, answer)
         }
-        Key::Dim => at,
-        Key::Op => at,
-        Key::I => at,
-        Key::D => at,
+        Key::Dim | Key::Op | Key::I | Key::D => at,
     }
 }

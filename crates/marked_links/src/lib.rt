@@ -7,11 +7,13 @@ ghost use Rattle.scans.specs.Clear.{Grouped, Skips};
 ghost use Rattle.drafts.specs.Drafts.{drafted};
 ghost use Rattle.marked_links.specs.Marked.{before, after, MarkedRecord, SomeMarkedRecord, MarkedPass, ToMarked, ToSome};
 
-// x where it holds, else y.
-fn pick(holds: bool, x: u32, y: u32) -> u32
-    ensures { result ≡ elim holds [ true ↦ x | false ↦ y ] }
+// A link and the one that takes its place: where it sews, from the dart x itself to y, else back.
+// sews stays a bool here and below: it is the Bool of `before` and `after`, which the clauses of all these functions name.
+fn old_and_new(sews: bool, x: u32, y: u32) -> (u32, u32)
+    ensures old { result.0 ≡ elim sews [ true ↦ x | false ↦ y ] }
+    ensures new { result.1 ≡ elim sews [ true ↦ y | false ↦ x ] }
 {
-    if holds { x } else { y }
+    if sews { (x, y) } else { (y, x) }
 }
 
 // A pass of that record comes to the slot x, with the next triple at the word w: where x is marked, the triple is written; the word of
@@ -33,7 +35,8 @@ fn write_one(
         return w;
     }
     let y = reading::link_in(table, i as usize, x);
-    drafts::write_link(journal, w, x, i, pick(sews, x, y), pick(sews, y, x));
+    let (old, new) = old_and_new(sews, x, y);
+    drafts::write_link(journal, w, x, i, old, new);
     w + 3
 }
 
@@ -64,7 +67,7 @@ fn block_end(x: usize, end: usize) -> usize
     requires { x < end }
     ensures { (x < result) × (result ≤ end) }
 {
-    if end - x < 32 { end } else { x + 32 }
+    x + (end - x).min(32)
 }
 
 // From y on past marks that are 0, but not where y is the end of all slots.

@@ -122,8 +122,8 @@ module _ {n : ℕ} {insert : Bool} {t : List ℕ} {M : Made} {nexts darts fresh 
         (slot_low n dim i size r low b, two_cases n dim (λ n. n * size ≤ 196608) (omega arith) (omega arith))
 
     -- behind the last role of a dart the first of the next one
-    pub new_next_dart : (i r : ℕ) → r + 1 ≡ n → n * i + r + 1 ≡ n * (i + 1) + 0
-    new_next_dart = two_cases n dim (λ n. (i r : ℕ) → r + 1 ≡ n → n * i + r + 1 ≡ n * (i + 1) + 0)
+    pub new_next_dart : (i r : ℕ) → r ≡ n → n * i + r ≡ n * (i + 1)
+    new_next_dart = two_cases n dim (λ n. (i r : ℕ) → r ≡ n → n * i + r ≡ n * (i + 1))
         (λ i r e. omega arith) (λ i r e. omega arith)
 
     pub role_at : (i r : ℕ) → i < size → r < n → Role n insert t M fresh places nexts r (get_or darts i 0)

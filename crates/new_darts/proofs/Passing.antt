@@ -1,7 +1,7 @@
 -- The pass along the two lists that drafts the record: it begins (`draft_none`), comes to an old dart (`draft_dart`,
 -- `draft_dart_more`) or to a new one (`draft_new`, `draft_new_more`), and ends (`draft_all`).
 use Prim.Native.Nat.{ℕ, ◌+◌, ◌-◌, ◌*◌, ◌≤◌, ◌<◌}
-use mathlib.Core.Path.{◌≡◌, refl, sym, ap}
+use mathlib.Core.Path.{◌≡◌, refl, sym, ap, subst}
 use mathlib.Core.Bool.{Bool}
 use mathlib.Core.List.{List}
 use native.Mathlib.Omega.{arith}
@@ -28,8 +28,8 @@ module _ {n : ℕ} {insert : Bool} {t : List ℕ} {M : Made} {nexts darts fresh 
           from = 0;
           inside = omega arith;
           pass = pass_start (sym S.long) B.whole B.few W.fits;
-          old = record { below = λ k h. absurd (omega arith); above = λ k a h. omega arith };
-          new = record { below = λ k h. absurd (omega arith); above = λ k a h. omega arith };
+          old = record { within = omega arith; below = λ k h. absurd (omega arith); above = λ k a h. omega arith };
+          new = record { within = omega arith; below = λ k h. absurd (omega arith); above = λ k a h. omega arith };
         }
 
 module _ {n : ℕ} {insert : Bool} {t : List ℕ} {M : Made} {nexts darts fresh places : List ℕ} {size : ℕ} {j : List ℕ} {p q at : ℕ} {w : List ℕ}
@@ -85,11 +85,13 @@ module _ {n : ℕ} {insert : Bool} {t : List ℕ} {M : Made} {nexts darts fresh 
       inside = let inside = dart_inside W L p low in omega arith;
       pass = P;
       old = record {
+        within = omega arith;
         below = λ k h. if_eq k p (λ e. let same = ap (λ (i : ℕ). get_or darts i 0) e in omega arith)
             (λ e. let up = darts_rise W L k p (omega arith) low in omega arith);
         above = λ k on few. let up = darts_rise W L p k (omega arith) few in omega arith;
       };
       new = record {
+        within = D.new.within;
         below = λ k h.
             let before = D.new.below k h in
             let on = D.old.above p (omega arith) low in
@@ -126,6 +128,7 @@ module _ {n : ℕ} {insert : Bool} {t : List ℕ} {M : Made} {nexts darts fresh 
       inside = let inside = new_inside W L q low in omega arith;
       pass = P;
       old = record {
+        within = D.old.within;
         below = λ k h.
             let before = D.old.below k h in
             let on = D.new.above q (omega arith) low in
@@ -136,6 +139,7 @@ module _ {n : ℕ} {insert : Bool} {t : List ℕ} {M : Made} {nexts darts fresh 
             if_eq (get_or darts k 0) (get_or fresh q 0) (λ e. absurd (apart e)) (λ e. omega arith);
       };
       new = record {
+        within = omega arith;
         below = λ k h. if_eq k q (λ e. let same = ap (λ (i : ℕ). get_or fresh i 0) e in omega arith)
             (λ e. let up = news_rise W L k q (omega arith) low in omega arith);
         above = λ k on few. let up = news_rise W L q k (omega arith) few in omega arith;
@@ -153,6 +157,14 @@ module _ {n : ℕ} {insert : Bool} {t : List ℕ} {M : Made} {nexts darts fresh 
     pub darts_met : (o first x : ℕ) → o ≤ p → at ≡ first + 3 * (p - o) → (p < size → x ≤ get_or darts p 0)
         → DartsMet n insert t M nexts darts fresh places size j o q first x p w
     darts_met o first x on word next = record { on = on; draft = rw (← word) D; next = next }
+
+    -- where none is left
+    pub darts_all : (o first x : ℕ) → o ≤ p → at ≡ first + 3 * (p - o) → size ≤ p
+        → DartsMet n insert t M nexts darts fresh places size j o q first x size w
+    darts_all o first x on word end =
+        let all : p ≡ size = omega (arith, D.old.within) in
+        subst (λ r. DartsMet n insert t M nexts darts fresh places size j o q first x r w) all
+        (darts_met o first x on word (λ low. absurd (omega arith)))
 
     pub draft_all : size ≤ p → n * size ≤ q → w ≡ drafted j (changes_from 0 t M.table)
     draft_all old new =

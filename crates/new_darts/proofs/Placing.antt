@@ -1,24 +1,17 @@
--- The darts of S, listed one by one with the places of their new darts: `placing_none`, `placing_more`, and where all are listed
+-- The darts of S, listed one by one with the places of their new darts: `placing_none`, `placing_more`, `placing_past`, and where all are listed
 -- (`placing_all`).
 use Prim.Native.Nat.{ℕ, zero, suc, ◌+◌, ◌-◌, ◌*◌, ◌≤◌, ◌<◌}
 use mathlib.Core.Path.{◌≡◌, refl, sym, ap, ◌∙◌}
-use mathlib.Core.Logic.{inr}
-use mathlib.Core.Bool.{Bool, true, false}
+use mathlib.Core.Logic.{◌≢◌, inr}
 use mathlib.Core.List.{List}
 use native.Mathlib.Omega.{arith}
-use lib.Dec.{eqb}
 use lib.ListN.{length, get_or, take, set, length-set}
 use lib.Seq.{take_all, get_or-set_same, get_or-set_other}
-use borrow.Author.Tests.{ne_eqb}
 use Rattle.model.specs.Lists.{ones}
 use Rattle.theorems.proofs.Lists.Scan.{if_eq, if_lt}
 use Rattle.scans.specs.Clear.{Clear, Skips}
-use Rattle.scans.proofs.Lowest.{Listing, listing_none, listing_more, listing_first, entered_few}
-use Rattle.new_darts.specs.Placed.{Enters, Placed}
-
-pub enters_few : {n : ℕ} {b : Bool} {r x s : ℕ} {darts darts' places places' : List ℕ}
-    → Enters n b r x s darts darts' places places' → s ≤ r + 1
-enters_few {b = b} {r} {x} {s} E = entered_few b r s E.entered.size
+use Rattle.scans.proofs.Lowest.{Listing, listing_none, listing_more, listing_past, listing_first}
+use Rattle.new_darts.specs.Placed.{Placed}
 
 -- the ones before the slot x are listed, each with its place
 pub record Placing (n : ℕ) (m : List ℕ) (x r : ℕ) (darts₀ darts places₀ places : List ℕ) : Type 0 where
@@ -36,17 +29,18 @@ placing_none n m darts places = record {
 }
 
 module _ {n : ℕ} {m : List ℕ} {x r : ℕ} {darts₀ darts places₀ places : List ℕ} (P : Placing n m x r darts₀ darts places₀ places) where
-  pub placing_more : (b : Bool) (s : ℕ) {darts' places' : List ℕ} → x < length m → b ≡ eqb (get_or m x 0) 1 → r < length darts
-      → x < length places → Enters n b r x s darts darts' places places' → Placing n m (x + 1) s darts₀ darts' places₀ places'
-  placing_more true s {darts'} {places'} low is room known E = record {
-    lists = listing_more P.lists true s low is room E.entered;
-    before = λ k h. rw E.entered.word (if_eq k r (λ e. rw (e, last) (omega arith)) (λ e.
+  -- a dart with the mark 1 is listed
+  pub placing_more : x < length m → get_or m x 0 ≡ 1 → r < length darts → x < length places
+      → Placing n m (x + 1) (r + 1) darts₀ (set darts r x) places₀ (set places x (n * r))
+  placing_more low is room known = record {
+    lists = listing_more P.lists low is room;
+    before = λ k h. if_eq k r (λ e. rw (e, last) (omega arith)) (λ e.
         let b = P.before k (omega arith) in
-        rw (front k (omega arith)) (omega arith)));
-    place = λ k h. rw (E.entered.word, E.place) (if_eq k r (λ e. rw (e, last) (get_or-set_same places x (n * r) 0 known)) (λ e.
+        rw (front k (omega arith)) (omega arith));
+    place = λ k h. if_eq k r (λ e. rw (e, last) (get_or-set_same places x (n * r) 0 known)) (λ e.
         let b = P.before k (omega arith) in
-        rw (front k (omega arith)) (get_or-set_other places x (get_or darts k 0) (n * r) 0 (λ q. omega arith) ∙ P.place k (omega arith))));
-    wide = rw E.place (length-set places x (n * r) ∙ P.wide);
+        rw (front k (omega arith)) (get_or-set_other places x (get_or darts k 0) (n * r) 0 (λ q. omega arith) ∙ P.place k (omega arith)));
+    wide = length-set places x (n * r) ∙ P.wide;
   }
     where
       last : get_or (set darts r x) r 0 ≡ x
@@ -54,20 +48,15 @@ module _ {n : ℕ} {m : List ℕ} {x r : ℕ} {darts₀ darts places₀ places :
 
       front : (k : ℕ) → k < r → get_or (set darts r x) k 0 ≡ get_or darts k 0
       front k h = get_or-set_other darts r k x 0 (λ e. omega arith)
-  placing_more false s low is room known E =
-      let same : s ≡ r = E.entered.size in
-      record {
-        lists = listing_more P.lists false s low is room E.entered;
-        before = λ k h. rw E.entered.word (let b = P.before k (omega arith) in omega arith);
-        place = λ k h. rw (E.entered.word, E.place) (P.place k (omega arith));
-        wide = rw E.place P.wide;
-      }
 
-  -- the darts before x have the mark 1; a slot that has not is passed
-  placing_on : x < length m → get_or m x 0 ≡ 0 → r < length darts → x < length places → Placing n m (x + 1) r darts₀ darts places₀ places
-  placing_on low clear room known =
-      placing_more false r low (sym (ne_eqb (get_or m x 0) 1 (λ e. omega arith))) room known
-      (record { entered = record { size = refl; word = refl }; place = refl })
+  -- another is not
+  pub placing_past : x < length m → get_or m x 0 ≢ 1 → Placing n m (x + 1) r darts₀ darts places₀ places
+  placing_past low off = record {
+    lists = listing_past P.lists low off;
+    before = λ k h. let b = P.before k h in omega arith;
+    place = P.place;
+    wide = P.wide;
+  }
 
   -- where one is missing, there is a slot left
   pub placing_left : r < length (ones m) → x < length m
@@ -90,8 +79,8 @@ placing_skips : {n : ℕ} {m : List ℕ} {x r : ℕ} {darts₀ darts places₀ p
 placing_skips {x = x} zero P inside clear room wide = let here : x + zero ≡ x = omega arith in rw here P
 placing_skips {x = x} (suc k) P inside clear room wide =
     let next : x + suc k ≡ x + k + 1 = omega arith in
-    rw next (placing_on (placing_skips k P (omega arith) (λ z low high. clear z low (omega arith)) room wide) (omega arith)
-    (clear (x + k) (omega arith) (omega arith)) room (omega arith))
+    let zero = clear (x + k) (omega arith) (omega arith) in
+    rw next (placing_past (placing_skips k P (omega arith) (λ z low high. clear z low (omega arith)) room wide) (omega arith) (λ e. omega arith))
 
 -- marks that are 0 are passed
 pub placing_over : {n : ℕ} {m : List ℕ} {x y r : ℕ} {darts₀ darts places₀ places : List ℕ}

@@ -32,6 +32,7 @@ pub record SomeWriting (n : ℕ) (insert : Bool) (t nexts darts fresh places : L
 
 -- of the first `size` words the first p are below x, and no other is
 pub record Parted (size : ℕ) (words : List ℕ) (p x : ℕ) : Type 0 where
+  pub within : p ≤ size
   pub below : (k : ℕ) → k < p → get_or words k 0 < x
   pub above : (k : ℕ) → p ≤ k → k < size → x ≤ get_or words k 0
 

@@ -3,3 +3,4 @@ pub mod Placed
 pub mod News
 pub mod Roles
 pub mod Drafting
+pub mod Sources

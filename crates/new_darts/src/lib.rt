@@ -2,16 +2,17 @@
 // that makes them.
 #![tactic(auto)]
 
+use layer::Layer;
 use reading::{UNUSED, link_in};
+use split::Split;
 
 mod layer;
 mod split;
 
-ghost use Rattle.std.specs.Prelude.{◌≡◌, true, false, List, ℕ, ◌+◌, ◌*◌, ◌≤◌, ◌<◌, length, get_or};
+ghost use Rattle.std.specs.Prelude.{◌≡◌, Bool, true, false, List, ℕ, ◌+◌, ◌*◌, ◌≤◌, ◌<◌, length, get_or};
 ghost use Rattle.model.specs.Lists.{ones};
 ghost use Rattle.model.specs.Table.{slots};
 ghost use Rattle.model.specs.Journal.{changes_from};
-ghost use Rattle.model.specs.NewDarts.{new_dart};
 ghost use Rattle.model.specs.Split.{split_table};
 ghost use Rattle.model.specs.Insert.{insert_table};
 ghost use Rattle.model.specs.Checks.{pass, table_ok};
@@ -19,10 +20,10 @@ ghost use Rattle.model.specs.Meaning.Maps.{Dim};
 ghost use Rattle.reading.specs.Told.{Told};
 ghost use Rattle.drafts.specs.Drafts.{drafted};
 ghost use Rattle.new_darts.specs.Slots.{SlotsFound};
-ghost use Rattle.new_darts.specs.Placed.{Enters, Placed};
-ghost use Rattle.new_darts.specs.News.{Made, split_made, insert_made, changed_link, NewLinks};
-ghost use Rattle.new_darts.specs.Roles.{Role, SomeRole};
-ghost use Rattle.new_darts.specs.Drafting.{Drafting, ToDarts, DartsMet, ToNew, NewMet, Writing, SomeWriting};
+ghost use Rattle.new_darts.specs.Placed.{Placed};
+ghost use Rattle.new_darts.specs.News.{Made, split_made, insert_made, changed_link};
+ghost use Rattle.new_darts.specs.Drafting.{Writing};
+ghost use Rattle.new_darts.specs.Sources.{OfSome, OfEither, Linked, SomeDrafts, Drafts, SomeToDarts, DraftsTo, MetDarts, SomeToNew, MetNew};
 
 // ---- the lists
 
@@ -39,20 +40,6 @@ pub fn find_slots(table: &[u32], fresh: &mut [u16], new: u32, live: u32) -> bool
     scans::list_unused(table, fresh, new) == new
 }
 
-// Where x is listed, it becomes the word r, with the place of its first new dart; how many are listed then.
-fn enter(n: u32, darts: &mut [u16], places: &mut [u16], r: u32, x: u32, listed: bool) -> u32
-    requires { (r < length darts.old) × (x < length places.old) × (x < 65536) × (n * r < 65536) × (r < 65536) }
-    ensures { Enters n listed r x result darts.old darts.new places.old places.new }
-{
-    if listed {
-        darts[r as usize] = x as u16;
-        places[x as usize] = (n * r) as u16;
-        r + 1
-    } else {
-        r
-    }
-}
-
 // Lists the `size` darts with the mark 1, rising, and for each the place of its first new dart: n for each dart before.
 pub fn list_darts(n: u32, marks: &[u8], darts: &mut [u16], places: &mut [u16], size: u32)
     requires marks_len_bound { (length marks.now ≤ 65536) × (size ≡ length (ones marks.now)) × (n * size ≤ 65536) × (Dim n) }
@@ -64,80 +51,77 @@ pub fn list_darts(n: u32, marks: &[u8], darts: &mut [u16], places: &mut [u16], s
     let mut x = 0;
     while r < size {
         x = scans::skip_clear(marks, x);
-        r = enter(n, darts, places, r, x as u32, marks[x] == 1);
+        if marks[x] == 1 {
+            darts[r as usize] = x as u16;
+            places[x] = (n * r) as u16;
+            r += 1;
+        }
         x += 1;
     }
 }
 
 // ---- the new darts
 
-// The new dart of y, the first where role is 0.
-pub fn new_dart(fresh: &[u16], places: &[u16], role: u32, y: u32) -> u32
-    requires { (y < length places.now) × (role < 3) × (get_or places.now y 0 + role < length fresh.now) }
-    ensures { result ≡ get_or fresh.now (get_or places.now y 0 + role) 0 }
-{
-    fresh[places[y as usize] as usize + role as usize] as u32
+// What new darts are made from: a table of dimension n, the `size` darts that get new ones, rising, the slots of these, rising, for each dart
+// the place of its first new one, and for insert next(h) for each dart h of the wall.
+#[derive(Clone, Copy)]
+struct Sources<'a> {
+    n: u32,
+    table: &'a [u32],
+    darts: &'a [u16],
+    fresh: &'a [u16],
+    places: &'a [u16],
+    nexts: &'a [u16],
+    size: u32,
 }
 
-// The links of the new dart of g, insert's or split's.
-fn new_links(
-    n: u32,
-    insert: bool,
-    table: &[u32],
-    fresh: &[u16],
-    places: &[u16],
-    nexts: &[u16],
-    role: u32,
-    g: u32,
-) -> [u32; 4]
-    requires { SomeRole n insert table.now fresh.now places.now nexts.now role g }
-    ensures { (M : Made)
-        → Role n insert table.now M fresh.now places.now nexts.now role g
-        → NewLinks M.table (new_dart n M.olds M.news role g) result }
-{
-    if insert {
-        layer::links(n, table, fresh, places, nexts, role, g)
-    } else {
-        split::links(n, table, fresh, places, role, g)
+impl Sources<'_> {
+    // The new dart of y, the first where role is 0.
+    fn new_dart(&self, role: u32, y: u32) -> u32
+        requires { (y < length self.now.places.now) × (role < 3) × (get_or self.now.places.now y 0 + role < length self.now.fresh.now) }
+        ensures { result ≡ get_or self.now.fresh.now (get_or self.now.places.now y 0 + role) 0 }
+    {
+        self.fresh[self.places[y as usize] as usize + role as usize] as u32
     }
+}
+
+// What split and insert do in their own ways.
+trait Operation {
+    // whether it is insert
+    ghost insert: { Bool };
+
+    // The link of an old dart that leads to its first new one: n for insert, 0 for split.
+    fn changed_link(n: u32) -> u32
+        ensures { result ≡ changed_link n insert };
+
+    // The links of the new dart of g with this role.
+    fn links(sources: &Sources, role: u32, g: u32) -> [u32; 4]
+        requires { OfSome sources.now insert role g }
+        ensures { (M : Made)
+            → OfEither sources.now insert M role g
+            → Linked sources.now M role g result };
 }
 
 // ---- the record: the old darts and the new ones stand in two rising lists, which are passed together
 
-// The link of an old dart that leads to its first new one: n for insert, 0 for split.
-fn changed_link(n: u32, insert: bool) -> u32
-    ensures { result ≡ changed_link n insert }
-{
-    if insert { n } else { 0 }
-}
-
 // From the p-th on, writes the change of each old dart below x, from the word w on; how many are behind the pass then.
-fn write_darts(
-    n: u32,
-    insert: bool,
-    table: &[u32],
+fn write_darts<O: Operation>(
+    sources: &Sources,
     journal: &mut [u32],
-    darts: &[u16],
-    fresh: &[u16],
-    places: &[u16],
-    size: u32,
     p: u32,
     w: usize,
     x: u32,
 ) -> u32
-    requires { ToDarts n insert table.now darts.now fresh.now places.now size p w x journal.old }
+    requires { SomeToDarts sources.now O.insert p w x journal.old }
     ensures { (nexts : List ℕ) (M : Made) (q : ℕ) (j : List ℕ)
-        → Drafting n insert table.now M nexts darts.now fresh.now places.now size j p q w
-        journal.old
-        → ((k : ℕ) → q ≤ k → k < n * size → x ≤ get_or fresh.now k 0)
-        → DartsMet n insert table.now M nexts darts.now fresh.now places.now size j p q w x result
-        journal.new }
+        → DraftsTo sources.now O.insert M nexts j p q w journal.old
+        → ((k : ℕ) → q ≤ k → k < sources.now.n * sources.now.size → x ≤ get_or sources.now.fresh.now k 0)
+        → MetDarts sources.now O.insert M nexts j p q w x result journal.new }
 {
-    let i = changed_link(n, insert);
-    let mut k = p;
+    let i = O::changed_link(sources.n);
     let mut v = w;
-    while k < size {
-        let g = darts[k as usize] as u32;
+    for k in p..sources.size {
+        let g = sources.darts[k as usize] as u32;
         if g >= x {
             return k;
         }
@@ -146,87 +130,55 @@ fn write_darts(
             v,
             g,
             i,
-            link_in(table, i as usize, g),
-            new_dart(fresh, places, 0, g),
+            link_in(sources.table, i as usize, g),
+            sources.new_dart(0, g),
         );
-        k += 1;
         v += 3;
     }
-    k
+    sources.size
 }
 
 // Writes the next new dart, that of the i-th old one with this role, and before it the old ones below it; how many of those are behind the
 // pass then.
-fn write_new(
-    n: u32,
-    insert: bool,
-    table: &[u32],
+fn write_new<O: Operation>(
+    sources: &Sources,
     journal: &mut [u32],
-    darts: &[u16],
-    fresh: &[u16],
-    places: &[u16],
-    nexts: &[u16],
-    size: u32,
     p: u32,
     w: usize,
     i: u32,
     role: u32,
 ) -> u32
-    requires { ToNew n insert table.now nexts.now darts.now fresh.now places.now size p w i role journal.old }
+    requires { SomeToNew sources.now O.insert p w i role journal.old }
     ensures { (M : Made) (j : List ℕ)
-        → Drafting n insert table.now M nexts.now darts.now fresh.now places.now size j
-        p (n * i + role) w journal.old
-        → NewMet n insert table.now M nexts.now darts.now fresh.now places.now size j
-        p (n * i + role) w result journal.new }
+        → DraftsTo sources.now O.insert M sources.now.nexts.now j p (sources.now.n * i + role) w journal.old
+        → MetNew sources.now O.insert M j p (sources.now.n * i + role) w result journal.new }
 {
-    let x = fresh[(n * i + role) as usize] as u32;
-    let behind = write_darts(
-        n, insert, table, journal, darts, fresh, places, size, p, w, x,
-    );
+    let x = sources.fresh[(sources.n * i + role) as usize] as u32;
+    let behind = write_darts::<O>(sources, journal, p, w, x);
     let at = w + 3 * ((behind - p) as usize);
-    let g = darts[i as usize] as u32;
-    let links = new_links(n, insert, table, fresh, places, nexts, role, g);
+    let g = sources.darts[i as usize] as u32;
+    let links = O::links(sources, role, g);
     drafts::write_slot(journal, at, x, [UNUSED; 4], links);
     behind
 }
 
 // Drafts the record of insert or split.
-fn write(
-    n: u32,
-    insert: bool,
-    table: &[u32],
-    journal: &mut [u32],
-    darts: &[u16],
-    fresh: &[u16],
-    places: &[u16],
-    nexts: &[u16],
-    size: u32,
-)
-    requires { SomeWriting n insert table.now nexts.now darts.now fresh.now places.now size journal.old }
+fn write<O: Operation>(sources: &Sources, journal: &mut [u32])
+    requires { SomeDrafts sources.now O.insert journal.old }
     ensures { (M : Made)
-        → Writing n insert table.now M nexts.now darts.now fresh.now places.now size
-        journal.old
-        → journal.new ≡ drafted journal.old (changes_from 0 table.now M.table) }
+        → Drafts sources.now O.insert M journal.old
+        → journal.new ≡ drafted journal.old (changes_from 0 sources.now.table.now M.table) }
 {
     let mut w = journal[0] as usize + 2;
     let mut p = 0;
-    let mut i = 0;
-    let mut role = 0;
-    while i < size {
-        let behind = write_new(
-            n, insert, table, journal, darts, fresh, places, nexts, size, p, w, i, role,
-        );
-        w += 3 * ((behind - p) as usize) + 12;
-        p = behind;
-        role += 1;
-        if role == n {
-            role = 0;
-            i += 1;
+    for i in 0..sources.size {
+        for role in 0..sources.n {
+            let behind = write_new::<O>(sources, journal, p, w, i, role);
+            w += 3 * ((behind - p) as usize) + 12;
+            p = behind;
         }
     }
-    write_darts(
-        n, insert, table, journal, darts, fresh, places, size, p, w, UNUSED,
-    );
+    write_darts::<O>(sources, journal, p, w, UNUSED);
 }
 
 // Drafts the record of split.
@@ -247,7 +199,16 @@ pub fn write_split(
         → journal.new ≡ drafted journal.old
         (changes_from 0 table.now (split_table n table.now d)) }
 {
-    write(n, false, table, journal, darts, fresh, places, places, size)
+    let sources = Sources {
+        n,
+        table,
+        darts,
+        fresh,
+        places,
+        nexts: places, // which split doesn't read
+        size,
+    };
+    write::<Split>(&sources, journal)
 }
 
 // Drafts the record of insert; nexts has next(h) for each dart h of the wall.
@@ -269,5 +230,14 @@ pub fn write_layer(
         → journal.new ≡ drafted journal.old
         (changes_from 0 table.now (insert_table n table.now m)) }
 {
-    write(n, true, table, journal, darts, fresh, places, nexts, size)
+    let sources = Sources {
+        n,
+        table,
+        darts,
+        fresh,
+        places,
+        nexts,
+        size,
+    };
+    write::<Layer>(&sources, journal)
 }

@@ -5,17 +5,19 @@
 ghost use Rattle.std.specs.Prelude.{◌≡◌, ◌≢◌, []};
 ghost use Rattle.model.specs.Calls.{check_call, orbit_call, sheet_call, pick_call, pick_taken, add_call, sew_call, unsew_call};
 ghost use Rattle.model.specs.Calls.{remove_call, split_call, sew_list_call, insert_call, vtk_call, undo_call, redo_call};
+ghost use Rattle.answers.specs.Answers.{told};
 ghost use Rattle.phlernsap.specs.Given.{given};
 
-use answers::Answer;
+use answers::{Answer, Done, Told};
 
 // Stores place and count, and returns the number.
 fn give(answer: Answer, place: &mut u32, count: &mut u32) -> u32
-    ensures { (result ≡ answer.number) × (place.new ≡ answer.place) × (count.new ≡ answer.count) }
+    ensures { (result ≡ (told answer).number) × (place.new ≡ (told answer).place) × (count.new ≡ (told answer).count) }
 {
-    *place = answer.place;
-    *count = answer.count;
-    answer.number
+    let words = Told::from(answer);
+    *place = words.place;
+    *count = words.count;
+    words.number
 }
 
 #[unsafe(no_mangle)]
@@ -73,9 +75,20 @@ pub extern "C" fn phl_pick(
     ensures taken_after { taken.new ≡ pick_taken n table.now marks.old queue.old d }
     ensures queue_unchanged { result ≢ 0 → queue.new ≡ queue.old }
 {
-    let picked = kernel::pick(n, table, marks, queue, d);
-    *taken = picked.taken;
-    give(picked.answer, place, count)
+    match kernel::pick(n, table, marks, queue, d) {
+        Ok(picked) => {
+            *taken = picked.taken;
+            let done = Done {
+                place: 0,
+                count: picked.count,
+            };
+            give(Ok(done), place, count)
+        }
+        Err(refused) => {
+            *taken = 0;
+            give(Err(refused), place, count)
+        }
+    }
 }
 
 #[unsafe(no_mangle)]

@@ -66,6 +66,7 @@ fn enter_beside(table: &[u32], marks: &mut [u8], queue: &mut [u32], at: usize)
     ensures { Entered marks.old queue.old (at + 8) 8
         (beside_at table.now queue.old at) marks.new queue.new }
 {
+    // k stays a number: the word that is read and the one that is written stand in one slice
     for k in 0..8 {
         let x = link_in(table, 2, queue[at + k]);
         enter(marks, queue, at + 8 + k, x);
@@ -155,8 +156,8 @@ fn mark_group(n: u32, table: &[u32], marks: &mut [u8], queue: &[u32], from: usiz
     let y = link_in(table, 1, queue[from]);
     let unmet = marks[y as usize] != 1;
     if unmet {
-        for j in 0..group(n) {
-            mark_beside(n, table, marks, queue[from + j]);
+        for &x in &queue[from..from + group(n)] {
+            mark_beside(n, table, marks, x);
         }
     }
 }
@@ -166,10 +167,8 @@ fn mark_rest(n: u32, table: &[u32], marks: &mut [u8], queue: &[u32], count: u32)
     requires { Listed n table.now marks.old queue.now count }
     ensures { marks.new ≡ sheet_marks n table.now marks.old }
 {
-    let mut k: usize = 0;
-    while k < count as usize {
+    for k in (0..count as usize).step_by(group(n)) {
         mark_group(n, table, marks, queue, k);
-        k += group(n);
     }
 }
 

@@ -1,10 +1,11 @@
--- The live slots one by one: counted (`live_next`), and with their lines (`darts_next`).
+-- The live slots one by one: counted (`live_all`), and with their lines (`darts_next`).
 use Prim.Native.Nat.{ℕ, zero, suc, ◌+◌, ◌*◌, ◌-◌, ◌<◌, ◌≤◌}
 use mathlib.Core.Path.{◌≡◌, refl, ap, ◌∙◌}
 use mathlib.Core.Bool.{true, false}
 use mathlib.Core.List.{List, [], ◌++◌, append-nil, append_assoc}
 use native.Mathlib.Omega.{arith}
 use lib.ListN.{length, take, length-append}
+use Rattle.std.specs.List.{filter, range_with_len}
 use Rattle.model.specs.Lists.{tabulate_from, tabulate, count}
 use Rattle.model.specs.Table.{slots, link, live, live_count}
 use Rattle.model.specs.Text.{bytes, decimal, said}
@@ -26,30 +27,22 @@ live_one : (t : List ℕ) (k d : ℕ) → live_from t (suc k) d ≡ live_mark t 
 unfolding live_from live_mark count tabulate_from
 live_one t k d = test (live t d) (λ e. rw (e, count, live_mark) (omega arith)) (λ e. rw (e, count, live_mark) (omega arith))
 
-pub live_next : (t : List ℕ) (end d : ℕ) → d < end
-    → live_from t (end - d) d ≡ live_mark t d + live_from t (end - (d + 1)) (d + 1)
-live_next t end d h =
-    let one : end - d ≡ suc (end - (d + 1)) = omega arith in
-    let next : d + 1 ≡ suc d = omega arith in
-    rw (one, next) (live_one t (end - suc d) d)
-
-pub live_marked : (t : List ℕ) (d : ℕ) → live t d ≡ true → live_mark t d ≡ 1
-unfolding live_mark
-live_marked t d h = rw (h, live_mark)
-
-pub dead_unmarked : (t : List ℕ) (d : ℕ) → live t d ≡ false → live_mark t d ≡ 0
-unfolding live_mark
-dead_unmarked t d h = rw (h, live_mark)
-
-pub live_all : (t : List ℕ) → 0 + live_from t (slots t - 0) 0 ≡ live_count t
-unfolding live_from live_count tabulate
-live_all t =
-    let whole : slots t - 0 ≡ slots t = omega arith in
-    rw whole (omega arith)
-
-pub live_end : (t : List ℕ) (k : ℕ) {count : ℕ} (d : ℕ) → k ≡ 0 → count + live_from t k d ≡ live_count t → count ≡ live_count t
+live_none : (t : List ℕ) (d : ℕ) → 0 ≡ live_from t 0 d
 unfolding live_from count tabulate_from
-live_end t k d h e = let all = rw h at e in omega arith
+live_none t d = refl
+
+live_by : (t : List ℕ) (k d : ℕ) → length (filter (live t) (range_with_len d k)) ≡ live_from t k d
+unfolding live_mark
+live_by t zero d = live_none t d
+live_by t (suc k) d =
+    let next : d + 1 ≡ suc d = omega arith in
+    let rest : length (filter (live t) (range_with_len (d + 1) k)) ≡ live_from t k (suc d) = rw (← next) (live_by t k (d + 1)) in
+    test (live t d) (λ e. rw (live_one t k d, live_mark, e) (omega (arith, rest))) (λ e. rw (live_one t k d, live_mark, e) (omega (arith, rest)))
+
+-- all slots, of which the live ones are kept
+pub live_all : (t : List ℕ) → length (filter (live t) (range_with_len 0 (slots t))) ≡ live_count t
+unfolding live_from live_count tabulate
+live_all t = live_by t (slots t) 0
 
 darts_one : (t : List ℕ) (k d : ℕ) → darts_from (suc k) d t ≡ darts_from 1 d t ++ darts_from k (suc d) t
 unfolding darts_from

@@ -10,7 +10,7 @@ ghost use Rattle.model.specs.Import.{to_lines};
 ghost use Rattle.answers.specs.Answers.{outcome};
 ghost use Rattle.texts.specs.Texts.{Appended};
 
-use answers::Answer;
+use answers::{Answer, Told};
 
 // "Per request it prints `no=`, `at=` (place), `n=` (count)"
 pub fn answer(out: &mut [u8], at: usize, given: Answer) -> usize
@@ -18,9 +18,10 @@ pub fn answer(out: &mut [u8], at: usize, given: Answer) -> usize
     ensures { (Appended out.old at (answered (outcome given [] [] [])) out.new result)
         × (result ≤ at + 75) }
 {
-    let place = texts::say(out, at, b"no=", given.number as u64);
-    let count = texts::say(out, place, b"at=", given.place as u64);
-    texts::say(out, count, b"n=", given.count as u64)
+    let told = Told::from(given);
+    let place = texts::say(out, at, b"no=", told.number as u64);
+    let count = texts::say(out, place, b"at=", told.place as u64);
+    texts::say(out, count, b"n=", told.count as u64)
 }
 
 // A link, and the comma behind it.
@@ -77,10 +78,8 @@ fn darts(out: &mut [u8], at: usize, table: &[u32]) -> usize
 {
     let end = reading::slots(table);
     let mut place = at;
-    let mut d = 0;
-    while d < end {
+    for d in 0..end {
         place = dart(out, place, table, d);
-        d += 1;
     }
     place
 }
@@ -91,15 +90,7 @@ fn live_count(table: &[u32]) -> u32
     ensures { result ≡ live_count table.now }
 {
     let end = reading::slots(table);
-    let mut count = 0;
-    let mut d = 0;
-    while d < end {
-        if reading::live(table, d) {
-            count += 1;
-        }
-        d += 1;
-    }
-    count
+    (0..end).filter(|&d| reading::live(table, d)).count() as u32
 }
 
 // "after the last request `live=` (number of live slots) and, by rising dart, `dart=` and `to=`"
@@ -119,10 +110,8 @@ pub fn to_lines(out: &mut [u8], at: usize, table: &[u32], a: u32, k: u32) -> usi
     ensures { Appended out.old at (to_lines k a table.now) out.new result }
 {
     let mut place = at;
-    let mut d = 0;
-    while d < k {
-        place = to_line(out, place, table, a + d);
-        d += 1;
+    for d in a..a + k {
+        place = to_line(out, place, table, d);
     }
     place
 }

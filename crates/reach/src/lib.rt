@@ -1,22 +1,59 @@
 // What is reached from a dart by the links of a mask: a flood over a queue that the caller lends.
 #![tactic(auto)]
 
-ghost use Rattle.std.specs.Prelude.{◌≡◌, ◌+◌, ◌^◌, ◌<◌, length, set, replicate};
+ghost use Rattle.std.specs.Prelude.{◌≡◌, ℕ, ◌+◌, ◌^◌, ◌<◌, eqb, length, map, set, replicate};
 ghost use Rattle.model.specs.Lists.{count};
 ghost use Rattle.model.specs.Table.{link};
 ghost use Rattle.model.specs.Orbit.{bit, orbit};
 ghost use Rattle.reach.specs.Search.{search_of, meet, follow, follow_below};
 ghost use Rattle.reach.specs.Given.{Given, Stepping, Meeting};
 
+// A mark of a slot, in the words that the caller lends: 0, or 1 where a flood has been.
+pub trait Mark: Copy {
+    ghost number: { Self → ℕ };
+
+    // The mark 1.
+    fn one() -> Self
+        ensures { number result ≡ 1 };
+
+    // Whether it is 0.
+    fn is_zero(self) -> bool
+        ensures { result ≡ eqb (number self) 0 };
+}
+
+impl Mark for u8 {
+    ghost number = { λ x. x };
+
+    fn one() -> u8 {
+        1
+    }
+
+    fn is_zero(self) -> bool {
+        self == 0
+    }
+}
+
+impl Mark for u16 {
+    ghost number = { λ x. x };
+
+    fn one() -> u16 {
+        1
+    }
+
+    fn is_zero(self) -> bool {
+        self == 0
+    }
+}
+
 // The dart y, if it has no mark yet, gets the mark 1 and goes behind the queue's words.
-fn meet(marks: &mut [u8], queue: &mut [u16], tail: usize, y: u32) -> usize
-    requires { Meeting marks.old queue.old tail y }
-    ensures { search_of marks.new queue.new result
-        ≡ meet y (search_of marks.old queue.old tail) }
+pub fn meet<M: Mark>(marks: &mut [M], queue: &mut [u16], tail: usize, y: u32) -> usize
+    requires { Meeting (map M.number marks.old) queue.old tail y }
+    ensures { search_of (map M.number marks.new) queue.new result
+        ≡ meet y (search_of (map M.number marks.old) queue.old tail) }
 {
-    let unmarked = marks[y as usize] == 0;
+    let unmarked = marks[y as usize].is_zero();
     if unmarked {
-        marks[y as usize] = 1;
+        marks[y as usize] = M::one();
         queue[tail] = y as u16;
         tail + 1
     } else {
@@ -60,10 +97,8 @@ fn expand(
         ≡ follow_below (bit mask) (link table.now) x 4 (search_of marks.old queue.old from) }
 {
     let mut tail = from;
-    let mut i = 0;
-    while i < 4 {
+    for i in 0..4 {
         tail = follow(table, marks, queue, tail, mask, i, x);
-        i += 1;
     }
     tail
 }

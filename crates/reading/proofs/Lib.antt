@@ -2,3 +2,4 @@ pub mod Passed
 pub mod Rules
 pub mod Neighbours
 pub mod Four
+pub mod Found

@@ -1,5 +1,6 @@
 pub mod Sized
 pub mod Told
+pub mod Found
 pub mod Near
 pub mod RuleOf
 pub mod Four

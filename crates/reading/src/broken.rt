@@ -4,9 +4,10 @@ ghost use Rattle.model.specs.Lists.{all_below};
 ghost use Rattle.model.specs.Map.{crossed, keeps_at, breaking_link};
 ghost use Rattle.model.specs.Checks.{pass, dim_ok};
 ghost use Rattle.reading.specs.RuleOf.{rule_of};
+ghost use Rattle.reading.specs.Found.{found_below};
 
 // The rules of a map at a slot, in their order, but for the last: where no other is broken, it is that one, by link 3.
-#[derive(Clone, Copy)]
+#[derive(Clone, Copy, Debug, PartialEq, Eq)]
 pub enum Rule {
     LinksLive,
     LinksReturn,
@@ -18,12 +19,10 @@ fn pairs_commute(n: u32, table: &[u32], d: u32, i: usize) -> bool
     requires { (dim_ok n ≡ pass) × (i < 4) }
     ensures { result ≡ all_below (suc n) (crossed table.now d i) }
 {
-    let mut j = i + 2;
-    while j <= n as usize {
+    for j in i + 2..n as usize + 1 {
         if !crate::crossed(table, d, i, j) {
             return false;
         }
-        j += 1;
     }
     true
 }
@@ -40,17 +39,15 @@ fn keeps_at(n: u32, table: &[u32], d: u32, rule: Rule, i: usize) -> bool
     }
 }
 
-// The least link of d that breaks the rule, or 4.
-pub fn breaking_link(n: u32, table: &[u32], d: u32, rule: Rule) -> u32
+// The least link of d that breaks the rule.
+pub fn breaking_link(n: u32, table: &[u32], d: u32, rule: Rule) -> Option<u32>
     requires { dim_ok n ≡ pass }
-    ensures { result ≡ breaking_link n table.now d (rule_of rule) }
+    ensures { result ≡ found_below 4 (breaking_link n table.now d (rule_of rule)) }
 {
-    let mut i = 0;
-    while i < 4 {
+    for i in 0..4 {
         if !keeps_at(n, table, d, rule, i as usize) {
-            return i;
+            return Some(i);
         }
-        i += 1;
     }
-    i
+    None
 }

@@ -11,6 +11,7 @@ ghost use Rattle.model.specs.Map.{crossed, keeps_rules, breaks_rule, least_break
 ghost use Rattle.model.specs.Checks.{must, pass, dim_ok, table_ok, marks_ok, journal_ok};
 ghost use Rattle.reading.specs.Sized.{Sized};
 ghost use Rattle.reading.specs.Four.{four};
+ghost use Rattle.reading.specs.Found.{found_below};
 ghost use Rattle.reading.specs.Near.{turned, near_rules, keeps_near, Row, Below};
 
 // The entry of an unused slot.
@@ -25,6 +26,25 @@ pub const LARGE: usize = 65536;
 
 // So many marks are a group.
 pub const GROUP: usize = 256;
+
+// Half of each size, a quarter, and its groups: a const argument is not computed.
+pub const SMALL_HALF: usize = SMALL / 2;
+
+pub const MIDDLE_HALF: usize = MIDDLE / 2;
+
+pub const LARGE_HALF: usize = LARGE / 2;
+
+pub const SMALL_QUARTER: usize = SMALL / 4;
+
+pub const MIDDLE_QUARTER: usize = MIDDLE / 4;
+
+pub const LARGE_QUARTER: usize = LARGE / 4;
+
+pub const SMALL_GROUPS: usize = SMALL / GROUP;
+
+pub const MIDDLE_GROUPS: usize = MIDDLE / GROUP;
+
+pub const LARGE_GROUPS: usize = LARGE / GROUP;
 
 // Whether check 1 passes.
 pub fn dim_fits(n: u32) -> bool
@@ -174,7 +194,8 @@ pub fn breaks_rule(n: u32, table: &[u32], d: u32) -> bool
     }
 }
 
-// Whether the slot d, whose links a, b, c and e are slots, keeps the near rules.
+// Whether the slot d, whose links a, b, c and e are slots, keeps the near rules. It is the inner step of the map test, where
+// the links stand apart and not in an array.
 fn near_rules(n: u32, table: &[u32], d: u32, a: u32, b: u32, c: u32, e: u32) -> bool
     requires { (Sized table.now) × (Row table.now d a b c e) × (Below (slots table.now) a b c e) }
     ensures { result ≡ near_rules n table.now d }
@@ -223,29 +244,27 @@ pub fn is_map(n: u32, table: &[u32]) -> bool
     true
 }
 
-// The least slot that breaks a rule, or the number of slots: slot by slot, with the walks.
-fn first_breaking(n: u32, table: &[u32]) -> u32
+// The least slot that breaks a rule: slot by slot, with the walks.
+fn first_breaking(n: u32, table: &[u32]) -> Option<u32>
     requires { (dim_ok n ≡ pass) × (table_ok table.now ≡ pass) }
-    ensures { result ≡ least_breaking n table.now }
+    ensures { result ≡ found_below (slots table.now) (least_breaking n table.now) }
 {
     let end = slots(table);
-    let mut d = 0;
-    while d < end {
+    for d in 0..end {
         if breaks_rule(n, table, d) {
-            return d;
+            return Some(d);
         }
-        d += 1;
     }
-    d
+    None
 }
 
-// The least slot that breaks a rule, or the number of slots. The walks are made only where the table is no map.
-pub fn least_breaking(n: u32, table: &[u32]) -> u32
+// The least slot that breaks a rule. The walks are made only where the table is no map.
+pub fn least_breaking(n: u32, table: &[u32]) -> Option<u32>
     requires { (dim_ok n ≡ pass) × (table_ok table.now ≡ pass) }
-    ensures { result ≡ least_breaking n table.now }
+    ensures { result ≡ found_below (slots table.now) (least_breaking n table.now) }
 {
     if is_map(n, table) {
-        return slots(table);
+        return None;
     }
     first_breaking(n, table)
 }

@@ -1,22 +1,22 @@
--- The places of the ones of a list, listed one by one (`listing_none`, `listing_more`, `listing_over`) until all are passed
+-- The places of the ones of a list, listed one by one (`listing_none`, `listing_more`, `listing_past`, `listing_over`) until all are passed
 -- (`listing_all`) or as many are listed as are wanted (`listing_first`). The unused slots, lowest first, are such places.
 use Prim.Native.Nat.{ℕ, zero, suc, ◌+◌, ◌-◌, ◌≤◌, ◌<◌}
 use mathlib.Core.Path.{◌≡◌, refl, sym, ap, ◌∙◌, subst}
-use mathlib.Core.Logic.{◌⊎◌, inl, inr}
-use mathlib.Core.Bool.{Bool, true, false, ◌&&◌}
+use mathlib.Core.Logic.{◌⊎◌, ◌↔◌, ◌≢◌, inl, inr}
+use mathlib.Core.Bool.{true, false}
 use mathlib.Core.List.{List, [], ◌∷◌, ◌++◌, append-nil}
 use native.Mathlib.Numerals.{add-one}
 use native.Mathlib.Omega.{arith}
-use lib.Dec.{eqb, ltb}
-use lib.ListN.{length, get_or, take, drop, length-append, length-set, take-append-drop}
+use lib.Dec.{eqb}
+use lib.ListN.{length, get_or, take, drop, set, length-append, length-set, take-append-drop}
 use lib.Seq.{take-suc, take_all, take-append_seam, take-suc-set, length-take-le}
-use borrow.Author.Tests.{eq-eqb, ne_eqb, ltb-true, ltb-false}
+use borrow.Author.Tests.{eq-eqb, ne_eqb}
 use Rattle.model.specs.Lists.{tabulate, ones_from, ones}
 use Rattle.model.specs.Table.{unused, slots, link, live}
-use Rattle.theorems.proofs.Lists.Scan.{test, if_eq, and_l, and_r, clash, length_tab, get_or_tab}
+use Rattle.theorems.proofs.Lists.Scan.{test, if_eq, clash, length_tab, get_or_tab}
 use Rattle.theorems.proofs.Maps.Rules.{live_by}
 use Rattle.scans.specs.Clear.{Clear, Skips}
-use Rattle.scans.specs.Lowest.{Lists, Entered}
+use Rattle.scans.specs.Lowest.{Lists}
 use Rattle.reading.specs.Told.{Told}
 
 -- ---- the places of the ones, one by one
@@ -55,19 +55,13 @@ ones_front m x =
 
 -- ---- listed
 
-lists_enter : {l : List ℕ} {r : ℕ} {words₀ words : List ℕ} → Lists l r words₀ words → (x : ℕ) → r < length words
-    → (b : Bool) (s : ℕ) {words' : List ℕ} → Entered b r x s words words'
-    → Lists (l ++ (elim b [ true ↦ x ∷ [] | false ↦ [] ])) s words₀ words'
-lists_enter {l} {r} {words₀} {words} L x room true s E = rw (E.size, E.word) (record {
+lists_more : {l : List ℕ} {r : ℕ} {words₀ words : List ℕ} → Lists l r words₀ words → (x : ℕ) → r < length words
+    → Lists (l ++ x ∷ []) (r + 1) words₀ (set words r x)
+lists_more {l} {r} {words₀} {words} L x room = record {
   size = let size = L.size in let more = length-append l (x ∷ []) in omega arith;
   front = rw add-one (take-suc-set words r x room ∙ ap (λ (m : List ℕ). m ++ (x ∷ [])) L.front);
   long = length-set words r x ∙ L.long;
-})
-lists_enter L x room false s E = rw (E.size, E.word, append-nil) L
-
-pub entered_few : (b : Bool) (r s : ℕ) → s ≡ elim b [ true ↦ r + 1 | false ↦ r ] → s ≤ r + 1
-entered_few true r s e = omega arith
-entered_few false r s e = omega arith
+}
 
 -- the ones before the place x are listed
 pub record Listing (m : List ℕ) (x r : ℕ) (words₀ words : List ℕ) : Type 0 where
@@ -79,11 +73,18 @@ unfolding ones_from
 listing_none m words = record { lists = record { size = refl; front = refl; long = refl }; few = omega arith }
 
 module _ {m : List ℕ} {x r : ℕ} {words₀ words : List ℕ} (G : Listing m x r words₀ words) where
-  pub listing_more : (b : Bool) (s : ℕ) {words' : List ℕ} → x < length m → b ≡ eqb (get_or m x 0) 1 → r < length words
-      → Entered b r x s words words' → Listing m (x + 1) s words₀ words'
-  listing_more b s low is room E = record {
-    lists = rw (ones_more m x low, ← is) (lists_enter G.lists x room b s E);
-    few = let most = entered_few b r s E.size in omega arith;
+  -- a place with the mark 1 is listed
+  pub listing_more : x < length m → get_or m x 0 ≡ 1 → r < length words → Listing m (x + 1) (r + 1) words₀ (set words r x)
+  listing_more low is room = record {
+    lists = rw (ones_more m x low, eq-eqb (get_or m x 0) 1 is) (lists_more G.lists x room);
+    few = let few = G.few in omega arith;
+  }
+
+  -- another is not
+  pub listing_past : x < length m → get_or m x 0 ≢ 1 → Listing m (x + 1) r words₀ words
+  listing_past low off = record {
+    lists = rw (ones_more m x low, ne_eqb (get_or m x 0) 1 off, append-nil) G.lists;
+    few = let few = G.few in omega arith;
   }
 
   -- marks that are 0 are passed
@@ -119,17 +120,9 @@ unused_marks t = tabulate (slots t) (λ d. elim (live t d) [ true ↦ 0 | false 
 pub unused_long : (t : List ℕ) → length (unused_marks t) ≡ slots t
 unused_long t = length_tab (λ d. elim (live t d) [ true ↦ 0 | false ↦ 1 ]) (slots t)
 
-pub unused_mark : (t : List ℕ) → Told t → (x : ℕ) → x < slots t → eqb (link t 0 x) unused ≡ eqb (get_or (unused_marks t) x 0) 1
+pub unused_mark : (t : List ℕ) → Told t → (x : ℕ) → x < slots t → (link t 0 x ≡ unused) ↔ (get_or (unused_marks t) x 0 ≡ 1)
 unused_mark t told x low =
     let at = get_or_tab (λ d. elim (live t d) [ true ↦ 0 | false ↦ 1 ]) (slots t) x 0 low in
-    rw at (test (live t x) (λ e. rw (e, ne_eqb (link t 0 x) unused (told x e)))
-    (λ e. if_eq (link t 0 x) unused (λ q. rw (e, eq-eqb (link t 0 x) unused q))
-    (λ q. absurd (clash (live_by t x q) e))))
-
--- the test of the scan for them
-module _ (x end r want : ℕ) where
-  pub goes_on : (ltb x end && ltb r want) ≡ true → (x < end) × (r < want)
-  goes_on h = (ltb-true x end (and_l (ltb x end) _ h), ltb-true r want (and_r (ltb x end) _ h))
-
-  pub stops : (ltb x end && ltb r want) ≡ false → (end ≤ x) ⊎ (want ≤ r)
-  stops h = test (ltb x end) (λ e. inr (ltb-false r want (rw e at h))) (λ e. inl (ltb-false x end e))
+    rw at (test (live t x)
+    (λ e. rw e (λ q. absurd (told x e q), λ q. absurd (omega arith)))
+    (λ e. rw e (λ q. refl, λ q. if_eq (link t 0 x) unused (λ u. u) (λ u. absurd (clash (live_by t x u) e)))))

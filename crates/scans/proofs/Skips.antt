@@ -1,11 +1,12 @@
--- Marks that are 0: none between a slot and itself (`clear_none`), one more (`clear_more`), those behind (`clear_on`); an OR that is 0.
+-- Marks that are 0: none between a slot and itself (`clear_none`), one more (`clear_more`), those behind (`clear_on`); an OR that is 0; a mark of a slice (`slice_at`, `slice_long`).
 -- A pass that goes on (`skips_on`), also over one mark (`skips_one`), a block (`skips_block`) or groups (`skips_groups`).
 use Prim.Native.Nat.{ℕ, ◌+◌, ◌*◌, ◌/◌, ◌%◌, ◌≤◌, ◌<◌}
-use mathlib.Core.Path.{◌≡◌}
+use mathlib.Core.Path.{◌≡◌, ◌∙◌}
 use mathlib.Core.List.{List}
 use native.Mathlib.Omega.{arith}
 use lib.Bits.{bit_or, or_add_and, and_le_l, and_le_r}
-use lib.ListN.{length, get_or}
+use lib.ListN.{length, get_or, take, drop, length-take, length-drop}
+use lib.Seq.{get_or-take, get_or-drop, length-take-le}
 use Rattle.theorems.proofs.Lists.Scan.{if_eq, if_lt}
 use Rattle.scans.specs.Clear.{Clear, Skips, Grouped}
 
@@ -15,6 +16,18 @@ or_clear a b e =
     let left = and_le_l a b in
     let right = and_le_r a b in
     (omega arith, omega arith)
+
+-- a mark of a slice of j marks from x on
+pub slice_at : (m : List ℕ) (x j k : ℕ) → k < length (take j (drop x m)) → get_or (take j (drop x m)) k 0 ≡ get_or m (x + k) 0
+slice_at m x j k low =
+    let long = length-take j (drop x m) in
+    get_or-take j (drop x m) k 0 (omega arith) ∙ get_or-drop x m k 0
+
+-- of which there are j
+pub slice_long : (m : List ℕ) (x j : ℕ) → x + j ≤ length m → length (take j (drop x m)) ≡ j
+slice_long m x j room =
+    let left = length-drop x m in
+    length-take-le j (drop x m) (omega arith)
 
 pub clear_none : (m : List ℕ) (x : ℕ) → Clear m x x
 clear_none m x z low high = absurd (omega arith)

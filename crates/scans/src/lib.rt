@@ -7,7 +7,7 @@ ghost use Rattle.model.specs.Table.{slots, unused_slots};
 ghost use Rattle.model.specs.Checks.{pass, table_ok};
 ghost use Rattle.reading.specs.Told.{Told};
 ghost use Rattle.scans.specs.Clear.{Clear, Skips, Grouped};
-ghost use Rattle.scans.specs.Lowest.{Lists, Entered};
+ghost use Rattle.scans.specs.Lowest.{Lists};
 
 use reading::{GROUP, UNUSED, link_in, slots};
 
@@ -17,9 +17,7 @@ use reading::{GROUP, UNUSED, link_in, slots};
 pub fn clear(marks: &mut [u8])
     ensures { marks.new ≡ replicate (length marks.old) 0 }
 {
-    for i in 0..marks.len() {
-        marks[i] = 0;
-    }
+    marks.fill(0);
 }
 
 // Whether the 32 marks from x on are 0.
@@ -28,8 +26,8 @@ fn block_clear(marks: &[u8], x: usize) -> bool
     ensures { result ≡ true → Clear marks.now x (x + 32) }
 {
     let mut any: u8 = 0;
-    for k in 0..32 {
-        any |= marks[x + k];
+    for &mark in &marks[x..x + 32] {
+        any |= mark;
     }
     any == 0
 }
@@ -100,19 +98,6 @@ pub fn skip_grouped(marks: &[u8], groups: &[u8], x: usize) -> usize
 
 // ---- lists
 
-// Where x is listed, it becomes the word r; how many are listed then.
-fn enter(words: &mut [u16], r: u32, x: u32, listed: bool) -> u32
-    requires { (r < length words.old) × (r < 65536) × (x < 65536) }
-    ensures { Entered listed r x result words.old words.new }
-{
-    if listed {
-        words[r as usize] = x as u16;
-        r + 1
-    } else {
-        r
-    }
-}
-
 // Lists the slots with the mark 1, rising; how many they are.
 pub fn list_ones(marks: &[u8], words: &mut [u16]) -> u32
     requires { (length marks.now ≤ 65536) × (length marks.now ≤ length words.old) }
@@ -121,7 +106,10 @@ pub fn list_ones(marks: &[u8], words: &mut [u16]) -> u32
     let mut r: u32 = 0;
     let mut x = skip_blocks(marks, 0);
     while x < marks.len() {
-        r = enter(words, r, x as u32, marks[x] == 1);
+        if marks[x] == 1 {
+            words[r as usize] = x as u16;
+            r += 1;
+        }
         x = skip_clear(marks, x + 1);
     }
     r
@@ -135,10 +123,14 @@ pub fn list_unused(table: &[u32], words: &mut [u16], want: u32) -> u32
 {
     let end = slots(table);
     let mut r: u32 = 0;
-    let mut x: u32 = 0;
-    while (x < end) & (r < want) {
-        r = enter(words, r, x, link_in(table, 0, x) == UNUSED);
-        x += 1;
+    for x in 0..end {
+        if link_in(table, 0, x) == UNUSED {
+            if r == want {
+                break;
+            }
+            words[r as usize] = x as u16;
+            r += 1;
+        }
     }
     r
 }

@@ -9,12 +9,8 @@ ghost use Rattle.lines.specs.Held.{Room, Kept};
 use lines::Session;
 use std::io::{Read, Stdin};
 
-// A session after a piece, and whether there may be more of the input.
-#[derive(Clone, Copy)]
-struct Going {
-    session: Session,
-    more: bool,
-}
+// Nothing says that the input ends, so the pieces are counted, up to a number that no input comes to.
+const PIECES: u64 = 1125899906842624;
 
 // How many bytes of the next piece are read. A read that fails is the end of the input.
 fn read_piece(input: Stdin, piece: &mut [u8]) -> usize
@@ -27,39 +23,32 @@ fn read_piece(input: Stdin, piece: &mut [u8]) -> usize
     }
 }
 
-// Reads a piece, and writes what is printed for it.
+// Reads a piece, and writes what is printed for it; whether there may be more of the input.
 fn turn(
-    s: Session,
+    s: &mut Session,
     input: Stdin,
     text: &mut [u8],
     table: &mut [u32],
     marks: &mut [u8],
     journal: &mut [u32],
     out: &mut [u8],
-) -> Going
-    requires room { (Room text.old table.old marks.old journal.old) × (Kept s) }
-    requires line_bound { (s.line + 2048 < 18446744073709551616) × (163840 ≤ length out.old) }
-    ensures { (Kept result.session) × (result.session.line ≤ s.line + 2048) }
+) -> bool
+    requires room { (Room text.old table.old marks.old journal.old) × (Kept s.old) }
+    requires line_bound { (s.old.line + 2048 < 18446744073709551616) × (163840 ≤ length out.old) }
+    ensures { (Kept s.new) × (s.new.line ≤ s.old.line + 2048) }
 {
     let mut piece = [0u8; 2048];
     let n = read_piece(input, &mut piece);
     if n == 0 {
-        return Going {
-            session: s,
-            more: false,
-        };
+        return false;
     }
-    let step = lines::feed(s, &piece[..n], text, table, marks, journal, out, 0);
+    let step = lines::feed(*s, &piece[..n], text, table, marks, journal, out, 0);
     let at = step.at;
-    let session = step.session;
-    let written = io::write_all(1, &out[..at]);
-    Going {
-        session: session,
-        more: written & !session.done,
-    }
+    *s = step.session;
+    io::write_all(1, &out[..at]) & !step.session.done
 }
 
-// Nothing says that the input ends, so the turns are counted down, from a number that no input uses up.
+// The pieces one after the other, and what is printed at the end.
 fn run(
     input: Stdin,
     text: &mut [u8],
@@ -71,14 +60,9 @@ fn run(
     requires { (Room text.old table.old marks.old journal.old) × (163840 ≤ length out.old) }
 {
     let mut s = lines::start();
-    let mut turns: u64 = 1125899906842624;
-    while turns > 0 {
-        let t = turn(s, input, text, table, marks, journal, out);
-        s = t.session;
-        if t.more {
-            turns -= 1;
-        } else {
-            turns = 0;
+    for piece in 0..PIECES {
+        if !turn(&mut s, input, text, table, marks, journal, out) {
+            break;
         }
     }
     let end = lines::finish(s, table, out, 0);

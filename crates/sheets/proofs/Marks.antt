@@ -1,11 +1,12 @@
 -- One cell: its darts are marked one by one, the darts over its sides put to those that wait one by one, and what comes of both.
--- Main theorems: `firsts_none` and `firsts_next`; `marked_on`, `touched_long`, `other_long`, `rest_none`, `rest_new` and `rest_old`; `waiting_none`, `over_low` and `waiting_next`; `spread_of`.
-use Prim.Native.Nat.{ℕ, zero, suc, ◌+◌, ◌≤◌, ◌<◌}
+-- Main theorems: `firsts_none` and `firsts_next`; `later_at`, `marked_on`, `touched_long`, `other_long`, `rest_none`, `rest_new` and `rest_old`; `waiting_none`, `over_low` and `waiting_next`; `spread_of`.
+use Prim.Native.Nat.{ℕ, zero, suc, ◌+◌, ◌-◌, ◌≤◌, ◌<◌}
 use mathlib.Core.Path.{◌≡◌, refl, sym, ap, ◌∙◌}
 use mathlib.Core.Logic.{◌⊎◌, inl, inr, ◌≢◌, ⊎_elim}
 use mathlib.Core.List.{List, [], ◌∷◌}
 use native.Mathlib.Omega.{arith}
-use lib.ListN.{length, get_or, set, length-set}
+use lib.ListN.{length, get_or, set, take, drop, length-set, length-drop}
+use Rattle.std.proofs.Common.{length-take-le, get_or-drop, get_or-take}
 use lib.Seq.{get_or-set_same, get_or-set_other}
 use borrow.Author.Tests.{eq-eqb, ne_eqb}
 use Rattle.model.specs.Lists.{count}
@@ -74,6 +75,17 @@ module _ {m cell : List ℕ} {count k : ℕ} {r : List ℕ} (F : Fresh m cell co
       before j h e = if_eq j k (λ q. absurd (e (ap (λ (i : ℕ). get_or cell i 0) q))) (λ q. omega arith)
 
 -- ---- the marks 2 and 3
+
+module _ (cell : List ℕ) (a : ℕ) where
+  -- the darts listed from the place a on, as a slice has them
+  abbrev pub later : List ℕ
+  later = take (length cell - a) (drop a cell)
+
+  pub later_length : length later ≡ length cell - a
+  later_length = let tail = length-drop a cell in length-take-le (length cell - a) (drop a cell) (omega arith)
+
+  pub later_at : (k : ℕ) → a + k < length cell → get_or later k 0 ≡ get_or cell (a + k) 0
+  later_at k l = get_or-take (length cell - a) (drop a cell) k 0 (omega arith) ∙ get_or-drop a cell k 0
 
 -- x has got the mark 2, and y has a mark, 3 if it is new
 pub record Marked-on (r : List ℕ) (x y : ℕ) (q : List ℕ) : Type 0 where

@@ -5,13 +5,14 @@
 ghost use Rattle.std.specs.Prelude.{◌≡◌, ◌+◌, ◌*◌, ◌<◌, ◌≤◌, length, replicate};
 ghost use Rattle.model.specs.Lists.{count};
 ghost use Rattle.model.specs.Table.{slots, link};
+ghost use Rattle.model.specs.Cell.{cell_size};
 ghost use Rattle.model.specs.Sheet.{sheet, sheet_marks};
 ghost use Rattle.model.specs.Meaning.Maps.{Dim};
 ghost use Rattle.model.specs.Meaning.Sheets.{BlockDart, half};
 ghost use Rattle.cells.specs.Listing.{Listing, places};
 ghost use Rattle.sheets.specs.Spread.{sides, side_start, Fresh, Firsts, Touched, Other, Rest, Put, Waiting, Ready, Spread, Begins};
 
-use cells::{cell_2d, cell_3d};
+use cells::cell;
 use numbering::place;
 use reading::link_in;
 
@@ -36,9 +37,8 @@ fn mark_first(marks: &mut [u8], cell: &[u32], count: usize)
     requires { (count ≤ length cell.now) × (Fresh marks.old cell.now count) }
     ensures { Firsts marks.old cell.now count marks.new }
 {
-    for k in 0..count {
-        let x = cell[k] as usize;
-        marks[x] = 1;
+    for &x in &cell[..count] {
+        marks[x as usize] = 1;
     }
 }
 
@@ -73,8 +73,8 @@ fn mark_rest(n: u32, table: &[u32], marks: &mut [u8], cell: &[u32], from: usize)
     ensures { Rest n table.now marks.old cell.now from (length cell.now)
         marks.new }
 {
-    for k in from..cell.len() {
-        mark_other(n, table, marks, cell[k]);
+    for &x in &cell[from..] {
+        mark_other(n, table, marks, x);
     }
 }
 
@@ -132,24 +132,20 @@ fn spread_cell(
     put_links(n, table, marks, work, size, cell)
 }
 
-// The cell of g, n = 2.
-fn spread_2d(table: &[u32], marks: &mut [u8], work: &mut [u16], size: usize, g: u32) -> usize
-    requires { Begins 2 table.now marks.old work.old size g }
-    ensures { Spread 2 table.now marks.old (places 2 table.now g) work.old size
+// The cell of g, listed as a value.
+fn spread_listed<const N: u32, const SIZE: usize>(
+    table: &[u32],
+    marks: &mut [u8],
+    work: &mut [u16],
+    size: usize,
+    g: u32,
+) -> usize
+    requires { (Begins N table.now marks.old work.old size g) × (SIZE ≡ cell_size N) }
+    ensures { Spread N table.now marks.old (places N table.now g) work.old size
         marks.new work.new result }
 {
-    let cell = cell_2d(table, g);
-    spread_cell(2, table, marks, work, size, &cell)
-}
-
-// The same for n = 3.
-fn spread_3d(table: &[u32], marks: &mut [u8], work: &mut [u16], size: usize, g: u32) -> usize
-    requires { Begins 3 table.now marks.old work.old size g }
-    ensures { Spread 3 table.now marks.old (places 3 table.now g) work.old size
-        marks.new work.new result }
-{
-    let cell = cell_3d(table, g);
-    spread_cell(3, table, marks, work, size, &cell)
+    let cell = cell::<N, SIZE>(table, g);
+    spread_cell(N, table, marks, work, size, &cell)
 }
 
 // The cell of g.
@@ -159,9 +155,9 @@ fn spread(n: u32, table: &[u32], marks: &mut [u8], work: &mut [u16], size: usize
         marks.new work.new result }
 {
     if n == 3 {
-        spread_3d(table, marks, work, size, g)
+        spread_listed::<3, 48>(table, marks, work, size, g)
     } else {
-        spread_2d(table, marks, work, size, g)
+        spread_listed::<2, 8>(table, marks, work, size, g)
     }
 }
 

@@ -10,7 +10,7 @@ use lib.ListN.{length, set, length-set}
 use lib.Seq.{get_or-set_same, get_or-set_other}
 use Rattle.model.specs.Table.{slots, link, live}
 use Rattle.theorems.proofs.Lists.Scan.{if_eq, or_cases, or_false, clash}
-use Rattle.sides.specs.Turns.{turned, turns, Alike, AlikeAt, Passing, EndTest, Gone, BothEnd, Together, Walked, Parted}
+use Rattle.sides.specs.Turns.{turned, turns, Alike, AlikeAt, Passing, EndTest, Gone, BothEnd, Together, Unlike, Parted}
 use Rattle.sides.proofs.SideTurns.{New, turns_live, turns_low, turns_few, turns_fit}
 
 pub record Going (t : List ℕ) (a b d e : ℕ) (xs₀ ys₀ xs ys : List ℕ) (x y k : ℕ) (ended : Bool) : Type 0 where
@@ -114,11 +114,8 @@ module _ {d e x p u y q v : ℕ} (like : Alike d e x p u y q v) where
 module _ {t : List ℕ} {a b d e : ℕ} {xs₀ ys₀ xs ys : List ℕ} {x y k : ℕ} {ended : Bool} (P : Parted t a b d e xs₀ ys₀)
     (g : Going t a b d e xs₀ ys₀ xs ys x y k ended) {p u q v : ℕ} (L : Turn t a b d k x p u) (R : Turn t a b e k y q v) where
   -- the walks differ
-  pub going_differs : (ls rs : List ℕ) → (Alike d e x p u y q v → ⊥) → Walked t a b d e 0 ended ls rs
-  going_differs ls rs differs = record {
-    round = λ l. absurd (omega arith);
-    differs = λ _. (k, λ h. differs (rw (L.from, L.by, L.to, R.from, R.by, R.to) h));
-  }
+  pub going_differs : (Alike d e x p u y q v → ⊥) → Unlike t a b d e
+  going_differs differs = (k, λ h. differs (rw (L.from, L.by, L.to, R.from, R.by, R.to) h))
 
   module _ {m : Bool} (like : Alike d e x p u y q v) (ends : EndTest x p u m) where
     like_at : AlikeAt t a b d e k

@@ -1,24 +1,22 @@
 -- The lists that two sides walked in step give: where the walks have met an end, the darts after each turn (`open_listing`); where not,
--- these and the darts on the way (`shut_listing`), for which there is room (`shut_room`). `step_round` and `step_mirrored` are the ends of
--- `in_step`.
+-- these and the darts on the way (`shut_listing`), for which there is room (`shut_room`). `step_differs`, `step_ended` and `step_mirrored`
+-- are the ends of `in_step`.
 use Prim.Native.Nat.{ℕ, zero, suc, ◌+◌, ◌-◌, ◌*◌, ◌≤◌, ◌<◌}
 use mathlib.Core.Path.{◌≡◌, refl, sym, ap, ◌∙◌}
 use mathlib.Core.Logic.{◌⊎◌, inl, inr, ⊎_elim}
-use mathlib.Core.Bool.{Bool, true, false, ◌||◌}
+use mathlib.Core.Bool.{Bool, true, false}
 use mathlib.Core.List.{List}
 use native.Mathlib.Omega.{arith}
 use lib.ListN.{length, get_or}
-use lib.Dec.{eqb}
-use borrow.Author.Tests.{eqb-true, eqb-false}
 use Rattle.model.specs.Table.{slots, link}
-use Rattle.model.specs.Sew.{side}
+use Rattle.model.specs.Sew.{side, is_paired}
 use Rattle.model.specs.Meaning.Sets.{Marked}
 use Rattle.model.specs.Meaning.Pairings.{OnSide}
-use Rattle.theorems.proofs.Lists.Scan.{if_lt, or_cases, or_false}
+use Rattle.theorems.proofs.Lists.Scan.{if_lt}
 use Rattle.theorems.proofs.Maps.Tables.{live_below}
 use Rattle.theorems.proofs.Sewing.Side.{side_live, side_own, sides_parted}
-use Rattle.sides.specs.Turns.{turned, turns, SideLinks, Gone, BothEnd, Together, Walked, Parted}
-use Rattle.sides.specs.Turns.{Mirrors, Mirrored, Apart, Listing, InStep}
+use Rattle.sides.specs.Turns.{turned, turns, SideLinks, Gone, BothEnd, Together, Unlike, Walked, Parted}
+use Rattle.sides.specs.Turns.{Mirrors, Mirrored, Apart, Listing, Listed}
 use Rattle.sides.proofs.Turning.{turned_apart, mirror_apart, open_all}
 use Rattle.sides.proofs.SideTurns.{both, both_low, both_high, few_both}
 use Rattle.sides.proofs.SideTurns.{side_start_lem, side_turning, side_turns, turns_live, turns_few, turns_fit}
@@ -201,46 +199,38 @@ module _ {n : ℕ} {t : List ℕ} {i d e : ℕ} {xs₀ ys₀ : List ℕ} (A : Ap
     right_room = A.right_room;
   }
 
+  -- they differ
+  pub step_differs : Unlike t a b d e → is_paired n t i d e ≡ false
+  step_differs j = not_paired A.left A.right links j.0 j.1
+
   module _ {ended : Bool} {xs ys : List ℕ} where
     pub step_few : (size : ℕ) → Walked t a b d e size ended xs ys → size ≤ slots t
     step_few zero w = omega arith
-    step_few (suc m) w = turns_few (side_start_lem A.left links) m (w.round (omega arith)).left.new
+    step_few (suc m) w = turns_few (side_start_lem A.left links) m w.round.left.new
 
-    -- they have met an end, or differ
-    pub step_round : (size : ℕ) → Walked t a b d e size ended xs ys → (ended || eqb size 0) ≡ true → InStep n t i d e size xs ys
-    step_round zero w h = record {
-      few = omega arith;
-      lists = λ l. absurd (omega arith);
-      differs = λ _. let j = w.differs refl in not_paired A.left A.right links j.0 j.1;
-    }
-    step_round (suc m) w h =
-        let g = w.round (omega arith) in
-        let end = g.end (⊎_elim (λ z. z) (λ z. let q = eqb-true (suc m) 0 z in absurd (omega arith)) (or_cases ended (eqb (suc m) 0) h)) in
+    -- they have met an end
+    pub step_ended : (size : ℕ) → Walked t a b d e size ended xs ys → ended ≡ true → Listed n t i d e size xs ys
+    step_ended zero w h = absurd (let l = w.some in omega arith)
+    step_ended (suc m) w h =
+        let g = w.round in
         let P = step_parted in
         record {
           few = turns_fit P.left P.right P.apart m g.left.new g.right.new;
-          lists = λ _. open_listing A.left A.right links m g end;
-          differs = λ z. absurd (omega arith);
+          some = w.some;
+          lists = open_listing A.left A.right links m g (g.end h);
         }
 
-    step_shut : (size : ℕ) → Walked t a b d e size ended xs ys → (ended || eqb size 0) ≡ false → Shut t a b d e size xs ys
-    step_shut zero w h = absurd (eqb-false 0 0 (or_false ended (eqb 0 0) h).1 refl)
-    step_shut (suc m) w h = record {
-      less = m;
-      is = refl;
-      together = rw (or_false ended (eqb (suc m) 0) h).0 at (w.round (omega arith));
-    }
+    step_shut : (size : ℕ) → Walked t a b d e size ended xs ys → ended ≡ false → Shut t a b d e size xs ys
+    step_shut zero w h = absurd (let l = w.some in omega arith)
+    step_shut (suc m) w h = record { less = m; is = refl; together = rw h at w.round }
 
-    module _ (size : ℕ) (w : Walked t a b d e size ended xs ys) (h : (ended || eqb size 0) ≡ false) where
+    module _ (size : ℕ) (w : Walked t a b d e size ended xs ys) (h : ended ≡ false) where
       room : (size + size) + (size + size) ≤ slots t
       room =
           let s = step_shut size w h in
           let l = shut_room A.left A.right links s.less s.together A.apart in
           let e = s.is in
           omega arith
-
-      some : 0 < size
-      some = let s = (step_shut size w h).is in omega arith
 
       pub step_left : length xs ≡ length xs₀ → Mirrors t a size xs
       step_left long =
@@ -250,7 +240,7 @@ module _ {n : ℕ} {t : List ℕ} {i d e : ℕ} {xs₀ ys₀ : List ℕ} (A : Ap
           record {
             linked = start.mapped.linked;
             low = start.first_low;
-            lives = λ j l. rw ((w.round some).left.listed j l) (turns_live start j);
+            lives = λ j l. rw (w.round.left.listed j l) (turns_live start j);
             room = omega arith;
           }
 
@@ -262,19 +252,19 @@ module _ {n : ℕ} {t : List ℕ} {i d e : ℕ} {xs₀ ys₀ : List ℕ} (A : Ap
           record {
             linked = start.mapped.linked;
             low = start.first_low;
-            lives = λ j l. rw ((w.round some).right.listed j l) (turns_live start j);
+            lives = λ j l. rw (w.round.right.listed j l) (turns_live start j);
             room = omega arith;
           }
 
       pub step_mirrored : {xs' ys' : List ℕ} → Mirrored t a size xs xs' → Mirrored t a size ys ys'
-          → InStep n t i d e (2 * size) xs' ys'
+          → Listed n t i d e (2 * size) xs' ys'
       step_mirrored lm rm =
           let s = step_shut size w h in
           let e = s.is in
-          let l = some in
+          let l = w.some in
           let fit = room in
           record {
             few = omega arith;
-            lists = λ _. shut_listing A.left A.right links s.less s.together (rw e at lm) (rw e at rm) (2 * size) (omega arith);
-            differs = λ z. absurd (omega arith);
+            some = omega arith;
+            lists = shut_listing A.left A.right links s.less s.together (rw e at lm) (rw e at rm) (2 * size) (omega arith);
           }

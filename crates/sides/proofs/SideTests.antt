@@ -2,10 +2,10 @@
 use Prim.Native.Nat.{ℕ, ◌-◌, ◌≤◌}
 use mathlib.Core.Path.{◌≡◌, refl}
 use mathlib.Core.Logic.{◌⊎◌, inl, inr, ◌≢◌, ⊎_elim}
-use mathlib.Core.Bool.{Bool, true, false, not, ◌||◌}
+use mathlib.Core.Bool.{Bool, true, false, not, ◌&&◌, ◌||◌, beq}
 use native.Mathlib.Omega.{arith}
 use lib.Dec.{eqb}
-use borrow.Author.Tests.{eqb-true, eqb-false, not-true, not-false}
+use borrow.Author.Tests.{eqb-true, eqb-false, eq-eqb, ne_eqb, not-true, not-false}
 use Rattle.model.specs.Meaning.Maps.{Dim}
 use Rattle.model.specs.Meaning.Pairings.{Far}
 use Rattle.theorems.proofs.Lists.Scan.{if_eq, or_cases, or_false, clash}
@@ -41,17 +41,29 @@ module _ (n i : ℕ) (dim : Dim n) where
 -- ---- tests
 
 module _ (p x q y : ℕ) where
-  pub same_taken : p ≡ x → Tests (Same p x q y) (eqb q y)
+  same_taken : p ≡ x → Tests (Same p x q y) (eqb q y)
   same_taken e = record {
     holds = λ r. (λ _. eqb-true q y r, λ _. e);
     fails = λ r s. eqb-false q y r (s.0 e);
   }
 
-  pub same_left : p ≢ x → Tests (Same p x q y) (not (eqb q y))
+  same_left : p ≢ x → Tests (Same p x q y) (not (eqb q y))
   same_left e = record {
     holds = λ r. (λ h. absurd (e h), λ h. absurd (eqb-false q y (not-true (eqb q y) r) h));
     fails = λ r s. e (s.1 (eqb-true q y (not-false (eqb q y) r)));
   }
+
+  pub same_test : Tests (Same p x q y) (beq (eqb p x) (eqb q y))
+  same_test = if_eq p x (λ e. rw (eq-eqb p x e, beq_taken (eqb q y)) (same_taken e))
+      (λ e. rw (ne_eqb p x e, beq_left (eqb q y)) (same_left e))
+    where
+      beq_taken : (r : Bool) → beq true r ≡ r
+      beq_taken true = refl
+      beq_taken false = refl
+
+      beq_left : (r : Bool) → beq false r ≡ not r
+      beq_left true = refl
+      beq_left false = refl
 
 pub end_test : (x p u : ℕ) → EndTest x p u (eqb p x || eqb u p)
 end_test x p u = record {
@@ -59,22 +71,11 @@ end_test x p u = record {
   passes = λ r. let h = or_false (eqb p x) (eqb u p) r in (eqb-false p x h.0, eqb-false u p h.1);
 }
 
-module _ {d e x p u y q v : ℕ} where
-  pub alike_first : (r : Bool) → Tests (Same p x q y) r → not r ≡ true → Tests (Alike d e x p u y q v) false
-  alike_first r t h = record {
-    holds = λ z. absurd (clash z refl);
-    fails = λ _ s. t.fails (not-true r h) s.first;
-  }
-
-  pub alike_second : (r : Bool) → Tests (Same u p v q) r → not r ≡ true → Tests (Alike d e x p u y q v) false
-  alike_second r t h = record {
-    holds = λ z. absurd (clash z refl);
-    fails = λ _ s. t.fails (not-true r h) s.second;
-  }
-
-  pub alike_third : (r₁ r₂ r : Bool) → Tests (Same p x q y) r₁ → not r₁ ≡ false → Tests (Same u p v q) r₂ → not r₂ ≡ false
-      → Tests (Same u d v e) r → Tests (Alike d e x p u y q v) r
-  alike_third r₁ r₂ r t₁ h₁ t₂ h₂ t = record {
-    holds = λ z. record { first = t₁.holds (not-false r₁ h₁); second = t₂.holds (not-false r₂ h₂); round = t.holds z };
-    fails = λ z s. t.fails z s.round;
-  }
+pub alike_test : {d e x p u y q v : ℕ} (r₁ r₂ r₃ : Bool) → Tests (Same p x q y) r₁ → Tests (Same u p v q) r₂ → Tests (Same u d v e) r₃
+    → Tests (Alike d e x p u y q v) ((r₁ && r₂) && r₃)
+alike_test false r₂ r₃ t₁ t₂ t₃ = record { holds = λ z. absurd (clash z refl); fails = λ _ s. t₁.fails refl s.first }
+alike_test true false r₃ t₁ t₂ t₃ = record { holds = λ z. absurd (clash z refl); fails = λ _ s. t₂.fails refl s.second }
+alike_test true true r₃ t₁ t₂ t₃ = record {
+  holds = λ z. record { first = t₁.holds refl; second = t₂.holds refl; round = t₃.holds z };
+  fails = λ z s. t₃.fails z s.round;
+}

@@ -1,5 +1,5 @@
 -- Two links walked in turn, link a and then link b: `turned`. What a walk of two sides in step asks and gives.
-use Rattle.std.specs.Prelude.{ℕ, zero, suc, ◌+◌, ◌*◌, ◌≤◌, ◌<◌, ◌≡◌, ◌⊎◌, ◌≢◌, Bool, true, false, List, length, get_or}
+use Rattle.std.specs.Prelude.{ℕ, zero, suc, ◌+◌, ◌*◌, ◌≤◌, ◌<◌, ◌≡◌, ◌⊎◌, ◌≢◌, Bool, true, false, List, length, get_or, Option, MatchOption}
 use Rattle.model.specs.Lists.{count}
 use Rattle.model.specs.Table.{slots, link, live}
 use Rattle.model.specs.Sew.{side, is_paired}
@@ -110,10 +110,14 @@ pub record Together (t : List ℕ) (a b d e k : ℕ) (ended : Bool) (xs ys : Lis
   pub right_round : turns t a b e k ≡ e
   pub end : ended ≡ true → BothEnd t a b d e k
 
--- they are, after k turns; or k is 0, and they are not alike
+-- they are, after k turns
 pub record Walked (t : List ℕ) (a b d e k : ℕ) (ended : Bool) (xs ys : List ℕ) : Type 0 where
-  pub round : 0 < k → Together t a b d e k ended xs ys
-  pub differs : k ≡ 0 → (j : ℕ) × (AlikeAt t a b d e j → ⊥)
+  pub some : 0 < k
+  pub round : Together t a b d e k ended xs ys
+
+-- .. or they are not alike
+abbrev pub Unlike : List ℕ → ℕ → ℕ → ℕ → ℕ → Type 0
+Unlike t a b d e = (j : ℕ) × (AlikeAt t a b d e j → ⊥)
 
 -- what the walk of both asks: they have no dart in common, and the lists have room for half of the slots
 pub record Parted (t : List ℕ) (a b d e : ℕ) (xs ys : List ℕ) : Type 0 where
@@ -154,8 +158,12 @@ pub record Listing (n : ℕ) (t : List ℕ) (i d e r : ℕ) (xs ys : List ℕ) :
   pub marked : (k : ℕ) → k < r → Marked (side n t i d) (get_or xs k 0)
   pub pairs : (f : Pairing n t i d e) (k : ℕ) → k < r → f.f (get_or xs k 0) ≡ get_or ys k 0
 
--- they are listed, and no more than half of the slots; or r is 0, and there is no pairing
-pub record InStep (n : ℕ) (t : List ℕ) (i d e r : ℕ) (xs ys : List ℕ) : Type 0 where
+-- they are listed, and no more than half of the slots
+pub record Listed (n : ℕ) (t : List ℕ) (i d e r : ℕ) (xs ys : List ℕ) : Type 0 where
   pub few : r + r ≤ slots t
-  pub lists : 0 < r → Listing n t i d e r xs ys
-  pub differs : r ≡ 0 → is_paired n t i d e ≡ false
+  pub some : 0 < r
+  pub lists : Listing n t i d e r xs ys
+
+-- .. or there is no pairing
+abbrev pub InStep : ℕ → List ℕ → ℕ → ℕ → ℕ → Option ℕ → List ℕ → List ℕ → Type 0
+InStep n t i d e r xs ys = MatchOption r (is_paired n t i d e ≡ false) (λ size. Listed n t i d e size xs ys)

@@ -2,12 +2,12 @@
 // comes back to its start. Whether a side has a dart, and two sides walked in step, for sew.
 #![tactic(auto)]
 
-ghost use Rattle.std.specs.Prelude.{◌≡◌, ◌≤◌};
+ghost use Rattle.std.specs.Prelude.{◌≡◌, ◌≤◌, IfNone, IfSome};
 ghost use Rattle.model.specs.Sew.{side};
 ghost use Rattle.model.specs.Reach.{in_set};
 ghost use Rattle.model.specs.Meaning.Maps.{Dim};
 ghost use Rattle.model.specs.Meaning.Pairings.{OnSide};
-ghost use Rattle.sides.specs.Turns.{SideLinks, Same, Alike, Tests, EndTest, Parted, Walked, Mirrors, Mirrored, Apart, InStep};
+ghost use Rattle.sides.specs.Turns.{SideLinks, Same, Alike, Tests, EndTest, Parted, Unlike, Walked, Mirrors, Mirrored, Apart, InStep};
 
 // The links of a side. Where there is one only, it stands twice; where there is none, n is 2, and link 3 leads from each dart to itself.
 #[derive(Clone, Copy)]
@@ -54,20 +54,14 @@ pub fn meets(n: u32, table: &[u32], i: u32, d: u32, e: u32) -> bool
 fn same(p: u32, x: u32, q: u32, y: u32) -> bool
     ensures { Tests (Same p x q y) result }
 {
-    if p == x { q == y } else { q != y }
+    (p == x) == (q == y)
 }
 
 // Whether the turn from x by p to u is like that from y by q to v.
 fn alike(d: u32, e: u32, x: u32, p: u32, u: u32, y: u32, q: u32, v: u32) -> bool
     ensures { Tests (Alike d e x p u y q v) result }
 {
-    if !same(p, x, q, y) {
-        return false;
-    }
-    if !same(u, p, v, q) {
-        return false;
-    }
-    same(u, d, v, e)
+    same(p, x, q, y) & same(u, p, v, q) & same(u, d, v, e)
 }
 
 // Whether the turn from x by p to u has an end.
@@ -84,7 +78,7 @@ struct Round {
     ended: bool,
 }
 
-// The walks from d and e, turn by turn, until both are at their starts again; 0 turns if they are not alike.
+// The walks from d and e, turn by turn, until both are at their starts again; none if they are not alike.
 fn walk_round(
     table: &[u32],
     a: u32,
@@ -93,9 +87,10 @@ fn walk_round(
     e: u32,
     xs: &mut [u16],
     ys: &mut [u16],
-) -> Round
+) -> Option<Round>
     requires { Parted table.now a b d e xs.old ys.old }
-    ensures { Walked table.now a b d e result.size result.ended xs.new ys.new }
+    ensures differs { IfNone result (Unlike table.now a b d e) }
+    ensures walked { IfSome result (λ round. Walked table.now a b d e round.size round.ended xs.new ys.new) }
 {
     let mut x = d;
     let mut y = e;
@@ -110,17 +105,11 @@ fn walk_round(
         let u = reading::link_in(table, b as usize, p);
         let v = reading::link_in(table, b as usize, q);
         if !alike(d, e, x, p, u, y, q, v) {
-            return Round {
-                size: 0,
-                ended: ended,
-            };
+            return None;
         }
         ended = ended | has_end(x, p, u);
         if u == d {
-            return Round {
-                size: k,
-                ended: ended,
-            };
+            return Some(Round { size: k, ended });
         }
         x = u;
         y = v;
@@ -132,29 +121,33 @@ fn mirror(table: &[u32], a: u32, words: &mut [u16], size: usize)
     requires { Mirrors table.now a size words.old }
     ensures { Mirrored table.now a size words.old words.new }
 {
-    let mut k: usize = 0;
-    while k < size {
+    // k stays a number: the word that is read and the one that is written stand in one slice
+    for k in 0..size {
         let x = words[k] as u32;
         words[size + k] = reading::link_in(table, a as usize, x) as u16;
-        k += 1;
     }
 }
 
-// The darts of d's side and their partners in e's side, and how many they are; 0 if there is no pairing. Where the walk has met an end,
-// its darts after each turn are all; where not, those on the way are others.
-pub fn in_step(n: u32, table: &[u32], i: u32, d: u32, e: u32, xs: &mut [u16], ys: &mut [u16]) -> u32
+// The darts of d's side and their partners in e's side, and how many they are; none if there is no pairing. Where the walk has met an
+// end, its darts after each turn are all; where not, those on the way are others.
+pub fn in_step(
+    n: u32,
+    table: &[u32],
+    i: u32,
+    d: u32,
+    e: u32,
+    xs: &mut [u16],
+    ys: &mut [u16],
+) -> Option<u32>
     requires { Apart n table.now i d e xs.old ys.old }
     ensures { InStep n table.now i d e result xs.new ys.new }
 {
-    let links = side_links(n, i);
-    let a = links.a;
-    let b = links.b;
-    let round = walk_round(table, a, b, d, e, xs, ys);
-    let size = round.size;
-    if round.ended | (size == 0) {
-        return size as u32;
+    let Links { a, b } = side_links(n, i);
+    let Round { size, ended } = walk_round(table, a, b, d, e, xs, ys)?;
+    if ended {
+        return Some(size as u32);
     }
     mirror(table, a, xs, size);
     mirror(table, a, ys, size);
-    (2 * size) as u32
+    Some((2 * size) as u32)
 }

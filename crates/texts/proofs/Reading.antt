@@ -1,13 +1,14 @@
 -- A number read digit by digit, and left at the first byte that no longer fits.
 use Prim.Native.Nat.{ℕ, ◌+◌, ◌*◌, ◌-◌, ◌<◌, ◌≤◌}
 use mathlib.Core.Path.{◌≡◌, refl}
-use mathlib.Core.Logic.{◌≢◌}
+use mathlib.Core.Logic.{◌≢◌, ◌⊎◌, inl, inr}
 use mathlib.Core.List.{List, [], ◌∷◌}
 use mathlib.Core.Option.{Option, none, some}
 use native.Mathlib.Omega.{arith}
 use native.Mathlib.Numerals.{add-one}
 use lib.ListN.{length, get_or, drop}
 use lib.Seq.{drop-cons}
+use lib.Dec.{leb}
 use borrow.Author.Tests.{le-leb, lt-leb, eq-eqb, ne_eqb}
 use Rattle.model.specs.Text.{is_digit, digits, number, up_to}
 use Rattle.theorems.proofs.Lists.Scan.{test}
@@ -17,14 +18,13 @@ pub digits_step : (v : ℕ) (xs : List ℕ) (k : ℕ) → k < length xs → 48 �
 unfolding digits is_digit
 digits_step v xs k h low high = rw (add-one k, drop-cons xs k 0, digits, is_digit, le-leb 48 _ low, le-leb _ 57 high)
 
-pub digits_low : (v : ℕ) (xs : List ℕ) (k : ℕ) → k < length xs → get_or xs k 0 < 48 → digits v (drop k xs) ≡ none
+pub digits_other : (v : ℕ) (xs : List ℕ) (k : ℕ) → k < length xs → (get_or xs k 0 < 48) ⊎ (57 < get_or xs k 0)
+    → digits v (drop k xs) ≡ none
 unfolding digits is_digit
-digits_low v xs k h low = rw (drop-cons xs k 0, digits, is_digit, lt-leb 48 (get_or xs k 0) low)
-
-pub digits_high : (v : ℕ) (xs : List ℕ) (k : ℕ) → k < length xs → 57 < get_or xs k 0 → digits v (drop k xs) ≡ none
-unfolding digits is_digit
-digits_high v xs k h high =
-    rw (drop-cons xs k 0, digits, is_digit, le-leb 48 (get_or xs k 0) (omega arith), lt-leb (get_or xs k 0) 57 high)
+digits_other v xs k h (inl low) = rw (drop-cons xs k 0, digits, is_digit, lt-leb 48 (get_or xs k 0) low)
+digits_other v xs k h (inr high) =
+    test (leb 48 (get_or xs k 0)) (λ e. rw (drop-cons xs k 0, digits, is_digit, e, lt-leb (get_or xs k 0) 57 high))
+    (λ e. rw (drop-cons xs k 0, digits, is_digit, e))
 
 -- more digits make no lesser number
 pub digits_above : (top v : ℕ) (xs : List ℕ) → top < v → up_to top (digits v xs) ≡ none

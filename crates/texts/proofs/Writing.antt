@@ -6,8 +6,8 @@ use mathlib.Core.List.{List, [], ◌∷◌, ◌++◌, append-nil, append_assoc}
 use native.Mathlib.Omega.{arith}
 use native.Mathlib.Nat.{pow-suc}
 use native.Mathlib.Numerals.{add-one}
-use lib.ListN.{length, get_or, take, set, length-append, length-take}
-use lib.Seq.{take-suc, take-suc-set, length-take-le}
+use lib.ListN.{length, take, set, length-append, length-take}
+use lib.Seq.{take-suc-set, length-take-le}
 use lib.Dec.{ltb}
 use borrow.Author.Tests.{lt-ltb, le-ltb, ltb-true, ltb-false}
 use Rattle.model.specs.Text.{last_digits, decimal, said}
@@ -28,13 +28,6 @@ appended_then {a} {xs = xs} {ys = ys} h k = record {
   ends = simp length-append (omega (arith, h.ends, k.ends));
   holds = k.holds ∙ rw (h.holds, append_assoc);
 }
-
--- a text is copied byte by byte
-pub copied_more : (out p xs : List ℕ) (at k : ℕ) → at + k < length out → k < length xs → take (at + k) out ≡ p ++ take k xs
-    → take (at + (k + 1)) (set out (at + k) (get_or xs k 0)) ≡ p ++ take (k + 1) xs
-copied_more out p xs at k room h e =
-    let next : at + (k + 1) ≡ suc (at + k) = omega arith in
-    rw (next, take-suc-set out (at + k) (get_or xs k 0), e, add-one k, take-suc xs k 0, append_assoc)
 
 -- ---- digits
 

@@ -1,13 +1,43 @@
 // A call, and what is printed behind its line: what it answers, and what it leaves.
-ghost use Rattle.std.specs.Prelude.{◌≡◌, ◌≤◌, length, take};
-
 use crate::lines::Row;
 use crate::stage::Stage;
-use crate::{lines, shows, stage};
+use crate::{shows, stage};
+use answers::Told;
+use requests::Op;
+
+// A call with its i, d and e: "i holds the index or mask".
+#[derive(Clone, Copy)]
+pub struct Asked {
+    op: Op,
+    i: u32,
+    d: u32,
+    e: u32,
+}
+
+impl Asked {
+    // What a line asks: the last of its numbers.
+    pub fn by(op: Op, row: Row) -> Asked {
+        match op {
+            Op::Sew => Asked {
+                op,
+                i: row.a,
+                d: row.b,
+                e: row.c,
+            },
+            _ => Asked {
+                op,
+                i: row.b,
+                d: row.c,
+                e: 0,
+            },
+        }
+    }
+}
 
 // With a word of the journal and a value for it: that is its value for this call.
-pub fn call(
+pub fn call_with(
     s: Stage,
+    asked: Asked,
     row: Row,
     table: &mut [u32],
     drawn: &mut [u8],
@@ -15,87 +45,60 @@ pub fn call(
     list: &[u32],
     text: &[u8],
 ) {
-    let at = word_of(row);
+    let at = row.b as usize;
     let kept = stage::word(journal, at);
     stage::put(journal, at, row.c);
-    lend(s, asked(row), table, drawn, journal, list, text);
+    call(s, asked, table, drawn, journal, list, text);
     stage::put(journal, at, kept);
 }
 
-// A place past every journal, where no word is named.
-fn word_of(row: Row) -> usize {
-    if row.kind >= lines::UNDO_WITH {
-        row.b as usize
-    } else {
-        4294967295
-    }
-}
-
-// The place of the call, and its i, d and e.
-fn asked(row: Row) -> Row {
-    if row.kind == lines::SEW {
-        return row;
-    }
-    Row {
-        kind: if row.kind >= lines::UNDO_WITH {
-            row.kind - 6
-        } else {
-            row.kind
-        },
-        text: row.text,
-        a: row.b,
-        b: row.c,
-        c: 0,
-    }
-}
-
 // Each call is lent marks that are 9, but insert those that are drawn.
-fn lend(
+pub fn call(
     s: Stage,
-    row: Row,
+    asked: Asked,
     table: &mut [u32],
     drawn: &mut [u8],
     journal: &mut [u32],
     list: &[u32],
     text: &[u8],
 ) {
-    if row.kind == lines::INSERT {
-        lend_some(s, row, table, drawn, journal, list, text);
+    if asked.op == Op::Insert {
+        lend_some(s, asked, table, drawn, journal, list, text);
     } else {
-        lend_nines(s, row, table, journal, list, text);
+        lend_nines(s, asked, table, journal, list, text);
     }
 }
 
 fn lend_nines(
     s: Stage,
-    row: Row,
+    asked: Asked,
     table: &mut [u32],
     journal: &mut [u32],
     list: &[u32],
     text: &[u8],
 ) {
     let mut marks = [9u8; 65537];
-    lend_some(s, row, table, &mut marks, journal, list, text);
+    lend_some(s, asked, table, &mut marks, journal, list, text);
 }
 
 // The first of these marks are lent.
 fn lend_some(
     s: Stage,
-    row: Row,
+    asked: Asked,
     table: &mut [u32],
     marks: &mut [u8],
     journal: &mut [u32],
     list: &[u32],
     text: &[u8],
 ) {
-    let slots = few(marks, s.marks);
-    lend_queue(s, row, table, &mut marks[..slots], journal, list, text);
+    let slots = crate::few(marks, s.marks);
+    lend_queue(s, asked, table, &mut marks[..slots], journal, list, text);
 }
 
 // Each call is lent a queue of equal words, which only pick takes.
 fn lend_queue(
     s: Stage,
-    row: Row,
+    asked: Asked,
     table: &mut [u32],
     marks: &mut [u8],
     journal: &mut [u32],
@@ -104,23 +107,12 @@ fn lend_queue(
 ) {
     let word = s.queue_word;
     let mut queue = [word; 65537];
-    ask(s, row, table, marks, journal, list, &mut queue, text);
-}
-
-// So many bytes; if there are not so many, a question mark and none.
-pub fn few(bytes: &[u8], most: usize) -> usize
-    ensures { (result ≤ length bytes.now) × (result ≡ length (take result bytes.now)) }
-{
-    if most <= bytes.len() {
-        return most;
-    }
-    shows::unknown();
-    0
+    ask(s, asked, table, marks, journal, list, &mut queue, text);
 }
 
 fn ask(
     s: Stage,
-    row: Row,
+    asked: Asked,
     table: &mut [u32],
     marks: &mut [u8],
     journal: &mut [u32],
@@ -130,44 +122,52 @@ fn ask(
 ) {
     let words = crate::few(queue, s.queue);
     let mut taken: u32 = 0;
-    let a = requests::any_request(
+    let given = requests::any_request(
         s.n,
         table,
         marks,
         journal,
-        row.kind,
+        asked.op as u32,
         s.tag,
-        row.a,
-        row.b,
-        row.c,
+        asked.i,
+        asked.d,
+        asked.e,
         list,
         &mut queue[..words],
         &mut taken,
         text,
     );
-    shows::answer(a.number, a.place, a.count);
-    if row.kind == lines::PICK {
-        shows::picked(a.number, taken, queue, s.queue_word);
+    let told = Told::from(given);
+    shows::answer(told);
+    if asked.op == Op::Pick {
+        shows::picked(told.number, taken, queue, s.queue_word);
     }
-    left(row.kind, table, marks, journal);
+    left(asked.op, table, marks, journal);
 }
 
 // ---- what it leaves
 
-fn left(kind: u32, table: &[u32], marks: &[u8], journal: &[u32]) {
-    if kind > lines::SHEET && kind != lines::PICK {
+fn left(op: Op, table: &[u32], marks: &[u8], journal: &[u32]) {
+    if has_journal(op) {
         shows::journal(journal);
         shows::number(b", table ", shows::digest(table));
     }
-    if has_marks(kind) {
+    if has_marks(op) {
         shows::marks(marks);
     }
 }
 
-fn has_marks(kind: u32) -> bool {
-    match kind {
-        lines::ORBIT | lines::SHEET | lines::PICK => true,
-        lines::REMOVE | lines::SPLIT | lines::INSERT => true,
+fn has_journal(op: Op) -> bool {
+    match op {
+        Op::Check | Op::Orbit | Op::Sheet | Op::Pick => false,
+        _ => true,
+    }
+}
+
+fn has_marks(op: Op) -> bool {
+    match op {
+        Op::Orbit | Op::Sheet | Op::Pick => true,
+        Op::Remove | Op::Split | Op::Insert => true,
         _ => false,
     }
 }

@@ -1,79 +1,41 @@
 // A line of a script, read: its first word and how many numbers it has say what it does. A number is digits that stand
 // together.
+ghost use Rattle.std.specs.Prelude.{◌≤◌, length};
 
-// ---- the kinds of lines, by their places among the names; the calls have those that crates/requests gives them
+use requests::Op;
 
-pub const ORBIT: u32 = 1;
-
-pub const SHEET: u32 = 2;
-
-pub const SEW: u32 = 4;
-
-pub const REMOVE: u32 = 6;
-
-pub const SPLIT: u32 = 7;
-
-pub const INSERT: u32 = 10;
-
-pub const SEW_LIST: u32 = 11;
-
-pub const PICK: u32 = 12;
-
-pub const READ_VTK: u32 = 13;
-
-// undo and redo, with a word of the journal and a value for it
-pub const UNDO_WITH: u32 = 14;
-
-pub const LINKS: u32 = 16;
-
-pub const TABLE: u32 = 17;
-
-pub const WORDS: u32 = 18;
-
-pub const PUT: u32 = 19;
-
-pub const WRITE: u32 = 20;
-
-pub const FILL: u32 = 21;
-
-pub const MARK: u32 = 22;
-
-pub const ITEM: u32 = 23;
-
-pub const WORD: u32 = 24;
-
-pub const QUEUE: u32 = 25;
-
-pub const TILE: u32 = 26;
-
-pub const SCENE: u32 = 27;
-
-pub const LEND: u32 = 28;
-
-pub const DIM: u32 = 29;
-
-pub const TAG: u32 = 30;
-
-pub const UNKNOWN: u32 = 31;
-
-pub const REMARK: u32 = 32;
-
-// A line of the text, and no line, but the script's end.
-pub const TEXT: u32 = 33;
-
-pub const END: u32 = 34;
-
-// The first words, each with the digit of how many numbers there are.
-fn names(k: usize) -> u8 {
-    let all =
-        b"check0 orbit2 sheet1 add0 sew3 unsew2 remove1 split1 undo0 redo0 insert0 sewlist0 pick1 readvtk0 undo2 redo2 links1 table0 words2 put3 write2 fill3 mark3 item3 word1 queue2 tile2 scene3 lend3 dim1 tag1 ";
-    if k < 202 { all[k] } else { b' ' }
+// What a line does: a call, a call with a word of the journal and a value for it, or what the names behind the calls say.
+#[derive(Clone, Copy, Debug, PartialEq, Eq)]
+pub enum Kind {
+    Call(Op),
+    CallWith(Op),
+    Links,
+    Table,
+    Words,
+    Put,
+    Write,
+    Fill,
+    Mark,
+    Item,
+    Word,
+    Queue,
+    Tile,
+    Scene,
+    Lend,
+    Dim,
+    Tag,
+    Unknown,
+    Remark,
+    // a line of the text
+    Text,
+    // no line, but the script's end
+    End,
 }
 
 // What a line does, and the last three of its numbers; and how long the text is behind it.
 #[derive(Clone, Copy)]
 pub struct Row {
-    pub kind: u32,
+    pub kind: Kind,
     pub text: usize,
     pub a: u32,
     pub b: u32,
@@ -82,155 +44,166 @@ pub struct Row {
 
 // ---- a line is read and printed, byte by byte
 
-// The next byte, or 0 if there is none.
-fn byte() -> u8 {
+// The next byte, if there is one; a 0 ends a script too.
+fn byte() -> Option<u8> {
     let mut piece = [0u8; 1];
     if io::read_full(0, &mut piece) == 0 {
-        return 0;
+        return None;
     }
     if piece[0] != b'\n' {
         io::write_all(1, &piece);
     }
-    piece[0]
+    if piece[0] == 0 {
+        return None;
+    }
+    Some(piece[0])
 }
 
-// A line has at most 999 bytes. Behind a > they are put behind the text, of which `length` bytes are there, with a LF.
-pub fn heard(text: &mut [u8], length: usize) -> Row {
-    let mut word = Word { on: true, name: 0 };
-    let mut found = NONE;
-    let mut at = length;
-    let mut x = byte();
-    let mut left: u32 = 999;
-    while left > 0 {
-        if x == 0 || x == b'\n' {
-            left = 0;
-        } else {
-            at = with_text(word.name, x, text, at);
-            word = with_letter(word, x);
-            found = with_byte(found, x);
-            x = byte();
-            left -= 1;
+// The bytes that a line has.
+const LINE: usize = 999;
+
+// A line as it is read: how many bytes it has, and whether the script ends in it.
+#[derive(Clone, Copy)]
+struct Line {
+    length: usize,
+    ends: bool,
+}
+
+// A line has at most 999 bytes: one more is passed over.
+fn hear(line: &mut [u8; LINE]) -> Line
+    ensures { result.length ≤ 999 }
+{
+    for length in 0..LINE {
+        match byte() {
+            None => {
+                return Line { length, ends: true };
+            }
+            Some(b'\n') => {
+                return Line {
+                    length,
+                    ends: false,
+                };
+            }
+            Some(x) => {
+                line[length] = x;
+            }
         }
     }
+    Line {
+        length: LINE,
+        ends: byte().is_none(),
+    }
+}
+
+// A line that begins with a > is put behind the text, of which `length` bytes are there, with a LF.
+pub fn heard(text: &mut [u8], length: usize) -> Row {
+    let mut buffer = [0u8; LINE];
+    let heard = hear(&mut buffer);
+    let line = &buffer[..heard.length];
+    let word = &line[..word_length(line)];
+    let mut found = NONE;
+    for x in line {
+        found = found.with(*x);
+    }
     Row {
-        kind: kind(x, word.name, found.count),
-        text: with_text(word.name, b'\n', text, at),
+        kind: if heard.ends {
+            Kind::End
+        } else {
+            told(word, found.count)
+        },
+        text: match word {
+            b">" => with_text(&line[1..], text, length),
+            _ => length,
+        },
         a: found.a,
         b: found.b,
         c: found.c,
     }
 }
 
-// A byte of a line of the text, if there is room.
-fn with_text(name: u64, x: u8, text: &mut [u8], at: usize) -> usize {
-    if name == TEXT_SIGN {
-        if at < text.len() {
-            text[at] = x;
-            return at + 1;
-        }
+// The bytes of a line of the text and a LF, as far as there is room.
+fn with_text(line: &[u8], text: &mut [u8], length: usize) -> usize {
+    let mut at = length;
+    for x in line {
+        at = with_byte(*x, text, at);
+    }
+    with_byte(b'\n', text, at)
+}
+
+fn with_byte(x: u8, text: &mut [u8], at: usize) -> usize {
+    if at < text.len() {
+        text[at] = x;
+        return at + 1;
     }
     at
 }
 
 // ---- what it does
 
-// A # and a > as words: a line that begins with one has no other name.
-const REMARK_SIGN: u64 = 35;
+// The first word ends before a blank, and behind a sign: a # or a > that the line begins with.
+fn word_length(line: &[u8]) -> usize
+    ensures { result ≤ length line.now }
+{
+    for k in 0..line.len() {
+        if k == 1 && (line[0] == b'#' || line[0] == b'>') {
+            return 1;
+        }
+        if k > 0 && line[k] == b' ' {
+            return k;
+        }
+    }
+    line.len()
+}
 
-const TEXT_SIGN: u64 = 62;
-
-// An empty line and one that begins with a # are remarks.
-fn kind(x: u8, name: u64, count: u8) -> u32 {
-    if x == 0 {
-        END
-    } else if name == 0 || name == REMARK_SIGN {
-        REMARK
-    } else if name == TEXT_SIGN {
-        TEXT
-    } else {
-        place(spelled(name, count))
+// An empty line and one that begins with a # are remarks. Of the others the first word and how many numbers there are decide.
+fn told(word: &[u8], count: u8) -> Kind {
+    match word {
+        b"" | b"#" => Kind::Remark,
+        b">" => Kind::Text,
+        _ => named(word, count),
     }
 }
 
-// A word of more than eight bytes: the names have no more.
-const TOO_LONG: u64 = 18446744073709551615;
-
-// A word as a number: its bytes, if there are at most eight.
-fn spelled(name: u64, x: u8) -> u64 {
-    if name < 72057594037927936 {
-        name * 256 + x as u64
-    } else {
-        TOO_LONG
-    }
-}
-
-// A word as far as it is read, and whether it goes on.
-#[derive(Clone, Copy)]
-struct Word {
-    on: bool,
-    name: u64,
-}
-
-// The first word ends before a blank, and behind a sign.
-fn with_letter(word: Word, x: u8) -> Word {
-    if word.on
-        && (word.name == 0 || word.name != REMARK_SIGN && word.name != TEXT_SIGN && x != b' ')
-    {
-        Word {
-            on: true,
-            name: spelled(word.name, x),
-        }
-    } else {
-        Word {
-            on: false,
-            name: word.name,
-        }
-    }
-}
-
-// The names are gone through: the place and the name as far as it is read, and the place that was found.
-#[derive(Clone, Copy)]
-struct Search {
-    place: u32,
-    name: u64,
-    found: u32,
-}
-
-fn place(name: u64) -> u32 {
-    let mut search = Search {
-        place: 0,
-        name: 0,
-        found: UNKNOWN,
-    };
-    for k in 0..202 {
-        search = further(search, name, names(k));
-    }
-    search.found
-}
-
-fn further(search: Search, name: u64, x: u8) -> Search {
-    if x == b' ' {
-        Search {
-            place: std::num::wrapping_add_u32(search.place, 1),
-            name: 0,
-            found: if search.name == name {
-                search.place
-            } else {
-                search.found
-            },
-        }
-    } else {
-        Search {
-            place: search.place,
-            name: spelled(search.name, x),
-            found: search.found,
-        }
+fn named(word: &[u8], count: u8) -> Kind {
+    match (word, count) {
+        (b"check", 0) => Kind::Call(Op::Check),
+        (b"orbit", 2) => Kind::Call(Op::Orbit),
+        (b"sheet", 1) => Kind::Call(Op::Sheet),
+        (b"add", 0) => Kind::Call(Op::Add),
+        (b"sew", 3) => Kind::Call(Op::Sew),
+        (b"unsew", 2) => Kind::Call(Op::Unsew),
+        (b"remove", 1) => Kind::Call(Op::Remove),
+        (b"split", 1) => Kind::Call(Op::Split),
+        (b"undo", 0) => Kind::Call(Op::Undo),
+        (b"redo", 0) => Kind::Call(Op::Redo),
+        (b"insert", 0) => Kind::Call(Op::Insert),
+        (b"sewlist", 0) => Kind::Call(Op::SewList),
+        (b"pick", 1) => Kind::Call(Op::Pick),
+        (b"readvtk", 0) => Kind::Call(Op::ReadVtk),
+        (b"undo", 2) => Kind::CallWith(Op::Undo),
+        (b"redo", 2) => Kind::CallWith(Op::Redo),
+        (b"links", 1) => Kind::Links,
+        (b"table", 0) => Kind::Table,
+        (b"words", 2) => Kind::Words,
+        (b"put", 3) => Kind::Put,
+        (b"write", 2) => Kind::Write,
+        (b"fill", 3) => Kind::Fill,
+        (b"mark", 3) => Kind::Mark,
+        (b"item", 3) => Kind::Item,
+        (b"word", 1) => Kind::Word,
+        (b"queue", 2) => Kind::Queue,
+        (b"tile", 2) => Kind::Tile,
+        (b"scene", 3) => Kind::Scene,
+        (b"lend", 3) => Kind::Lend,
+        (b"dim", 1) => Kind::Dim,
+        (b"tag", 1) => Kind::Tag,
+        _ => Kind::Unknown,
     }
 }
 
 // ---- its numbers
 
-// How many there are so far, as a digit; the last three of them; and whether the last byte was a digit of the last.
+// How many there are so far; the last three of them; and whether the last byte was a digit of the last.
 #[derive(Clone, Copy)]
 struct Found {
     count: u8,
@@ -241,64 +214,53 @@ struct Found {
 }
 
 // More numbers than any line has.
-const TOO_MANY: u8 = b'9';
+const TOO_MANY: u8 = 9;
 
 const NONE: Found = Found {
-    count: b'0',
+    count: 0,
     inside: false,
     a: 0,
     b: 0,
     c: 0,
 };
 
-fn with_byte(so_far: Found, x: u8) -> Found {
-    if x < b'0' {
-        return outside(so_far);
+impl Found {
+    fn with(self, x: u8) -> Found {
+        match x {
+            b'0'..=b'9' => {
+                if self.inside {
+                    self.longer(x - b'0')
+                } else {
+                    self.more(x - b'0')
+                }
+            }
+            _ => Found {
+                inside: false,
+                ..self
+            },
+        }
     }
-    if x > b'9' {
-        return outside(so_far);
-    }
-    if so_far.inside {
-        return longer(so_far, x - b'0');
-    }
-    Found {
-        count: one_more(so_far.count),
-        inside: true,
-        a: so_far.b,
-        b: so_far.c,
-        c: (x - b'0') as u32,
-    }
-}
 
-fn outside(so_far: Found) -> Found {
-    Found {
-        count: so_far.count,
-        inside: false,
-        a: so_far.a,
-        b: so_far.b,
-        c: so_far.c,
+    // One more number, which begins with this digit.
+    fn more(self, digit: u8) -> Found {
+        Found {
+            count: self.count.saturating_add(1).min(TOO_MANY),
+            inside: true,
+            a: self.b,
+            b: self.c,
+            c: u32::from(digit),
+        }
     }
-}
 
-fn longer(so_far: Found, digit: u8) -> Found {
-    let value = 10 * (so_far.c as u64) + (digit as u64);
-    Found {
-        count: if value > 4294967295 {
-            TOO_MANY
-        } else {
-            so_far.count
-        },
-        inside: true,
-        a: so_far.a,
-        b: so_far.b,
-        c: (value % 4294967296) as u32,
-    }
-}
-
-fn one_more(count: u8) -> u8 {
-    if count < TOO_MANY {
-        count + 1
-    } else {
-        TOO_MANY
+    // The last number with a digit behind it. A line with one that does not fit counts as one with too many.
+    fn longer(self, digit: u8) -> Found {
+        let value = 10 * u64::from(self.c) + u64::from(digit);
+        match u32::try_from(value) {
+            Ok(c) => Found { c, ..self },
+            Err(_) => Found {
+                count: TOO_MANY,
+                ..self
+            },
+        }
     }
 }

@@ -5,7 +5,8 @@
 
 ghost use Rattle.std.specs.Prelude.{◌≡◌, ◌≤◌, length, take};
 
-use lines::Row;
+use calls::Asked;
+use lines::{Kind, Row};
 use stage::Stage;
 
 mod calls;
@@ -33,10 +34,8 @@ fn play(
     text: &mut [u8],
 ) {
     let mut s = stage::EMPTY;
-    let mut left: u32 = 65536;
-    while left > 0 {
+    for _ in 0..65536 {
         s = turn(s, table, marks, journal, list, text);
-        left -= 1;
     }
 }
 
@@ -70,7 +69,7 @@ fn lend(
     let entries = few(table, s.entries);
     let words = few(journal, s.words);
     let items = few(list, s.list);
-    let bytes = calls::few(text, row.text);
+    let bytes = few(text, row.text);
     act(
         s,
         row,
@@ -82,8 +81,8 @@ fn lend(
     );
 }
 
-// So many words; if there are not so many, a question mark and none.
-fn few(words: &[u32], most: usize) -> usize
+// So many words or bytes; if there are not so many, a question mark and none.
+fn few<T: Copy>(words: &[T], most: usize) -> usize
     ensures { (result ≤ length words.now) × (result ≡ length (take result words.now)) }
 {
     if most <= words.len() {
@@ -102,12 +101,20 @@ fn act(
     list: &[u32],
     text: &[u8],
 ) {
-    if row.kind < lines::LINKS {
-        calls::call(s, row, table, marks, journal, list, text);
-    } else {
-        stage::set_table(row, table);
-        stage::set_marks(row, table.len() / 4, marks);
-        stage::set_journal(row, journal);
-        shows::show(row, table, journal);
+    match row.kind {
+        Kind::Call(op) => {
+            let asked = Asked::by(op, row);
+            calls::call(s, asked, table, marks, journal, list, text);
+        }
+        Kind::CallWith(op) => {
+            let asked = Asked::by(op, row);
+            calls::call_with(s, asked, row, table, marks, journal, list, text);
+        }
+        _ => {
+            stage::set_table(row, table);
+            stage::set_marks(row, table.len() / 4, marks);
+            stage::set_journal(row, journal);
+            shows::show(row, table, journal);
+        }
     }
 }

@@ -1,14 +1,15 @@
 // What is printed behind a line: numbers, answers, marks, words.
-use crate::lines::Row;
-use crate::{lines, stage};
+use crate::lines::{Kind, Row};
+use crate::stage;
+use answers::Told;
 
 pub fn text(text: &[u8]) {
     io::write_all(1, text);
 }
 
 // Behind the script's end there are no lines.
-pub fn line_end(kind: u32) {
-    if kind != lines::END {
+pub fn line_end(kind: Kind) {
+    if kind != Kind::End {
         text(b"\n");
     }
 }
@@ -23,31 +24,22 @@ pub fn number(words: &[u8], number: u32) {
     io::print_decimal(1, number as u64);
 }
 
-pub fn answer(answer: u32, place: u32, count: u32) {
-    number(b": number ", answer);
-    number(b", place ", place);
-    number(b", count ", count);
+pub fn answer(told: Told) {
+    number(b": number ", told.number);
+    number(b", place ", told.place);
+    number(b", count ", told.count);
 }
 
 // What pick took off; and of a refusal whether the queue, each word of which was this one, is as it was lent.
 pub fn picked(answer: u32, taken: u32, queue: &[u32], word: u32) {
     number(b", taken ", taken);
     if answer != 0 {
-        if only(queue, word) {
+        if queue.iter().all(|x| *x == word) {
             text(b", queue as lent");
         } else {
             text(b", queue changed");
         }
     }
-}
-
-fn only(words: &[u32], word: u32) -> bool {
-    for k in 0..words.len() {
-        if words[k] != word {
-            return false;
-        }
-    }
-    true
 }
 
 // Its first two words, and its digest.
@@ -63,13 +55,9 @@ pub fn journal(journal: &[u32]) {
 pub fn marks(marks: &[u8]) {
     if marks.len() < 100 {
         text(b", marks");
-        each_mark(marks);
-    }
-}
-
-fn each_mark(marks: &[u8]) {
-    for k in 0..marks.len() {
-        mark(k, marks[k]);
+        for (k, x) in marks.iter().enumerate() {
+            mark(k, *x);
+        }
     }
 }
 
@@ -83,12 +71,11 @@ fn mark(k: usize, mark: u8) {
 // ---- words
 
 pub fn show(row: Row, table: &[u32], journal: &[u32]) {
-    let kind = row.kind;
-    match kind {
-        lines::LINKS => words(table, 4 * (row.c as usize), 4 * (row.c as usize) + 4),
-        lines::TABLE => words(table, 0, table.len()),
-        lines::WORDS => words(journal, row.b as usize, row.c as usize),
-        lines::UNKNOWN => unknown(),
+    match row.kind {
+        Kind::Links => words(table, 4 * (row.c as usize), 4 * (row.c as usize) + 4),
+        Kind::Table => words(table, 0, table.len()),
+        Kind::Words => words(journal, row.b as usize, row.c as usize),
+        Kind::Unknown => unknown(),
         _ => {}
     }
 }
@@ -113,8 +100,8 @@ fn word(word: u32) {
 // A number that tells lists of words apart, most likely.
 pub fn digest(words: &[u32]) -> u32 {
     let mut sum: u64 = 1;
-    for k in 0..words.len() {
-        sum = mixed(sum, words[k]);
+    for word in words {
+        sum = mixed(sum, *word);
     }
     (sum % 65521) as u32
 }

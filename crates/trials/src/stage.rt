@@ -1,8 +1,9 @@
 // The stage: the dimension that calls are given, how much of the buffers is lent to them, the tag of operations, how many words the
 // list and the queue and how many bytes the text has, and what each word of the queue is.
-use crate::lines::Row;
-use crate::{lines, shows};
+use crate::lines::{Kind, Row};
+use crate::shows;
 use reading::UNUSED;
+use requests::Op;
 
 #[derive(Clone, Copy)]
 pub struct Stage {
@@ -31,24 +32,23 @@ pub const EMPTY: Stage = Stage {
 
 // The stage for a line and those behind it.
 pub fn next(s: Stage, row: Row) -> Stage {
-    let kind = row.kind;
     let mut next = s;
-    match kind {
-        lines::SCENE => {
+    match row.kind {
+        Kind::Scene => {
             next = scene(row);
         }
-        lines::LEND => {
+        Kind::Lend => {
             next.entries = row.a as usize;
             next.marks = row.b as usize;
             next.words = row.c as usize;
         }
-        lines::DIM => {
+        Kind::Dim => {
             next.n = row.c;
         }
-        lines::TAG => {
+        Kind::Tag => {
             next.tag = row.c;
         }
-        lines::QUEUE => {
+        Kind::Queue => {
             next.queue = row.b as usize;
             next.queue_word = row.c;
         }
@@ -76,11 +76,10 @@ fn scene(row: Row) -> Stage {
 
 // How many words it has for the lines behind: behind sewlist none.
 pub fn listed(words: usize, row: Row, list: &mut [u32]) -> usize {
-    let kind = row.kind;
-    match kind {
-        lines::ITEM => with_item(words, row, list),
-        lines::WORD => with_word(words, row.c, list),
-        lines::SEW_LIST => 0,
+    match row.kind {
+        Kind::Item => with_item(words, row, list),
+        Kind::Word => with_word(words, row.c, list),
+        Kind::Call(Op::SewList) => 0,
         _ => words,
     }
 }
@@ -105,9 +104,8 @@ fn with_word(words: usize, word: u32, list: &mut [u32]) -> usize {
 
 // How many bytes it has for the lines behind: behind a scene and readvtk none.
 pub fn told(row: Row) -> usize {
-    let kind = row.kind;
-    match kind {
-        lines::SCENE | lines::READ_VTK => 0,
+    match row.kind {
+        Kind::Scene | Kind::Call(Op::ReadVtk) => 0,
         _ => row.text,
     }
 }
@@ -116,32 +114,29 @@ pub fn told(row: Row) -> usize {
 
 // A scene has unused slots.
 pub fn set_table(row: Row, table: &mut [u32]) {
-    let kind = row.kind;
-    match kind {
-        lines::SCENE => fill(table, 0, table.len(), UNUSED),
-        lines::PUT => put(table, entry(row.a, row.b), row.c),
-        lines::TILE => tile(table, row.b, row.c),
+    match row.kind {
+        Kind::Scene => fill(table, 0, table.len(), UNUSED),
+        Kind::Put => put(table, entry(row.a, row.b), row.c),
+        Kind::Tile => tile(table, row.b, row.c),
         _ => {}
     }
 }
 
 pub fn set_journal(row: Row, journal: &mut [u32]) {
-    let kind = row.kind;
-    match kind {
-        lines::SCENE => fresh(journal),
-        lines::WRITE => put(journal, row.b as usize, row.c),
-        lines::FILL => fill(journal, row.a as usize, row.b as usize, row.c),
+    match row.kind {
+        Kind::Scene => fresh(journal),
+        Kind::Write => put(journal, row.b as usize, row.c),
+        Kind::Fill => fill(journal, row.a as usize, row.b as usize, row.c),
         _ => {}
     }
 }
 
 // The marks that insert is lent; those of the table's slots are tiled with it.
 pub fn set_marks(row: Row, slots: usize, marks: &mut [u8]) {
-    let kind = row.kind;
-    match kind {
-        lines::SCENE => draw(marks, 0, marks.len(), 0),
-        lines::MARK => draw(marks, row.a as usize, row.b as usize, (row.c % 256) as u8),
-        lines::TILE => tile_marks(marks, row.b, row.c, slots),
+    match row.kind {
+        Kind::Scene => fill(marks, 0, marks.len(), 0),
+        Kind::Mark => fill(marks, row.a as usize, row.b as usize, (row.c % 256) as u8),
+        Kind::Tile => tile_marks(marks, row.b, row.c, slots),
         _ => {}
     }
 }
@@ -162,40 +157,23 @@ fn tile(table: &mut [u32], first: u32, width: u32) {
     let back = 4 * (width as usize);
     let from = 4 * (first as usize) + back;
     for k in from..table.len() {
-        let link = word(table, std::num::wrapping_sub_usize(k, back));
-        put(table, k, std::num::wrapping_add_u32(link, width));
+        table[k] = table[k - back].wrapping_add(width);
     }
 }
 
-fn fill(words: &mut [u32], a: usize, e: usize, value: u32) {
-    for k in a..e {
-        put(words, k, value);
-    }
-}
-
-fn draw(marks: &mut [u8], a: usize, e: usize, mark: u8) {
-    for k in a..e {
-        put_mark(marks, k, mark);
-    }
-}
-
-// The marks behind the `width` ones from `first` on repeat these.
-fn tile_marks(marks: &mut [u8], first: u32, width: u32, e: usize) {
+// The marks behind the `width` ones from `first` on repeat these, as far as the slots go.
+fn tile_marks(marks: &mut [u8], first: u32, width: u32, slots: usize) {
     let back = width as usize;
     let from = (first as usize) + back;
-    for k in from..e {
-        let mark = mark_at(marks, std::num::wrapping_sub_usize(k, back));
-        put_mark(marks, k, mark);
+    for k in from..slots.min(marks.len()) {
+        marks[k] = marks[k - back];
     }
 }
 
-fn mark_at(marks: &[u8], at: usize) -> u8 {
-    if at < marks.len() { marks[at] } else { 0 }
-}
-
-fn put_mark(marks: &mut [u8], at: usize, mark: u8) {
-    if at < marks.len() {
-        marks[at] = mark;
+// The words or marks from a on, up to e, as far as there are any.
+fn fill<T: Copy>(words: &mut [T], a: usize, e: usize, value: T) {
+    for k in a..e.min(words.len()) {
+        words[k] = value;
     }
 }
 
@@ -206,5 +184,5 @@ pub fn put(words: &mut [u32], at: usize, value: u32) {
 }
 
 pub fn word(words: &[u32], at: usize) -> u32 {
-    if at < words.len() { words[at] } else { 0 }
+    words.get(at).copied().unwrap_or(0)
 }

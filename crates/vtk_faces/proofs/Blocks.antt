@@ -1,8 +1,9 @@
 -- The faces of a block, from the first to the last.
--- Main theorems: `state_more`, `state_three`, `state_ran`; `run_none`, `run_going`, `run_more`, `run_three`, `run_block`.
+-- Main theorems: `both`, `no_third`; `state_more`, `state_three`, `state_ran`; `run_none`, `run_going`, `run_more`, `run_three`, `run_block`.
 use Prim.Native.Nat.{ℕ, ◌+◌, ◌*◌, ◌≤◌, ◌<◌}
 use mathlib.Core.Path.{◌≡◌, refl, sym, ◌∙◌}
 use mathlib.Core.Logic.{◌⊎◌, inl, inr, ◌≢◌, ⊎_elim}
+use mathlib.Core.Bool.{Bool, true, false, ◌&&◌}
 use mathlib.Core.List.{List}
 use native.Mathlib.Omega.{arith}
 use lib.ListN.{length}
@@ -10,7 +11,7 @@ use Rattle.theorems.proofs.Lists.Scan.{if_eq}
 use Rattle.vtk_faces.specs.Faces.{held_face}
 use Rattle.vtk_faces.specs.Turns.{Turned}
 use Rattle.vtk_faces.specs.Chains.{Chains}
-use Rattle.vtk_faces.specs.Judged.{ThreeOf, OtherOf, Ordered, State, Ran, Number, Stepped, Going, Gone}
+use Rattle.vtk_faces.specs.Judged.{ThreeOf, OtherOf, Ordered, State, Ran, order_number, Number, Stepped, Going, Gone}
 use Rattle.vtk_faces.specs.Blocks.{Own, Block}
 use Rattle.vtk_faces.proofs.Chains.{chains_none}
 
@@ -38,6 +39,16 @@ module _ (F : ℕ → List ℕ) where
     differ = λ d. if_eq a 0 (λ e. S.differ (λ n. d (first e ∙ n)) going)
         (λ e. other_wide i (i + 1) (omega arith) (O.differ e));
   }
+
+-- what is found of the orders with one more face, where `a` tells of those before it and x of this one
+pub both : (a x : Bool) → (order_number a ≡ 0 → order_number (a && x) ≡ order_number x) × (order_number a ≢ 0 → order_number (a && x) ≡ order_number a)
+both true x = (λ _. refl, λ d. absurd (d refl))
+both false x = (λ e. absurd (omega arith), λ _. refl)
+
+-- it is not 22
+pub no_third : (x : Bool) → order_number x ≢ 22
+no_third true e = omega arith
+no_third false e = omega arith
 
 -- what is found of the orders stays 0 or 23
 still_more : {a number b : ℕ} → (a ≡ 0) ⊎ (a ≡ 23) → Number number → number ≢ 22 → (a ≡ 0 → b ≡ number) → (a ≢ 0 → b ≡ a)

@@ -1,7 +1,7 @@
 -- One more face is judged: it has the four vertices of none before it, of one, or of two.
--- Main theorem: `steps`.
+-- Main theorems: `met_none`, `steps`.
 use Prim.Native.Nat.{ℕ, ◌+◌, ◌-◌, ◌/◌, ◌≤◌, ◌<◌}
-use mathlib.Core.Path.{◌≡◌, sym, ap, ◌∙◌, subst}
+use mathlib.Core.Path.{◌≡◌, refl, sym, ap, ◌∙◌, subst}
 use mathlib.Core.Logic.{◌⊎◌, inl, inr, ◌≢◌, ⊎_elim}
 use mathlib.Core.Bool.{Bool, true, false}
 use mathlib.Core.List.{List}
@@ -13,6 +13,15 @@ use Rattle.theorems.proofs.Lists.Scan.{test, clash, if_eq, if_lt}
 use Rattle.theorems.proofs.Vtk.Faces.{four_back, four_on}
 use Rattle.vtk_faces.specs.Chains.{Found}
 use Rattle.vtk_faces.specs.Judged.{ThreeOf, Mate, Judged, order_number, Met, Stepped}
+
+-- no entry meets a face
+pub met_none : (agree : Bool) (mark : ℕ) (mates : List ℕ) → Met 0 agree mark mates mates 0
+met_none agree mark mates = record {
+  long = refl;
+  alone = λ _. (refl, refl);
+  third = λ on. absurd (omega arith);
+  pair = λ on. absurd (omega arith);
+}
 
 module _ (F : ℕ → List ℕ) where
   abbrev Same : ℕ → ℕ → Type 0

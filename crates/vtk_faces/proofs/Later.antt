@@ -3,13 +3,12 @@
 use Prim.Native.Nat.{ℕ, ◌+◌, ◌*◌, ◌-◌, ◌/◌, ◌≤◌, ◌<◌}
 use mathlib.Core.Path.{◌≡◌, refl, sym, ap₂, ◌∙◌, subst}
 use mathlib.Core.Logic.{inr, ◌≢◌}
+use mathlib.Core.Bool.{Bool}
 use mathlib.Core.List.{List}
 use native.Mathlib.Omega.{arith}
 use lib.ListN.{length}
-use lib.Dec.{ltb}
 use Rattle.model.specs.Faces.{same_four, same_order}
 use Rattle.vtk_faces.specs.Faces.{held_face}
-use Rattle.vtk_faces.specs.Turns.{TurnOf}
 use Rattle.vtk_faces.specs.Chains.{Found}
 use Rattle.vtk_faces.specs.Judged.{State, Ran, Met, Stepped}
 use Rattle.vtk_faces.specs.Rest.{Later, Chunk}
@@ -36,14 +35,14 @@ module _ (F : ℕ → List ℕ) (m i : ℕ) (buffer heads nexts mates r : List �
     same = λ on. ap₂ same_four (entry_held on) L.this ∙ found.same on;
   }
 
-  pub later_stepped : (after : List ℕ) (t number : ℕ) → (0 < e → TurnOf (held_face buffer (e - 1)) r t)
-      → Met e (ltb t 8) 65535 mates after number → Stepped F m i after number
-  later_stepped after t number turn met =
+  pub later_stepped : (after : List ℕ) (agree : Bool) (number : ℕ) → (0 < e → agree ≡ same_order (held_face buffer (e - 1)) r)
+      → Met e agree 65535 mates after number → Stepped F m i after number
+  later_stepped after agree number order met =
       let inside = L.judged.within in
       let long = L.judged.long in
       let same = met.long in
       steps F m i m mates after after L.judged (omega arith) (omega arith) (λ b. absurd (omega arith)) (omega arith) e 65535 number
-      found_here (ltb t 8) met (λ on. sym (ap₂ same_order (entry_held on) L.this ∙ (turn on).order)) (omega arith) (inr inside) (λ p b. refl)
+      found_here agree met (λ on. order on ∙ sym (ap₂ same_order (entry_held on) L.this)) (omega arith) (inr inside) (λ p b. refl)
       (λ b. absurd (omega arith))
 
 -- ---- the faces of a chunk

@@ -6,26 +6,27 @@ use mathlib.Core.Bool.{true, false, ◌&&◌}
 use mathlib.Core.List.{List, [], ◌∷◌}
 use native.Mathlib.Omega.{arith}
 use lib.Dec.{eqb}
-use borrow.Author.Tests.{lt-ltb}
+use Rattle.std.specs.Prelude.{Some, None}
 use Rattle.model.specs.Lists.{equal}
 use Rattle.model.specs.Faces.{round, same_order}
 use Rattle.theorems.proofs.Lists.Scan.{test, clash, if_eq, if_lt, below_eight}
 use Rattle.theorems.proofs.Vtk.Sites.{equal_is, flipped, round_own}
 use Rattle.theorems.proofs.Vtk.Readings.{read_from, order_none, none_order}
+use Rattle.vtk_faces.specs.declared.Face.{Face}
+use Rattle.vtk_faces.specs.Faces.{four}
 use Rattle.vtk_faces.specs.Walks.{face_walk}
 use Rattle.vtk_faces.specs.Turns.{turn_back, TurnOf}
 use Rattle.vtk_faces.proofs.Walks.{walk_low}
 
--- ---- four numbers compared
+-- ---- two faces compared
 
-pub equal_four : (a b c d e f g h : ℕ)
-    → (eqb a e && eqb b f && eqb c g && eqb d h) ≡ equal (a ∷ b ∷ c ∷ d ∷ []) (e ∷ f ∷ g ∷ h ∷ [])
+pub equal_four : (r w : Face) → (eqb r.a w.a && (eqb r.b w.b && (eqb r.c w.c && eqb r.d w.d))) ≡ equal (four r) (four w)
 unfolding equal
-equal_four a b c d e f g h =
-    test (eqb a e) (λ q. rw (q, equal) (
-    test (eqb b f) (λ q. rw (q, equal) (
-    test (eqb c g) (λ q. rw (q, equal) (
-    test (eqb d h) (λ q. rw (q, equal)) (λ q. rw (q, equal)))) (λ q. rw (q, equal)))) (λ q. rw (q, equal)))) (λ q. rw (q, equal))
+equal_four r w =
+    test (eqb r.a w.a) (λ q. rw (q, equal) (
+    test (eqb r.b w.b) (λ q. rw (q, equal) (
+    test (eqb r.c w.c) (λ q. rw (q, equal) (
+    test (eqb r.d w.d) (λ q. rw (q, equal)) (λ q. rw (q, equal)))) (λ q. rw (q, equal)))) (λ q. rw (q, equal)))) (λ q. rw (q, equal))
 
 -- ---- the readings
 
@@ -47,24 +48,21 @@ module _ (a b c d : ℕ) (w : List ℕ) where
 
   -- ---- w is one of them, or none
 
-  found : (r : ℕ) → r < 8 → equal (read_from r s) w ≡ true → TurnOf s w r
+  found : (r : ℕ) → r < 8 → equal (read_from r s) w ≡ true → TurnOf s w (Some r)
   found r low h =
       let is = equal_is _ _ h in
       record {
-        few = omega arith;
-        order = test (same_order s w) (λ e. e) (λ e. absurd (clash h (order_none a b c d w e r low))) ∙ sym (lt-ltb r 8 low);
-        on = λ _ row k l e. sym is ∙ ap (read_from r) e ∙ sym (walk_reads row k l r);
-        back = λ _ row k l e.
-            sym (read_back r low) ∙ ap (read_from (turn_back r)) (is ∙ e) ∙ sym (walk_reads row k l (turn_back r));
+        order = test (same_order s w) (λ e. e) (λ e. absurd (clash h (order_none a b c d w e r low)));
+        leads = record {
+          few = low;
+          on = λ row k l e. sym is ∙ ap (read_from r) e ∙ sym (walk_reads row k l r);
+          back = λ row k l e.
+              sym (read_back r low) ∙ ap (read_from (turn_back r)) (is ∙ e) ∙ sym (walk_reads row k l (turn_back r));
+        };
       }
 
-  not_found : ((i : ℕ) → i < 8 → equal (read_from i s) w ≡ false) → TurnOf s w 8
-  not_found none = record {
-    few = omega arith;
-    order = none_order a b c d w none;
-    on = λ low. absurd (omega arith);
-    back = λ low. absurd (omega arith);
-  }
+  not_found : ((i : ℕ) → i < 8 → equal (read_from i s) w ≡ false) → TurnOf s w None
+  not_found none = record { order = none_order a b c d w none; leads = tt }
 
 -- ---- the search
 
@@ -111,11 +109,11 @@ module _ {a₀ b₀ c₀ d₀ : ℕ} {w : List ℕ} {a b c d turn : ℕ} (S : Se
   abbrev start : List ℕ
   start = a₀ ∷ b₀ ∷ c₀ ∷ d₀ ∷ []
 
-  pub found_here : turn < 4 → equal (a ∷ b ∷ c ∷ d ∷ []) w ≡ true → TurnOf start w (2 * turn)
+  pub found_here : turn < 4 → equal (a ∷ b ∷ c ∷ d ∷ []) w ≡ true → TurnOf start w (Some (2 * turn))
   found_here low h = found a₀ b₀ c₀ d₀ w (2 * turn) (omega arith) (here_test S ∙ h)
 
-  pub found_across : turn < 4 → equal (b ∷ a ∷ d ∷ c ∷ []) w ≡ true → TurnOf start w (2 * turn + 1)
+  pub found_across : turn < 4 → equal (b ∷ a ∷ d ∷ c ∷ []) w ≡ true → TurnOf start w (Some (2 * turn + 1))
   found_across low h = found a₀ b₀ c₀ d₀ w (2 * turn + 1) (omega arith) (across_test S ∙ h)
 
-  pub found_none : 4 ≤ turn → TurnOf start w 8
+  pub found_none : 4 ≤ turn → TurnOf start w None
   found_none all = not_found a₀ b₀ c₀ d₀ w (λ i l. S.none i (omega arith))

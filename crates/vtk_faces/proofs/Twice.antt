@@ -1,23 +1,30 @@
 -- A vertex that stands twice in a cell, looked for word by word.
--- Main theorems: `among_here`, `among_next`, `among_end`; `repeats_here`, `repeats_next`, `repeats_end`; `held_once`, `held_twice`.
-use Prim.Native.Nat.{ℕ, suc, ◌+◌, ◌*◌, ◌≤◌, ◌<◌}
+-- Main theorems: `behind_is`; `repeats_any`; `held_once`, `held_twice`.
+use Prim.Native.Nat.{ℕ, zero, suc, ◌+◌, ◌*◌, ◌-◌, ◌≤◌, ◌<◌}
 use mathlib.Core.Path.{◌≡◌, refl, sym, ap, ◌∙◌}
-use mathlib.Core.Logic.{◌≢◌}
 use mathlib.Core.Bool.{Bool, true, false, not}
 use mathlib.Core.List.{List, [], ◌∷◌}
 use native.Mathlib.Omega.{arith}
 use native.Mathlib.Numerals.{add-one}
-use lib.ListN.{length, get_or, drop, length-take, length-drop, drop_of_length-le}
-use lib.Seq.{get_or-take, get_or-drop, drop-cons}
+use lib.ListN.{length, get_or, take, drop, length-take, length-drop, drop_of_length-le}
+use lib.Seq.{drop-cons}
 use lib.Dec.{eqb}
-use borrow.Author.Tests.{eq-eqb, ne_eqb}
+use Rattle.std.specs.List.{list_any, range_with_len}
+use Rattle.std.proofs.lemmas.Slice.{between_to_end}
 use Rattle.model.specs.Lists.{all_of, any_of}
 use Rattle.model.specs.Faces.{among, repeats}
 use Rattle.theorems.proofs.Lists.Scan.{test, clash}
+use Rattle.theorems.proofs.History.Record.{eqb_comm}
 use Rattle.theorems.proofs.Lists.Ones.{each_at, get_or_in}
 use Rattle.vtk_faces.specs.Buffers.{Held}
 use Rattle.vtk_faces.specs.Faces.{held_row}
 use Rattle.vtk_faces.specs.Repeats.{all_once}
+
+-- the tests of a list, each the other way round
+any_among : (x : ℕ) (xs : List ℕ) → list_any (λ y. eqb y x) xs ≡ among xs x
+unfolding among any_of
+any_among x [] = refl
+any_among x (y ∷ ys) = rw (eqb_comm x y) (test (eqb x y) (λ q. rw (q, any_of)) (λ q. rw (q, any_of) (any_among x ys)))
 
 module _ (b : List ℕ) (c : ℕ) (long : 8 * c + 8 ≤ length b) where
   abbrev row : List ℕ
@@ -27,40 +34,37 @@ module _ (b : List ℕ) (c : ℕ) (long : 8 * c + 8 ≤ length b) where
   unfolding held_row
   row_long = simp (length-take, length-drop) (omega arith)
 
-  pub row_at : (i : ℕ) → i < 8 → get_or row i 0 ≡ get_or b (8 * c + i) 0
-  unfolding held_row
-  row_at i l = get_or-take 8 (drop (8 * c) b) i 0 l ∙ get_or-drop (8 * c) b i 0
-
   row_next : (i : ℕ) → i < 8 → drop i row ≡ get_or row i 0 ∷ drop (i + 1) row
   row_next i l = let e = row_long in rw add-one (drop-cons row i 0 (omega arith))
 
   row_end : (i : ℕ) → 8 ≤ i → drop i row ≡ []
   row_end i l = let e = row_long in drop_of_length-le row {i = i} (omega arith)
 
-  module _ (x : ℕ) where
-    pub among_here : (j : ℕ) → j < 8 → x ≡ get_or b (8 * c + j) 0 → among (drop j row) x ≡ true
-    unfolding among any_of
-    among_here j l e = rw (row_next j l) (rw (eq-eqb x (get_or row j 0) (e ∙ sym (row_at j l)), any_of))
+  -- the words behind the i-th are searched for it
+  pub behind_is : (i : ℕ) (part : List ℕ) → part ≡ row
+      → list_any (λ y. eqb y (get_or part i 0)) (take (length part - (i + 1)) (drop (i + 1) part)) ≡ among (drop (i + 1) row) (get_or row i 0)
+  behind_is i part e =
+      rw e (ap (list_any (λ y. eqb y (get_or row i 0))) (between_to_end row (i + 1) (length row) (omega arith)) ∙ any_among (get_or row i 0) (drop (i + 1) row))
 
-    pub among_next : (j : ℕ) → j < 8 → x ≢ get_or b (8 * c + j) 0 → among (drop j row) x ≡ among (drop (j + 1) row) x
-    unfolding among any_of
-    among_next j l n = ap (any_of (eqb x)) (row_next j l) ∙ rw (ne_eqb x (get_or row j 0) (λ e. n (e ∙ row_at j l)), any_of)
-
-    pub among_end : (j : ℕ) → 8 ≤ j → among (drop j row) x ≡ false
-    unfolding among any_of
-    among_end j l = rw (row_end j l)
-
-  pub repeats_here : (i : ℕ) → i < 8 → among (drop (i + 1) row) (get_or row i 0) ≡ true → repeats (drop i row) ≡ true
+  repeats_here : (i : ℕ) → i < 8 → among (drop (i + 1) row) (get_or row i 0) ≡ true → repeats (drop i row) ≡ true
   unfolding repeats
   repeats_here i l e = ap repeats (row_next i l) ∙ rw (e, repeats)
 
-  pub repeats_next : (i : ℕ) → i < 8 → among (drop (i + 1) row) (get_or row i 0) ≡ false → repeats (drop i row) ≡ repeats (drop (i + 1) row)
+  repeats_next : (i : ℕ) → i < 8 → among (drop (i + 1) row) (get_or row i 0) ≡ false → repeats (drop i row) ≡ repeats (drop (i + 1) row)
   unfolding repeats
   repeats_next i l e = ap repeats (row_next i l) ∙ rw (e, repeats)
 
-  pub repeats_end : (i : ℕ) → 8 ≤ i → repeats (drop i row) ≡ false
+  repeats_end : (i : ℕ) → 8 ≤ i → repeats (drop i row) ≡ false
   unfolding repeats
   repeats_end i l = rw (row_end i l)
+
+  -- each of the n words from the i-th on is looked for behind it
+  pub repeats_any : (i n : ℕ) → i + n ≡ 8
+      → list_any (λ i. among (drop (i + 1) row) (get_or row i 0)) (range_with_len i n) ≡ repeats (drop i row)
+  repeats_any i zero e = sym (repeats_end i (omega arith))
+  repeats_any i (suc n) e = test (among (drop (i + 1) row) (get_or row i 0))
+      (λ q. rw q (sym (repeats_here i (omega arith) q)))
+      (λ q. rw q (repeats_any (i + 1) n (omega arith) ∙ sym (repeats_next i (omega arith) q)))
 
 -- ---- all cells of the buffer
 

@@ -1,6 +1,6 @@
 -- Chains of faces by their hash. F p is the face at the position p, whose entry is p + 1; the entry 0 is none.
 -- Main definitions: `Chains`, `Found`.
-use Rattle.std.specs.Prelude.{ℕ, ◌+◌, ◌*◌, ◌-◌, ◌/◌, ◌≤◌, ◌<◌, ◌≡◌, ◌≢◌, true, false, List, length, get_or}
+use Rattle.std.specs.Prelude.{ℕ, ◌+◌, ◌*◌, ◌-◌, ◌/◌, ◌≤◌, ◌<◌, ◌≡◌, ◌≢◌, true, false, Option, Some, None, List, length, get_or}
 use Rattle.model.specs.Faces.{same_four}
 use Rattle.vtk_faces.specs.Faces.{held_face}
 use Rattle.vtk_faces.specs.Hashes.{hash_of}
@@ -23,6 +23,11 @@ pub record SomeChains (rows heads nexts : List ℕ) : Type 0 where
   pub m : ℕ
   pub chains : Chains (held_face rows) m heads nexts
   pub fits : m ≤ 6 * (length rows / 8)
+
+-- the entry of a position
+abbrev pub entry_of : Option ℕ → ℕ
+entry_of None = 0
+entry_of (Some p) = p + 1
 
 -- e is the entry of a face with the same four vertices as r, of the first m; or 0 if there is none
 pub record Found (F : ℕ → List ℕ) (m : ℕ) (r : List ℕ) (e : ℕ) : Type 0 where

@@ -1,10 +1,13 @@
 -- What is known of the faces F 0, .., F (i - 1), of which the first m are in chains and have mates.
 -- Main definitions: `Judged` (no three of them have the same four vertices), `Ordered` (two that have, have them in the same order).
-use Rattle.std.specs.Prelude.{ℕ, ◌+◌, ◌*◌, ◌/◌, ◌≤◌, ◌<◌, ◌≡◌, ◌⊎◌, ◌≢◌, Bool, true, false, List, length, get_or, set}
+use Rattle.std.specs.Prelude.{ℕ, ◌+◌, ◌*◌, ◌/◌, ◌≤◌, ◌<◌, ◌≡◌, ◌⊎◌, ◌≢◌, Bool, true, false, Result, Ok, Err, List, length, get_or, set}
+use Rattle.refusals.specs.declared.Reason.{Reason}
+use Rattle.refusals.specs.Numbers.{number_of}
 use Rattle.model.specs.Faces.{same_four, same_order}
 use Rattle.vtk_faces.specs.Faces.{Sited, held_face}
 use Rattle.vtk_faces.specs.Turns.{Turned}
 use Rattle.vtk_faces.specs.Chains.{Chains}
+use Rattle.vtk_faces.specs.declared.ThirdFace.{ThirdFace}
 
 -- three of the first n faces have the same four vertices
 pub record ThreeOf (F : ℕ → List ℕ) (n : ℕ) : Type 0 where
@@ -63,6 +66,15 @@ pub record Ran (F : ℕ → List ℕ) (m n : ℕ) (mates : List ℕ) (number : �
 
 abbrev pub order_number : Bool → ℕ
 order_number b = elim b [ true ↦ 0 | false ↦ 23 ]
+
+-- the numbers of what a pass finds, and of what is told of it: 0 where all pass
+abbrev pub number_found : Result Bool ThirdFace → ℕ
+number_found (Ok same) = order_number same
+number_found (Err _) = 22
+
+abbrev pub number_told : Result Unit Reason → ℕ
+number_told (Ok _) = 0
+number_told (Err reason) = number_of reason
 
 -- the entry e meets a face: it gets the word `mark`, unless it has one; `agree` tells whether the orders are the same
 pub record Met (e : ℕ) (agree : Bool) (mark : ℕ) (before mates : List ℕ) (number : ℕ) : Type 0 where

@@ -1,30 +1,45 @@
 // The cells of a text, in a buffer or block by block: the checks 21, 22 and 23, and for each face the dart that its first one is sewn to.
 #![tactic(auto)]
 
-ghost use Rattle.std.specs.Prelude.{◌≡◌, ◌≢◌, not, List, [], ◌∷◌, ℕ, ◌+◌, ◌*◌, ◌-◌, ◌/◌, ◌≤◌, ◌<◌, min, max, length, get_or, drop, ltb};
-ghost use Rattle.model.specs.Lists.{all_of, equal};
+ghost use Rattle.std.specs.Prelude.{◌≡◌, not, List, ℕ, ◌+◌, ◌*◌, ◌/◌, ◌≤◌, ◌<◌, length, get_or, drop};
+ghost use Rattle.model.specs.Lists.{all_of};
 ghost use Rattle.model.specs.Faces.{listed_at, onward, face_darts, among, same_four, repeats};
 ghost use Rattle.vtk_faces.specs.Buffers.{Held};
 ghost use Rattle.vtk_faces.specs.Faces.{four, site_at, Sited, held_row, held_face};
 ghost use Rattle.vtk_faces.specs.Turns.{turn_back, TurnOf};
 ghost use Rattle.vtk_faces.specs.Hashes.{mixed, hash_of};
-ghost use Rattle.vtk_faces.specs.Chains.{Chains, SomeChains, Found};
-ghost use Rattle.vtk_faces.specs.Judged.{Ran, Met, Stepped, Going, Gone};
+ghost use Rattle.vtk_faces.specs.Chains.{Chains, SomeChains, entry_of, Found};
+ghost use Rattle.vtk_faces.specs.Judged.{order_number, number_found, number_told, Ran, Met, Stepped, Going, Gone};
 ghost use Rattle.vtk_faces.specs.Blocks.{CellsIn, SomeCells, Lent, Verdict, JudgedCells, Own, Block};
 ghost use Rattle.vtk_faces.specs.Repeats.{all_once};
 ghost use Rattle.vtk_faces.specs.Rest.{Later, SomeLater, Chunk, SomeChunk};
 ghost use Rattle.vtk_faces.specs.Texts.{CellsAt, SomeCellsAt, Judgeable, SomeJudgeable, face_from, Rest, SomeRest, BlockAt, SomeBlockAt};
+ghost use Rattle.refusals.specs.declared.Reason.TheVariants.{FaceShared};
 
 use numbering::cell_link;
+use refusals::Reason;
+use std::array;
 use vtk_rows::read_rows;
 
 // The four vertices of a face, in their order round it.
-#[derive(Clone, Copy)]
+#[derive(Clone, Copy, PartialEq, Eq)]
 struct Face {
     a: u64,
     b: u64,
     c: u64,
     d: u64,
+}
+
+// A third face has the same four vertices as two before it: no pass goes on behind it.
+#[derive(Clone, Copy)]
+struct ThirdFace;
+
+impl From<ThirdFace> for Reason {
+    ghost from_gives = { λ _ reason. reason ≡ FaceShared };
+
+    fn from(_third: ThirdFace) -> Reason {
+        Reason::FaceShared
+    }
 }
 
 // ---- where the vertices of a face are listed
@@ -58,7 +73,7 @@ fn listed(s: u32) -> u32
 // Where the (j % 4)-th vertex of the face j / 4 is listed.
 fn site(j: u32) -> u32
     requires { j < 24 }
-    ensures { result ≡ site_at j }
+    ensures { (result ≡ site_at j) × (result < 8) }
 {
     let mut k = face_dart(j / 4);
     for turn in 0..j % 4 {
@@ -71,11 +86,7 @@ fn site(j: u32) -> u32
 fn sites() -> [u8; 24]
     ensures { Sited result }
 {
-    let mut sites = [0u8; 24];
-    for j in 0..24 {
-        sites[j] = site(j as u32) as u8;
-    }
-    sites
+    array::from_fn(|j| site(j as u32) as u8)
 }
 
 // ---- faces in the buffer
@@ -135,36 +146,34 @@ fn same_four(r: Face, s: Face) -> bool
 
 // ---- faces turned against each other
 
-// Whether these four are the vertices of a face, in its order.
-fn reads_as(a: u64, b: u64, c: u64, d: u64, want: Face) -> bool
-    ensures { result ≡ equal (a ∷ b ∷ c ∷ d ∷ []) (four want) }
-{
-    (a == want.a) & (b == want.b) & (c == want.c) & (d == want.d)
-}
-
 // How `want` is turned against `seen`: of the eight darts of `seen`, by links 0, 1, 0, .. from its first, the one from which `want` is read;
-// 8 if there is none, as the orders differ.
-fn turn_of(seen: Face, want: Face) -> u16
+// none if the orders differ.
+fn turn_of(seen: Face, want: Face) -> Option<u16>
     ensures { TurnOf (four seen) (four want) result }
 {
-    let mut a = seen.a;
-    let mut b = seen.b;
-    let mut c = seen.c;
-    let mut d = seen.d;
+    let mut here = seen;
     for turn in 0..4u16 {
-        if reads_as(a, b, c, d, want) {
-            return 2 * turn;
+        let Face { a, b, c, d } = here;
+        if here == want {
+            return Some(2 * turn);
         }
-        if reads_as(b, a, d, c, want) {
-            return 2 * turn + 1;
+        let across = Face {
+            a: b,
+            b: a,
+            c: d,
+            d: c,
+        };
+        if across == want {
+            return Some(2 * turn + 1);
         }
-        let passed = a;
-        a = b;
-        b = c;
-        c = d;
-        d = passed;
+        here = Face {
+            a: b,
+            b: c,
+            c: d,
+            d: a,
+        };
     }
-    8
+    None
 }
 
 // How `seen` is turned against `want`, then.
@@ -180,18 +189,6 @@ fn turn_back(j: u16) -> u16
 
 // ---- the hash of a face: of its least and greatest vertex, so it is one for the same four
 
-fn lower(x: u64, y: u64) -> u64
-    ensures { result ≡ min x y }
-{
-    if x < y { x } else { y }
-}
-
-fn higher(x: u64, y: u64) -> u64
-    ensures { result ≡ max x y }
-{
-    if x < y { y } else { x }
-}
-
 // A number below 16,384 of two numbers.
 fn mixed(x: u64, y: u64) -> u64
     ensures { result ≡ mixed x y }
@@ -202,56 +199,54 @@ fn mixed(x: u64, y: u64) -> u64
 fn hash(r: Face) -> usize
     ensures { result ≡ hash_of (four r) }
 {
-    let least = lower(r.a, lower(r.b, lower(r.c, r.d)));
-    let greatest = higher(r.a, higher(r.b, higher(r.c, r.d)));
+    let least = r.a.min(r.b.min(r.c.min(r.d)));
+    let greatest = r.a.max(r.b.max(r.c.max(r.d)));
     mixed(least, greatest) as usize
 }
 
-// ---- chains
+// ---- chains: their entries are words of lent memory, 1 more than a position, and 0 for none
 
-// The entry of a face in the chains with the same four vertices as r, whose hash is h; 0 if there is none.
-fn find(rows: &[u64], sites: &[u8; 24], heads: &[u16], nexts: &[u16], r: Face, h: usize) -> usize
-    requires { (Sited sites.now) × (SomeChains rows.now heads.now nexts.now) × (h ≡ hash_of (four r)) }
-    ensures { (m : ℕ) → Chains (held_face rows.now) m heads.now nexts.now
-        → Found (held_face rows.now) m (four r) result }
-{
-    let mut e = heads[h] as usize;
-    while e != 0 {
-        if same_four(face_at(rows, sites, e - 1), r) {
-            return e;
+// Faces of the cells in the buffer that are in chains.
+#[derive(Clone, Copy)]
+struct Chained<'a> {
+    rows: &'a [u64],
+    sites: &'a [u8; 24],
+    heads: &'a [u16],
+    nexts: &'a [u16],
+}
+
+impl Chained<'_> {
+    // The position of a face in the chains with the same four vertices as r, whose hash is h.
+    fn find(&self, r: Face, h: usize) -> Option<usize>
+        requires { (Sited self.now.sites.now) × (SomeChains self.now.rows.now self.now.heads.now self.now.nexts.now)
+            × (h ≡ hash_of (four r)) }
+        ensures { (m : ℕ) → Chains (held_face self.now.rows.now) m self.now.heads.now self.now.nexts.now
+            → Found (held_face self.now.rows.now) m (four r) (entry_of result) }
+    {
+        let mut e = self.heads[h] as usize;
+        while e != 0 {
+            if same_four(face_at(self.rows, self.sites, e - 1), r) {
+                return Some(e - 1);
+            }
+            e = self.nexts[e] as usize;
         }
-        e = nexts[e] as usize;
+        None
     }
-    0
 }
 
-// ---- mates
+// ---- mates: words of lent memory too, and 0 for none
 
-// How r is turned against the face of the entry e; 0 where e is 0.
-fn turn_at(rows: &[u64], sites: &[u8; 24], r: Face, e: usize) -> u16
-    requires { (Sited sites.now) × (0 < e → 8 * ((e - 1) / 6) + 8 ≤ length rows.now) }
-    ensures { (e ≡ 0 → result ≡ 0) × (0 < e → TurnOf (held_face rows.now (e - 1)) (four r) result) }
+// The face at the position p meets another with the same four vertices, in the same order or not, and its word is `mark` now: whether in
+// the same, unless it has met one already.
+fn meet(mates: &mut [u16], p: usize, same_order: bool, mark: u16) -> Result<bool, ThirdFace>
+    requires { p + 1 < length mates.old }
+    ensures { Met (p + 1) same_order mark mates.old mates.new (number_found result) }
 {
-    if e == 0 {
-        return 0;
+    if mates[p + 1] != 0 {
+        return Err(ThirdFace);
     }
-    turn_of(face_at(rows, sites, e - 1), r)
-}
-
-// The face of the entry e meets another with the same four vertices, which is turned so against it, and its word is `mark` now. 22 if it has
-// one already, 23 if the orders differ, else 0, as where e is 0.
-fn meet(mates: &mut [u16], e: usize, turn: u16, mark: u16) -> u32
-    requires { e < length mates.old }
-    ensures { Met e (ltb turn 8) mark mates.old mates.new result }
-{
-    if e == 0 {
-        return 0;
-    }
-    if mates[e] != 0 {
-        return 22;
-    }
-    mates[e] = mark;
-    if turn < 8 { 0 } else { 23 }
+    mates[p + 1] = mark;
+    Ok(same_order)
 }
 
 // The face at the position i of the buffer meets one before it with the same four vertices, and is put into the chains.
@@ -262,42 +257,41 @@ fn own_face(
     nexts: &mut [u16],
     mates: &mut [u16],
     i: usize,
-) -> u32
+) -> Result<bool, ThirdFace>
     requires { Going rows.now sites.now heads.old nexts.old mates.old i }
-    ensures { Gone rows.now mates.old heads.new nexts.new mates.new i result }
+    ensures { Gone rows.now mates.old heads.new nexts.new mates.new i (number_found result) }
 {
     let r = face_at(rows, sites, i);
     let h = hash(r);
-    let e = find(rows, sites, heads, nexts, r, h);
-    let turn = turn_at(rows, sites, r, e);
-    let entry = (i + 1) as u16;
-    let number = meet(mates, e, turn, 8 * entry + turn_back(turn));
+    let seen = Chained {
+        rows,
+        sites,
+        heads,
+        nexts,
+    }
+    .find(r, h);
     nexts[i + 1] = heads[h];
-    heads[h] = entry;
-    mates[i + 1] = 8 * e as u16 + turn % 8;
-    number
+    heads[h] = (i + 1) as u16;
+    let Some(p) = seen else {
+        mates[i + 1] = 0;
+        return Ok(true);
+    };
+    let turn = turn_of(face_at(rows, sites, p), r);
+    let steps = turn.unwrap_or(0);
+    let met = meet(
+        mates,
+        p,
+        turn.is_some(),
+        8 * (i + 1) as u16 + turn_back(steps),
+    );
+    mates[i + 1] = 8 * (p + 1) as u16 + steps;
+    met
 }
 
 // ---- a block
 
-// No face is in a chain.
-fn clear(heads: &mut [u16])
-    ensures { (h : ℕ) → h < length heads.old → get_or heads.new h 0 ≡ 0 }
-{
-    for h in 0..heads.len() {
-        heads[h] = 0;
-    }
-}
-
-// The first of two numbers that is not 0, if any.
-fn first(a: u32, b: u32) -> u32
-    ensures { (a ≡ 0 → result ≡ b) × (a ≢ 0 → result ≡ a) }
-{
-    if a == 0 { b } else { a }
-}
-
-// The faces of the cells in the buffer, one after the other: 22 as soon as three have the same four vertices, else 23 if two have them
-// in another order, else 0.
+// The faces of the cells in the buffer, one after the other: whether those with the same four vertices have them in the same order, unless
+// three have the same four.
 fn own_faces(
     rows: &[u64],
     sites: &[u8; 24],
@@ -305,35 +299,43 @@ fn own_faces(
     nexts: &mut [u16],
     mates: &mut [u16],
     cells: usize,
-) -> u32
+) -> Result<bool, ThirdFace>
     requires { Own rows.now sites.now heads.old nexts.old mates.old cells }
-    ensures { Block rows.now (6 * cells) heads.new nexts.new mates.new result }
+    ensures { Block rows.now (6 * cells) heads.new nexts.new mates.new (number_found result) }
 {
-    let mut other = 0;
+    let mut same = true;
     for i in 0..6 * cells {
-        let number = own_face(rows, sites, heads, nexts, mates, i);
-        if number == 22 {
-            return 22;
-        }
-        other = first(other, number);
+        same &= own_face(rows, sites, heads, nexts, mates, i)?;
     }
-    other
+    Ok(same)
 }
 
-// 22 and 23 for the cells in the buffer, at most 1,365: the number of the first that does not pass, or 0 and the mates of the faces.
+// What is said of the orders at the end of all passes.
+fn ordered(same: bool) -> Result<(), Reason>
+    ensures { number_told result ≡ order_number same }
+{
+    if same {
+        Ok(())
+    } else {
+        Err(Reason::OtherOrder)
+    }
+}
+
+// 22 and 23 for the cells in the buffer, at most 1,365: the first that does not pass, or the mates of the faces.
 pub fn judge_held(
     rows: &[u64],
     cells: usize,
     heads: &mut [u16],
     nexts: &mut [u16],
     mates: &mut [u16],
-) -> u32
+) -> Result<(), Reason>
     requires { (SomeCells rows.now cells) × (Lent heads.old nexts.old mates.old cells) }
-    ensures { (rs : List (List ℕ)) → CellsIn rows.now cells rs → JudgedCells rs mates.new result }
+    ensures { (rs : List (List ℕ)) → CellsIn rows.now cells rs → JudgedCells rs mates.new (number_told result) }
 {
-    clear(heads);
+    heads.fill(0);
     let sites = sites();
-    own_faces(rows, &sites, heads, nexts, mates, cells)
+    let same = own_faces(rows, &sites, heads, nexts, mates, cells)?;
+    ordered(same)
 }
 
 // ---- a vertex repeated in a cell
@@ -343,15 +345,8 @@ fn stands_behind(rows: &[u64], c: usize, i: usize) -> bool
     requires { (8 * c + 8 ≤ length rows.now) × (i < 8) }
     ensures { result ≡ among (drop (i + 1) (held_row rows.now c)) (get_or (held_row rows.now c) i 0) }
 {
-    let x = rows[8 * c + i];
-    let mut j = i + 1;
-    while j < 8 {
-        if x == rows[8 * c + j] {
-            return true;
-        }
-        j += 1;
-    }
-    false
+    let row = &rows[8 * c..8 * c + 8];
+    row[i + 1..].contains(&row[i])
 }
 
 // Whether a vertex stands twice in the cell c.
@@ -359,14 +354,7 @@ fn repeats(rows: &[u64], c: usize) -> bool
     requires { 8 * c + 8 ≤ length rows.now }
     ensures { result ≡ repeats (held_row rows.now c) }
 {
-    let mut i = 0;
-    while i < 8 {
-        if stands_behind(rows, c, i) {
-            return true;
-        }
-        i += 1;
-    }
-    false
+    (0..8).any(|i| stands_behind(rows, c, i))
 }
 
 // Whether 21 refuses the cells in the buffer.
@@ -384,95 +372,75 @@ pub fn repeated(rows: &[u64], cells: usize) -> bool
 
 // ---- the faces behind a block
 
-// The face r, which stands behind the block's, meets one of the block with the same four vertices.
-fn later_face(
-    rows: &[u64],
-    sites: &[u8; 24],
-    heads: &[u16],
-    nexts: &[u16],
-    mates: &mut [u16],
-    r: Face,
-) -> u32
-    requires { (Sited sites.now) × (SomeLater rows.now heads.now nexts.now mates.old (four r)) }
-    ensures { (F : ℕ → List ℕ) (m i : ℕ)
-        → Later F m i rows.now heads.now nexts.now mates.old (four r)
-        → Stepped F m i mates.new result }
-{
-    let h = hash(r);
-    let e = find(rows, sites, heads, nexts, r, h);
-    let turn = turn_at(rows, sites, r, e);
-    meet(mates, e, turn, 65_535)
-}
-
-// The faces of the cells in `chunk`, one after the other, where `before` is what was found of the orders before them.
-fn later_faces(
-    rows: &[u64],
-    sites: &[u8; 24],
-    heads: &[u16],
-    nexts: &[u16],
-    mates: &mut [u16],
-    chunk: &[u64],
-    cells: usize,
-    before: u32,
-) -> u32
-    requires { (Sited sites.now) × (8 * cells ≤ length chunk.now)
-        × (SomeChunk rows.now heads.now nexts.now mates.old before chunk.now cells) }
-    ensures { (F : ℕ → List ℕ) (m i : ℕ)
-        → Chunk F m i rows.now heads.now nexts.now mates.old before chunk.now cells
-        → Ran F m (i + 6 * cells) mates.new result }
-{
-    let mut other = before;
-    for j in 0..6 * cells {
-        let number = later_face(rows, sites, heads, nexts, mates, face_at(chunk, sites, j));
-        if number == 22 {
-            return 22;
-        }
-        other = first(other, number);
+impl Chained<'_> {
+    // The face r, which stands behind the block's, meets one of the block with the same four vertices.
+    fn later_face(&self, mates: &mut [u16], r: Face) -> Result<bool, ThirdFace>
+        requires { (Sited self.now.sites.now)
+            × (SomeLater self.now.rows.now self.now.heads.now self.now.nexts.now mates.old (four r)) }
+        ensures { (F : ℕ → List ℕ) (m i : ℕ)
+            → Later F m i self.now.rows.now self.now.heads.now self.now.nexts.now mates.old (four r)
+            → Stepped F m i mates.new (number_found result) }
+    {
+        let h = hash(r);
+        let Some(p) = self.find(r, h) else {
+            return Ok(true);
+        };
+        let turn = turn_of(face_at(self.rows, self.sites, p), r);
+        meet(mates, p, turn.is_some(), 65_535)
     }
-    other
+
+    // The faces of the cells in `chunk`, one after the other, where `before` is what was found of the orders before them.
+    fn later_faces(
+        &self,
+        mates: &mut [u16],
+        chunk: &[u64],
+        cells: usize,
+        before: bool,
+    ) -> Result<bool, ThirdFace>
+        requires { (Sited self.now.sites.now) × (8 * cells ≤ length chunk.now)
+            × (SomeChunk self.now.rows.now self.now.heads.now self.now.nexts.now mates.old (order_number before) chunk.now cells) }
+        ensures { (F : ℕ → List ℕ) (m i : ℕ)
+            → Chunk F m i self.now.rows.now self.now.heads.now self.now.nexts.now mates.old (order_number before) chunk.now cells
+            → Ran F m (i + 6 * cells) mates.new (number_found result) }
+    {
+        let mut same = before;
+        for j in 0..6 * cells {
+            same &= self.later_face(mates, face_at(chunk, self.sites, j))?;
+        }
+        Ok(same)
+    }
 }
 
 // ---- the cells of a text
 
-// The lower of two numbers.
-fn at_most(x: usize, top: usize) -> usize
-    ensures { result ≡ min x top }
-{
-    if x < top { x } else { top }
-}
-
-// The faces of the `cells` cells that stand in the text from `at` on, behind the block's, 64 cells at a time; `before` is what was found of
-// the block's own.
+// The faces of the `cells` cells that stand in the text from `at` on, behind the block's, 24 cells at a time; `before` is what was found of
+// the block's own. A stack frame of its own leaves its loops the registers.
+#[inline(never)]
 fn judge_rest(
     text: &[u8],
     at: usize,
     cells: usize,
-    rows: &[u64],
-    sites: &[u8; 24],
-    heads: &[u16],
-    nexts: &[u16],
+    block: &Chained,
     mates: &mut [u16],
-    before: u32,
-) -> u32
-    requires { (Sited sites.now) × (SomeRest rows.now heads.now nexts.now mates.old before text.now at cells) }
+    before: bool,
+) -> Result<bool, ThirdFace>
+    requires { (Sited block.now.sites.now)
+        × (SomeRest block.now.rows.now block.now.heads.now block.now.nexts.now mates.old (order_number before) text.now at cells) }
     ensures { (rs : List (List ℕ)) (d k : ℕ)
-        → Rest rs d k rows.now heads.now nexts.now mates.old before text.now at cells
-        → Ran (face_from rs d) (6 * k) (6 * k + 6 * cells) mates.new result }
+        → Rest rs d k block.now.rows.now block.now.heads.now block.now.nexts.now mates.old (order_number before) text.now at cells
+        → Ran (face_from rs d) (6 * k) (6 * k + 6 * cells) mates.new (number_found result) }
 {
-    let mut chunk = [0u64; 512];
+    let mut chunk = [0u64; 192];
     let mut p = at;
     let mut left = cells;
-    let mut other = before;
+    let mut same = before;
     while left != 0 {
-        let some = at_most(left, 64);
+        let some = left.min(24);
         p = read_rows(text, p, some, &mut chunk);
-        other = later_faces(rows, sites, heads, nexts, mates, &chunk, some, other);
-        if other == 22 {
-            return 22;
-        }
+        same = block.later_faces(mates, &chunk, some, same)?;
         left -= some;
     }
-    other
+    Ok(same)
 }
 
 // The faces of the block of `block` cells in the buffer, and of the `cells` cells behind them, in the text from `at` on.
@@ -486,22 +454,25 @@ fn judge_block(
     heads: &mut [u16],
     nexts: &mut [u16],
     mates: &mut [u16],
-) -> u32
+) -> Result<bool, ThirdFace>
     requires { (Sited sites.now) × (Lent heads.old nexts.old mates.old block)
         × (SomeBlockAt block rows.now text.now at cells) }
     ensures { (rs : List (List ℕ)) (d : ℕ) → BlockAt rs d block rows.now text.now at cells
-        → Ran (face_from rs d) (6 * block) (6 * block + 6 * cells) mates.new result }
+        → Ran (face_from rs d) (6 * block) (6 * block + 6 * cells) mates.new (number_found result) }
 {
-    clear(heads);
-    let own = own_faces(rows, sites, heads, nexts, mates, block);
-    if own == 22 {
-        return 22;
-    }
-    judge_rest(text, at, cells, rows, sites, heads, nexts, mates, own)
+    heads.fill(0);
+    let own = own_faces(rows, sites, heads, nexts, mates, block)?;
+    let chained = Chained {
+        rows,
+        sites,
+        heads,
+        nexts,
+    };
+    judge_rest(text, at, cells, &chained, mates, own)
 }
 
-// 22 and 23 for the cells of a text, of any number, in blocks of at most 1,365: the number of the first that does not pass, or 0. Each
-// block is compared with itself and with all cells behind it.
+// 22 and 23 for the cells of a text, of any number, in blocks of at most 1,365: the first that does not pass. Each block is compared with
+// itself and with all cells behind it.
 pub fn judge(
     text: &[u8],
     at: usize,
@@ -510,25 +481,21 @@ pub fn judge(
     heads: &mut [u16],
     nexts: &mut [u16],
     mates: &mut [u16],
-) -> u32
+) -> Result<(), Reason>
     requires { (SomeJudgeable text.now at cells) × (10920 ≤ length rows.old) × (Lent heads.old nexts.old mates.old 1365) }
-    ensures { (rs : List (List ℕ)) → Judgeable text.now at cells rs → Verdict rs result }
+    ensures { (rs : List (List ℕ)) → Judgeable text.now at cells rs → Verdict rs (number_told result) }
 {
     let sites = sites();
     let mut p = at;
     let mut left = cells;
-    let mut other = 0;
+    let mut same = true;
     while left != 0 {
-        let block = at_most(left, 1365);
+        let block = left.min(1365);
         p = read_rows(text, p, block, rows);
         left -= block;
-        let number = judge_block(text, p, left, rows, block, &sites, heads, nexts, mates);
-        if number == 22 {
-            return 22;
-        }
-        other = first(other, number);
+        same &= judge_block(text, p, left, rows, block, &sites, heads, nexts, mates)?;
     }
-    other
+    ordered(same)
 }
 
 // Whether 21 refuses the cells of a text, read in blocks of at most 1,365.
@@ -539,7 +506,7 @@ pub fn any_repeated(text: &[u8], at: usize, cells: usize, rows: &mut [u64]) -> b
     let mut p = at;
     let mut left = cells;
     while left != 0 {
-        let block = at_most(left, 1365);
+        let block = left.min(1365);
         p = read_rows(text, p, block, rows);
         if repeated(rows, block) {
             return true;

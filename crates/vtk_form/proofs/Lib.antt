@@ -5,7 +5,6 @@ pub mod Named
 pub mod Keeping
 pub mod Skipping
 pub mod Typing
-pub mod Told
 pub mod Beside
 pub mod Sections
 pub mod Assembly

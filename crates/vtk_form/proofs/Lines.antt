@@ -1,6 +1,6 @@
 -- The version line and the title line, byte by byte.
-use Prim.Native.Nat.{ℕ, ◌+◌, ◌≤◌, ◌<◌}
-use mathlib.Core.Path.{◌≡◌, refl}
+use Prim.Native.Nat.{ℕ, zero, suc, ◌+◌, ◌≤◌, ◌<◌}
+use mathlib.Core.Path.{◌≡◌, refl, ◌∙◌}
 use mathlib.Core.Logic.{◌≢◌}
 use mathlib.Core.Bool.{true, false}
 use mathlib.Core.List.{List, [], ◌∷◌}
@@ -30,6 +30,14 @@ module _ (text : List ℕ) (k : ℕ) where
     pub line_on : get_or text k 0 ≢ 10 → behind_line (drop k text) ≡ behind_line (drop (k + 1) text)
     unfolding behind_line
     line_on e = rw (add-one k, drop-cons text k 0 low, behind_line, ne_eqb _ 10 e)
+
+-- past bytes that end no line
+pub line_past : (text : List ℕ) (at k : ℕ) → ((j : ℕ) → j < k → get_or text (at + j) 0 ≢ 10) → at + k ≤ length text
+    → behind_line (drop at text) ≡ behind_line (drop (at + k) text)
+line_past text at zero h l = let same : at + 0 ≡ at = omega arith in rw same refl
+line_past text at (suc k) h l =
+    let one : at + suc k ≡ at + k + 1 = omega arith in
+    rw one (line_past text at k (λ j m. h j (omega arith)) (omega arith) ∙ line_on text (at + k) (omega arith) (h k (omega arith)))
 
 module _ (text : List ℕ) where
   pub title_two : begins version2 text ≡ true → behind_title text ≡ behind_line (drop 27 text)

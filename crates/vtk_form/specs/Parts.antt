@@ -1,35 +1,28 @@
 -- What the parts of a text give, as it is read from front to back: the lines, POINTS, the rows of CELLS, the types of CELL_TYPES.
 -- Where a part does not fit, nothing of the form can be read from there.
-use Rattle.std.specs.Prelude.{ℕ, ◌+◌, ◌*◌, ◌≤◌, ◌<◌, ◌≡◌, Bool, true, false, List, [], length, get_or, take, drop, eqb, ltb}
+use Rattle.std.specs.Prelude.{ℕ, ◌+◌, ◌*◌, ◌≤◌, ◌<◌, ◌≡◌, Bool, true, false, List, [], length, get_or, take, drop, eqb, ltb, Option as Option_of_std, Some, None}
 use Rattle.std.proofs.Math.Option.{Option, none, some}
 use Rattle.model.specs.Lists.{all_of}
 use Rattle.model.specs.Vtk.{words, Counted, numbers, Rows as RowsRead, points_of, cells_of}
 use Rattle.model.specs.Meaning.Vtk.{rows_from}
 use Rattle.vtk_words.specs.Words.{number_at, large}
-use Rattle.vtk_words.specs.declared.Place.{Place}
-use Rattle.vtk_words.specs.declared.Place.TheVariants as place
 use Rattle.vtk_form.specs.declared.Points.{Points}
-use Rattle.vtk_form.specs.declared.Points.TheVariants as points
 use Rattle.vtk_form.specs.declared.Rows.{Rows}
-use Rattle.vtk_form.specs.declared.Rows.TheVariants as rows
 use Rattle.vtk_form.specs.declared.Cells.{Cells}
-use Rattle.vtk_form.specs.declared.Cells.TheVariants as cells
 use Rattle.vtk_form.specs.declared.CellType.{CellType}
-use Rattle.vtk_form.specs.declared.CellType.TheVariants as type
-use Rattle.vtk_form.specs.declared.Types.{Types}
-use Rattle.vtk_form.specs.declared.Types.TheVariants as types
 
 -- the bytes behind a line, as a place
-abbrev pub LineOf : List ℕ → Option (List ℕ) → Place → Type 0
-LineOf text o (place.At r) = (r ≤ length text) × (o ≡ some (drop r text))
-LineOf text o place.Unfit = o ≡ none
+abbrev pub LineOf : List ℕ → Option (List ℕ) → Option_of_std ℕ → Type 0
+LineOf text o (Some r) = (r ≤ length text) × (o ≡ some (drop r text))
+LineOf text o None = o ≡ none
 
 -- ---- POINTS
 
 -- the number of points, and the place behind them; where there is none, no cells follow
-abbrev pub PointsOf : List ℕ → ℕ → Points → Type 0
-PointsOf text at (points.At n r) = (r ≤ length text) × (points_of (words (drop at text)) ≡ some (number_at text n r)) × (n < large)
-PointsOf text at points.Unfit =
+abbrev pub PointsOf : List ℕ → ℕ → Option_of_std Points → Type 0
+PointsOf text at (Some p) =
+    (p.end ≤ length text) × (points_of (words (drop at text)) ≡ some (number_at text p.count p.end)) × (p.count < large)
+PointsOf text at None =
     (p : Counted) → points_of (words (drop at text)) ≡ some p → (c : RowsRead) → cells_of p.rest ≡ some c → ⊥
 
 -- ---- CELLS
@@ -69,9 +62,9 @@ pub record RowFits (text : List ℕ) (at k n base room : ℕ) (before after : Li
   pub behind : drop k (words (drop at text)) ≡ words (drop r text)
   pub kept : Kept before after base room row
 
-abbrev pub RowOf : List ℕ → ℕ → ℕ → ℕ → ℕ → ℕ → List ℕ → List ℕ → Place → Type 0
-RowOf text at k n base room before after (place.At r) = RowFits text at k n base room before after r
-RowOf text at k n base room before after place.Unfit = (row : List ℕ) → numbers k (words (drop at text)) ≡ some row → all_named n row ≡ true → ⊥
+abbrev pub RowOf : List ℕ → ℕ → ℕ → ℕ → ℕ → ℕ → List ℕ → List ℕ → Option_of_std ℕ → Type 0
+RowOf text at k n base room before after (Some r) = RowFits text at k n base room before after r
+RowOf text at k n base room before after None = (row : List ℕ) → numbers k (words (drop at text)) ≡ some row → all_named n row ≡ true → ⊥
 
 -- m rows of numbers that name points, in `size` words
 pub record RowsFit (text : List ℕ) (at m size n : ℕ) (buffer : List ℕ) (eight : Bool) (r : ℕ) : Type 0 where
@@ -84,9 +77,9 @@ pub record RowsFit (text : List ℕ) (at m size n : ℕ) (buffer : List ℕ) (ei
   pub behind : drop size (words (drop at text)) ≡ words (drop r text)
   pub kept : Keeps buffer rows
 
-abbrev pub RowsOf : List ℕ → ℕ → ℕ → ℕ → ℕ → List ℕ → Rows → Type 0
-RowsOf text at m size n buffer (rows.At eight r) = RowsFit text at m size n buffer eight r
-RowsOf text at m size n buffer rows.Unfit =
+abbrev pub RowsOf : List ℕ → ℕ → ℕ → ℕ → ℕ → List ℕ → Option_of_std Rows → Type 0
+RowsOf text at m size n buffer (Some r) = RowsFit text at m size n buffer r.eight r.end
+RowsOf text at m size n buffer None =
     (rows : List (List ℕ)) → rows_from m size (words (drop at text)) ≡ some rows → all_of (all_named n) rows ≡ true → ⊥
 
 -- CELLS, with m rows from the byte `first` on
@@ -98,9 +91,9 @@ pub record CellsFit (text : List ℕ) (at n : ℕ) (buffer : List ℕ) (m first 
   pub fit : RowsFit text first m size n buffer eight r
   pub read : cells_of (words (drop at text)) ≡ some (record { rows = fit.rows; rest = words (drop r text) })
 
-abbrev pub CellsOf : List ℕ → ℕ → ℕ → List ℕ → Cells → Type 0
-CellsOf text at n buffer (cells.At m first eight r) = CellsFit text at n buffer m first eight r
-CellsOf text at n buffer cells.Unfit =
+abbrev pub CellsOf : List ℕ → ℕ → ℕ → List ℕ → Option_of_std Cells → Type 0
+CellsOf text at n buffer (Some c) = CellsFit text at n buffer c.count c.at c.eight c.end
+CellsOf text at n buffer None =
     (c : RowsRead) → cells_of (words (drop at text)) ≡ some c → all_of (all_named n) c.rows ≡ true → ⊥
 
 -- ---- CELL_TYPES
@@ -110,16 +103,16 @@ unfoldable pub types_left : ℕ → List (List ℕ) → Option (List ℕ)
 types_left n ws = elim (eqb (length ws) n) [ true ↦ numbers n ws | false ↦ none ]
 
 -- the types of n cells stand from the place on
-abbrev pub CountOf : List ℕ → ℕ → Option (List ℕ) → Place → Type 0
-CountOf text n o (place.At r) = (r ≤ length text) × (o ≡ types_left n (words (drop r text)))
-CountOf text n o place.Unfit = o ≡ none
+abbrev pub CountOf : List ℕ → ℕ → Option (List ℕ) → Option_of_std ℕ → Type 0
+CountOf text n o (Some r) = (r ≤ length text) × (o ≡ types_left n (words (drop r text)))
+CountOf text n o None = o ≡ none
 
 -- whether the next word is the number 12, and the place behind it
-abbrev pub TypeOf : List ℕ → Option Counted → CellType → Type 0
-TypeOf text o (type.At twelve r) = (r ≤ length text) × ((v : ℕ) × (o ≡ some (number_at text v r)) × (twelve ≡ eqb v 12))
-TypeOf text o type.Unfit = o ≡ none
+abbrev pub TypeOf : List ℕ → Option Counted → Option_of_std CellType → Type 0
+TypeOf text o (Some c) = (c.end ≤ length text) × ((v : ℕ) × (o ≡ some (number_at text v c.end)) × (c.twelve ≡ eqb v 12))
+TypeOf text o None = o ≡ none
 
 -- whether all types are 12
-abbrev pub TypesOf : Option (List ℕ) → Types → Type 0
-TypesOf o (types.All twelve) = (ts : List ℕ) × (o ≡ some ts) × (twelve ≡ all_of (λ x. eqb x 12) ts)
-TypesOf o types.Unfit = o ≡ none
+abbrev pub TypesOf : Option (List ℕ) → Option_of_std Bool → Type 0
+TypesOf o (Some twelve) = (ts : List ℕ) × (o ≡ some ts) × (twelve ≡ all_of (λ x. eqb x 12) ts)
+TypesOf o None = o ≡ none

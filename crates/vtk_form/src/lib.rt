@@ -10,79 +10,68 @@ ghost use Rattle.model.specs.Vtk.{behind_line, behind_title, behind_words, words
 ghost use Rattle.model.specs.Meaning.Vtk.{rows_from};
 ghost use Rattle.vtk_words.specs.Words.{PlaceOf, large};
 ghost use Rattle.vtk_form.specs.Parts.{LineOf, PointsOf, RoomOf, RowOf, RowsOf, CellsOf, CountOf, TypeOf, TypesOf, types_left, is_eight};
-ghost use Rattle.vtk_form.specs.Form.{FormOf};
+ghost use Rattle.vtk_form.specs.Form.{GridOf, FormOf};
 
-use vtk_words::{Number, Place};
+use refusals::Reason;
+use vtk_words::{Decimal, NoDecimal};
 
 // ---- the lines
 
-fn behind_line(text: &[u8], at: usize) -> Place
+fn behind_line(text: &[u8], at: usize) -> Option<usize>
     ensures { LineOf text.now (behind_line (drop at text.now)) result }
 {
-    let mut k = at;
-    while k < text.len() {
-        if text[k] == b'\n' {
-            return Place::At(k + 1);
-        }
-        k += 1;
-    }
-    Place::Unfit
+    let rest = text.get(at..)?;
+    let k = rest.iter().position(|&b| b == b'\n')?;
+    Some(at + k + 1)
 }
 
 // "version 2.0 or 3.0: version line, title line"
-fn behind_title(text: &[u8]) -> Place
+fn behind_title(text: &[u8]) -> Option<usize>
     ensures { LineOf text.now (behind_title text.now) result }
 {
-    if texts::begins(b"# vtk DataFile Version 2.0\n", text) {
+    if texts::begins(b"# vtk DataFile Version 2.0\n", text)
+        || texts::begins(b"# vtk DataFile Version 3.0\n", text)
+    {
         return behind_line(text, 27);
     }
-    if texts::begins(b"# vtk DataFile Version 3.0\n", text) {
-        return behind_line(text, 27);
-    }
-    Place::Unfit
+    None
 }
 
 // ---- POINTS
 
-fn behind_keys(text: &[u8], at: usize) -> Place
+fn behind_keys(text: &[u8], at: usize) -> Option<usize>
     requires { at ≤ length text.now }
     ensures { PlaceOf text.now (behind_words
         (bytes "ASCII" ∷ bytes "DATASET" ∷ bytes "UNSTRUCTURED_GRID" ∷ bytes "POINTS" ∷ []) (words (drop at text.now))) result }
 {
-    let Place::At(dataset) = vtk_words::behind_word(text, at, b"ASCII") else {
-        return Place::Unfit;
-    };
-    let Place::At(kind) = vtk_words::behind_word(text, dataset, b"DATASET") else {
-        return Place::Unfit;
-    };
-    let Place::At(points) = vtk_words::behind_word(text, kind, b"UNSTRUCTURED_GRID") else {
-        return Place::Unfit;
-    };
+    let dataset = vtk_words::behind_word(text, at, b"ASCII")?;
+    let kind = vtk_words::behind_word(text, dataset, b"DATASET")?;
+    let points = vtk_words::behind_word(text, kind, b"UNSTRUCTURED_GRID")?;
     vtk_words::behind_word(text, points, b"POINTS")
 }
 
+// The number of points, and the place behind them.
 #[derive(Clone, Copy)]
-enum Points {
-    At(u64, usize),
-    Unfit,
+struct Points {
+    count: u64,
+    end: usize,
 }
 
 // "POINTS (three words a point, skipped)"
-fn behind_points(text: &[u8], at: usize) -> Points
+fn behind_points(text: &[u8], at: usize) -> Option<Points>
     requires { at ≤ length text.now }
     ensures { PointsOf text.now at result }
 {
-    let Place::At(count) = behind_keys(text, at) else {
-        return Points::Unfit;
-    };
-    let Number::Value(n, word) = vtk_words::number_at(text, count) else {
-        return Points::Unfit;
-    };
+    let behind = behind_keys(text, at)?;
+    let Decimal {
+        value: count,
+        end: word,
+    } = vtk_words::number_at(text, behind).ok()?;
     let first = vtk_words::skip_words(text, word, 1);
-    let second = vtk_words::skip_words(text, first, n);
-    let third = vtk_words::skip_words(text, second, n);
-    let end = vtk_words::skip_words(text, third, n);
-    Points::At(n, end)
+    let second = vtk_words::skip_words(text, first, count);
+    let third = vtk_words::skip_words(text, second, count);
+    let end = vtk_words::skip_words(text, third, count);
+    Some(Points { count, end })
 }
 
 // ---- CELLS
@@ -126,164 +115,150 @@ fn behind_row(
     base: usize,
     room: u64,
     rows: &mut [u64],
-) -> Place
+) -> Option<usize>
     requires { (at ≤ length text.now) × (points < large) × (base + room ≤ length rows.old) }
     ensures { RowOf text.now at k points base room rows.old rows.new result }
 {
     let mut p = at;
-    let mut i: u64 = 0;
-    while i < k {
-        let Number::Value(v, end) = vtk_words::number_at(text, p) else {
-            return Place::Unfit;
-        };
+    for i in 0..k {
+        let Decimal { value: v, end } = vtk_words::number_at(text, p).ok()?;
         if v >= points {
-            return Place::Unfit;
+            return None;
         }
         keep(i, v, base, room, rows);
         p = end;
-        i += 1;
     }
-    Place::At(p)
+    Some(p)
 }
 
-fn both(a: bool, b: bool) -> bool
-    ensures { result ≡ (a && b) }
-{
-    if a {
-        return b;
-    }
-    false
-}
-
+// The rows: whether all have 8 numbers, and the place behind them.
 #[derive(Clone, Copy)]
-enum Rows {
-    At(bool, usize),
-    Unfit,
+struct Rows {
+    eight: bool,
+    end: usize,
 }
 
-// n rows in `size` words, each behind its length; and whether all have 8 numbers. The buffer keeps those that have.
-fn behind_rows(text: &[u8], at: usize, n: u64, size: u64, points: u64, rows: &mut [u64]) -> Rows
+// n rows in `size` words, each behind its length. The buffer keeps those that have 8 numbers.
+fn behind_rows(
+    text: &[u8],
+    at: usize,
+    n: u64,
+    size: u64,
+    points: u64,
+    rows: &mut [u64],
+) -> Option<Rows>
     requires { (at ≤ length text.now) × (size < large) × (points < large) }
     ensures { RowsOf text.now at n size points rows.new result }
 {
     let mut p = at;
     let mut left = size;
     let mut eight = true;
-    let mut i: u64 = 0;
-    while i < n {
-        let Number::Value(k, start) = vtk_words::number_at(text, p) else {
-            return Rows::Unfit;
-        };
+    for i in 0..n {
+        let Decimal {
+            value: k,
+            end: start,
+        } = vtk_words::number_at(text, p).ok()?;
         if k >= left {
-            return Rows::Unfit;
+            return None;
         }
         let room = room_for(i, rows.len());
-        let base = room.base;
-        let words = room.words;
-        let Place::At(end) = behind_row(text, start, k, points, base, words, rows) else {
-            return Rows::Unfit;
-        };
+        p = behind_row(text, start, k, points, room.base, room.words, rows)?;
         left = left - 1 - k;
-        eight = both(eight, k == 8);
-        p = end;
-        i += 1;
+        eight &= k == 8;
     }
     let some_left = left > 0;
     if some_left {
-        return Rows::Unfit;
+        return None;
     }
-    Rows::At(eight, p)
+    Some(Rows { eight, end: p })
 }
 
+// The cells: their number, where their rows begin, whether all have 8 numbers, and the place behind them.
 #[derive(Clone, Copy)]
-enum Cells {
-    At(u64, usize, bool, usize),
-    Unfit,
+struct Cells {
+    count: u64,
+    at: usize,
+    eight: bool,
+    end: usize,
 }
 
-// Their number, where their rows begin, whether all have 8 numbers, and the place behind them.
-fn behind_cells(text: &[u8], at: usize, points: u64, rows: &mut [u64]) -> Cells
+fn behind_cells(text: &[u8], at: usize, points: u64, rows: &mut [u64]) -> Option<Cells>
     requires { (at ≤ length text.now) × (points < large) }
     ensures { CellsOf text.now at points rows.new result }
 {
-    let Place::At(counts) = vtk_words::behind_word(text, at, b"CELLS") else {
-        return Cells::Unfit;
-    };
-    let Number::Value(n, second) = vtk_words::number_at(text, counts) else {
-        return Cells::Unfit;
-    };
-    let Number::Value(size, first) = vtk_words::number_at(text, second) else {
-        return Cells::Unfit;
-    };
-    let Rows::At(eight, end) = behind_rows(text, first, n, size, points, rows) else {
-        return Cells::Unfit;
-    };
-    Cells::At(n, first, eight, end)
+    let counts = vtk_words::behind_word(text, at, b"CELLS")?;
+    let Decimal {
+        value: count,
+        end: second,
+    } = vtk_words::number_at(text, counts).ok()?;
+    let Decimal {
+        value: size,
+        end: first,
+    } = vtk_words::number_at(text, second).ok()?;
+    let Rows { eight, end } = behind_rows(text, first, count, size, points, rows)?;
+    Some(Cells {
+        count,
+        at: first,
+        eight,
+        end,
+    })
 }
 
 // ---- CELL_TYPES
 
 // Behind the count, which is that of the cells.
-fn behind_count(text: &[u8], at: usize, n: u64) -> Place
+fn behind_count(text: &[u8], at: usize, n: u64) -> Option<usize>
     requires { (at ≤ length text.now) × (n < large) }
     ensures { CountOf text.now n (types_of n (words (drop at text.now))) result }
 {
-    let Place::At(count) = vtk_words::behind_word(text, at, b"CELL_TYPES") else {
-        return Place::Unfit;
-    };
-    let Number::Value(m, first) = vtk_words::number_at(text, count) else {
-        return Place::Unfit;
-    };
+    let count = vtk_words::behind_word(text, at, b"CELL_TYPES")?;
+    let Decimal {
+        value: m,
+        end: first,
+    } = vtk_words::number_at(text, count).ok()?;
     if m != n {
-        return Place::Unfit;
+        return None;
     }
-    Place::At(first)
+    Some(first)
 }
 
+// A type, which may be any number: whether it is 12, and the place behind it.
 #[derive(Clone, Copy)]
-enum CellType {
-    At(bool, usize),
-    Unfit,
+struct CellType {
+    twelve: bool,
+    end: usize,
 }
 
-// A type may be any number; whether it is 12.
-fn type_at(text: &[u8], at: usize) -> CellType
+fn type_at(text: &[u8], at: usize) -> Option<CellType>
     requires { at ≤ length text.now }
     ensures { TypeOf text.now (counted (words (drop at text.now))) result }
 {
     match vtk_words::number_at(text, at) {
-        Number::Value(v, end) => CellType::At(v == 12, end),
-        Number::Large(end) => CellType::At(false, end),
-        Number::Unfit => CellType::Unfit,
+        Ok(Decimal { value, end }) => Some(CellType {
+            twelve: value == 12,
+            end,
+        }),
+        Err(NoDecimal::Large(end)) => Some(CellType { twelve: false, end }),
+        Err(NoDecimal::Unfit) => None,
     }
 }
 
-#[derive(Clone, Copy)]
-enum Types {
-    All(bool),
-    Unfit,
-}
-
 // n types, "then nothing"; whether all are 12.
-fn all_types(text: &[u8], at: usize, n: u64) -> Types
+fn all_types(text: &[u8], at: usize, n: u64) -> Option<bool>
     requires { at ≤ length text.now }
     ensures { TypesOf (types_left n (words (drop at text.now))) result }
 {
     let mut p = at;
-    let mut twelve = true;
-    let mut i: u64 = 0;
-    while i < n {
-        let CellType::At(one, end) = type_at(text, p) else {
-            return Types::Unfit;
-        };
-        twelve = both(twelve, one);
+    let mut all = true;
+    for _ in 0..n {
+        let CellType { twelve, end } = type_at(text, p)?;
+        all &= twelve;
         p = end;
-        i += 1;
     }
     if vtk_words::word_start(text, p) < text.len() {
-        return Types::Unfit;
+        return None;
     }
-    Types::All(twelve)
+    Some(all)
 }
 
 // ---- "a type 12 row has 8 numbers"
@@ -296,20 +271,24 @@ fn eights_beside(text: &[u8], at: usize, first: usize, n: u64) -> bool
 {
     let mut p = at;
     let mut q = first;
-    let mut i: u64 = 0;
-    while i < n {
-        let Number::Value(k, start) = vtk_words::number_at(text, p) else {
+    for _ in 0..n {
+        let Ok(
+            Decimal {
+                value: k,
+                end: start,
+            },
+        ) = vtk_words::number_at(text, p)
+        else {
             return true;
         };
-        let CellType::At(twelve, end) = type_at(text, q) else {
+        let Some(CellType { twelve, end }) = type_at(text, q) else {
             return true;
         };
-        if both(twelve, k != 8) {
+        if twelve & (k != 8) {
             return false;
         }
         p = vtk_words::skip_words(text, start, k);
         q = end;
-        i += 1;
     }
     true
 }
@@ -320,63 +299,57 @@ fn eights_hold(text: &[u8], eight: bool, at: usize, first: usize, n: u64) -> boo
     ensures { (rows : List (List ℕ)) → (size : ℕ) → size < large → rows_from n size (words (drop at text.now)) ≡ some rows
         → (ts : List ℕ) → numbers n (words (drop first text.now)) ≡ some ts → eight ≡ all_of is_eight rows → result ≡ eights rows ts }
 {
-    if eight {
-        return true;
-    }
-    eights_beside(text, at, first, n)
+    eight || eights_beside(text, at, first, n)
 }
 
 // ---- the form
 
-// Whether the text is of the form; then whether all its cells are of type 12, how many there are, and where their rows begin.
+// How many cells a text of the form has, and where their rows begin.
 #[derive(Clone, Copy)]
 pub struct Form {
-    pub fits: bool,
-    pub twelve: bool,
     pub cells: u64,
     pub at: usize,
 }
 
-fn unfit() -> Form
-    ensures { result.fits ≡ false }
-{
-    Form {
-        fits: false,
-        twelve: false,
-        cells: 0,
-        at: 0,
-    }
+// The grid of a text: its form, and whether all cells are of type 12.
+#[derive(Clone, Copy)]
+struct Grid {
+    form: Form,
+    twelve: bool,
 }
 
-// The buffer keeps the rows of eight numbers, eight words to a row, as far as it goes.
-pub fn read_form(text: &[u8], rows: &mut [u64]) -> Form
+fn read_grid(text: &[u8], rows: &mut [u64]) -> Option<Grid>
+    ensures { GridOf text.now rows.new result }
+{
+    let body = behind_title(text)?;
+    let points = behind_points(text, body)?;
+    let cells = behind_cells(text, points.end, points.count, rows)?;
+    let n = cells.count;
+    if n == 0 {
+        return None;
+    }
+    let first = behind_count(text, cells.end, n)?;
+    let twelve = all_types(text, first, n)?;
+    if !eights_hold(text, cells.eight, cells.at, first, n) {
+        return None;
+    }
+    Some(Grid {
+        form: Form {
+            cells: n,
+            at: cells.at,
+        },
+        twelve,
+    })
+}
+
+// The form of a text whose cells are all of type 12, or why there is none. The buffer keeps the rows of eight numbers, eight words to a
+// row, as far as it goes.
+pub fn read_form(text: &[u8], rows: &mut [u64]) -> Result<Form, Reason>
     ensures { FormOf text.now rows.new result }
 {
-    let Place::At(body) = behind_title(text) else {
-        return unfit();
-    };
-    let Points::At(points, cells) = behind_points(text, body) else {
-        return unfit();
-    };
-    let Cells::At(n, at, eight, end) = behind_cells(text, cells, points, rows) else {
-        return unfit();
-    };
-    if n == 0 {
-        return unfit();
+    let grid = read_grid(text, rows).ok_or(Reason::WrongForm)?;
+    if !grid.twelve {
+        return Err(Reason::OtherType);
     }
-    let Place::At(first) = behind_count(text, end, n) else {
-        return unfit();
-    };
-    let Types::All(twelve) = all_types(text, first, n) else {
-        return unfit();
-    };
-    if !eights_hold(text, eight, at, first, n) {
-        return unfit();
-    }
-    Form {
-        fits: true,
-        twelve,
-        cells: n,
-        at,
-    }
+    Ok(grid.form)
 }

@@ -1,11 +1,14 @@
 -- A row read number by number: `going_start`, `going_more`; and what it comes to: `going_read`.
-use Prim.Native.Nat.{ℕ, suc, ◌+◌, ◌-◌, ◌<◌}
+use Prim.Native.Nat.{ℕ, suc, ◌+◌, ◌-◌, ◌≤◌, ◌<◌}
 use mathlib.Core.Path.{◌≡◌, refl, sym, ap, ◌∙◌}
 use mathlib.Core.List.{List}
 use mathlib.Core.Option.{some}
 use native.Mathlib.Omega.{arith}
 use native.Mathlib.Numerals.{add-one}
 use lib.ListN.{length, get_or, drop, set, length-set}
+use borrow.Rule.Slice.PartMut.{put_mid, same_len_mid, mid_len}
+use Rattle.std.proofs.Common.{get_or-drop, get_or-take}
+use Rattle.std.proofs.lemmas.Slice.{between-put_mid, take-put_mid_below, drop-put_mid}
 use lib.Seq.{drop-cons, drop-drop, get_or-set_same, get_or-set_other}
 use Rattle.model.specs.Vtk.{words, Counted, counted, numbers}
 use Rattle.theorems.proofs.Lists.Scan.{if_eq}
@@ -62,6 +65,30 @@ module _ (text : List ℕ) (at : ℕ) (row before : List ℕ) (base : ℕ) where
           };
         }
 
-  pub going_read : (after : List ℕ) (p : ℕ) → Going text at row before after base p 8
-      → RowRead text at row before after base p
-  going_read after p g = record { behind = g.behind; stands = g.stands }
+-- eight words of a buffer that are lent, and given back
+module _ (text : List ℕ) (at : ℕ) (row rows : List ℕ) (base : ℕ) (room : base + 8 ≤ length rows) where
+  abbrev lent : ℕ
+  lent = base + 8 - base
+
+  given_back : {before after : List ℕ} → length after ≡ 8 → Put before after 0 8 row → Put rows (put_mid base lent rows after) base 8 row
+  given_back {before} {after} eight P =
+      let all = put_mid base lent rows after in
+      record {
+        same = same_len_mid base lent rows after (eight ∙ sym (mid_len base (base + 8) rows room ∙ omega arith));
+        put = λ j l.
+            sym (get_or-drop base all j 0) ∙ sym (get_or-take lent (drop base all) j 0 (omega arith))
+            ∙ ap (λ (xs : List ℕ). get_or xs j 0) (between-put_mid base lent rows after (base + 8) (omega arith) (omega arith))
+            ∙ ap (λ (y : ℕ). get_or after y 0) (omega arith) ∙ P.put j l;
+        below = λ x l.
+            sym (get_or-take base all x 0 l) ∙ ap (λ (xs : List ℕ). get_or xs x 0) (take-put_mid_below base lent rows after base (omega arith) (omega arith))
+            ∙ get_or-take base rows x 0 l;
+        above = λ x l.
+            let there : base + 8 + (x - (base + 8)) ≡ x = omega arith in
+            ap (λ (y : ℕ). get_or all y 0) (sym there) ∙ sym (get_or-drop (base + 8) all (x - (base + 8)) 0)
+            ∙ ap (λ (xs : List ℕ). get_or xs (x - (base + 8)) 0) (drop-put_mid base lent rows after (base + 8) (omega arith) (omega arith) (omega arith))
+            ∙ get_or-drop (base + 8) rows (x - (base + 8)) 0 ∙ ap (λ (y : ℕ). get_or rows y 0) there;
+      }
+
+  pub going_read : {before after : List ℕ} {p i : ℕ} → length after ≡ 8 → i ≡ 8 → Going text at row before after 0 p i
+      → RowRead text at row rows (put_mid base lent rows after) base p
+  going_read eight all g = let h = rw all at g in record { behind = h.behind; stands = given_back eight h.stands }

@@ -4,7 +4,7 @@
 ghost use Rattle.std.specs.Prelude.{ℕ, ◌+◌, ◌*◌, ◌≤◌, List, length};
 ghost use Rattle.vtk_rows.specs.Rows.{RowAt, RowRead, EightsAt, EightsRead};
 
-use vtk_words::Number;
+use vtk_words::Decimal;
 
 // The eight numbers that stand next, from `base` on in the buffer; the place behind them.
 fn read_row(text: &[u8], at: usize, base: usize, rows: &mut [u64]) -> usize
@@ -14,14 +14,12 @@ fn read_row(text: &[u8], at: usize, base: usize, rows: &mut [u64]) -> usize
         → RowRead text.now at row rows.old rows.new base result }
 {
     let mut p = at;
-    let mut i = 0;
-    while i < 8 {
-        let Number::Value(v, end) = vtk_words::number_at(text, p) else {
+    for word in rows[base..base + 8].iter_mut() {
+        let Ok(Decimal { value, end }) = vtk_words::number_at(text, p) else {
             return p;
         };
-        rows[base + i] = v;
+        *word = value;
         p = end;
-        i += 1;
     }
     p
 }
@@ -33,13 +31,12 @@ pub fn read_rows(text: &[u8], at: usize, k: usize, rows: &mut [u64]) -> usize
         → EightsRead text.now k rs rows.old rows.new result }
 {
     let mut p = at;
-    let mut c = 0;
-    while c < k {
-        let Number::Value(_, start) = vtk_words::number_at(text, p) else {
+    // c stays a number: once the chunks of chunks_exact_mut are given back, a proof knows the length of the buffer, and not its words
+    for c in 0..k {
+        let Ok(length) = vtk_words::number_at(text, p) else {
             return p;
         };
-        p = read_row(text, start, 8 * c, rows);
-        c += 1;
+        p = read_row(text, length.end, 8 * c, rows);
     }
     p
 }

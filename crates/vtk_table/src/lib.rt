@@ -12,6 +12,7 @@ ghost use Rattle.vtk_table.specs.Cells.{step_at, Steps, first_dart, Cells, SomeC
 ghost use Rattle.vtk_table.specs.Cells.{word_at, RecordWords, TableWords, dart_links, Placed, NewCell, ToCell, NewCells, SomeNewCells};
 
 use reading::UNUSED;
+use std::array;
 use vtk_faces::face_dart;
 
 // ---- round the faces of a cell
@@ -30,7 +31,7 @@ fn step_at(steps: &[u8; 384], y: usize) -> u8
     numbering::cell_link(3, (y as u32 - 1) % 2, steps[y - 1] as u32) as u8
 }
 
-// All of them.
+// All of them. The loop counts an index, as each is found from those before it.
 fn steps() -> [u8; 384]
     ensures { Steps 384 result }
 {
@@ -108,22 +109,14 @@ fn record_word(y: u32) -> u32
 fn record_words() -> [u32; 576]
     ensures { RecordWords result }
 {
-    let mut words = [0u32; 576];
-    for y in 0..576 {
-        words[y] = record_word(y as u32);
-    }
-    words
+    array::from_fn(|y| record_word(y as u32))
 }
 
 // Of these the new values, as the table has them.
 fn table_words() -> [u32; 192]
     ensures { TableWords result }
 {
-    let mut own = [0u32; 192];
-    for x in 0..192 {
-        own[x] = record_word(3 * x as u32 + 2);
-    }
-    own
+    array::from_fn(|x| record_word(3 * x as u32 + 2))
 }
 
 // A pass comes to the dart k of the cell whose first slot is `cell`, and it is sewn to the slot `third`: its record is drafted, from the word
@@ -135,6 +128,7 @@ fn draft_dart(journal: &mut [u32], w: usize, words: &[u32; 576], k: usize, cell:
         → Pass t u j (cell + k + 1) (w + 12) journal.new }
 {
     let more = [cell, cell, cell, third];
+    // i stays a number: it is the link, and moves the record's word and the template's too
     for i in 0..4usize {
         let y = 3 * (4 * k + i);
         drafts::write_triple(
@@ -156,6 +150,7 @@ fn put_dart(table: &mut [u32], own: &[u32; 192], k: usize, cell: u32, third: u32
 {
     let more = [cell, cell, cell, third];
     let x = 4 * (cell as usize + k);
+    // i stays a number: it is the link, in the table, in the template and in `more`
     for i in 0..4usize {
         table[x + i] = own[4 * k + i] + more[i];
     }
@@ -177,8 +172,7 @@ fn write_cell(
         → (Placed t u (4 * (48 * (c + 1))) table.new) × (Pass t u j (48 * (c + 1)) (w + 576) journal.new) }
 {
     let cell = 48 * c as u32;
-    for k in 0..48usize {
-        let third = thirds[k];
+    for (k, &third) in thirds.iter().enumerate() {
         draft_dart(journal, w + 12 * k, words, k, cell, third);
         put_dart(table, own, k, cell, third);
     }

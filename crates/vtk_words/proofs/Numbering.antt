@@ -1,7 +1,7 @@
 -- The first word of a text as a number, byte by byte.
 use Prim.Native.Nat.{ℕ, suc, ◌+◌, ◌*◌, ◌-◌, ◌<◌, ◌≤◌}
 use mathlib.Core.Path.{◌≡◌, refl, ap, ◌∙◌}
-use mathlib.Core.Logic.{◌≢◌}
+use mathlib.Core.Logic.{◌≢◌, ◌⊎◌, inl, inr}
 use mathlib.Core.Bool.{true, false}
 use mathlib.Core.List.{List, [], ◌∷◌, ◌++◌}
 use mathlib.Core.Option.{none, some}
@@ -83,14 +83,11 @@ module _ (v : ℕ) (text : List ℕ) (k : ℕ) where
     on_digit l h =
         rw (add-one k, drop-cons text k 0 low, digits_on, digit_full _ l, is_digit, le-leb 48 _ l, le-leb _ 57 h)
 
-    pub on_low : is_blank (get_or text k 0) ≡ false → get_or text k 0 < 48 → digits_on v (drop k text) ≡ none
+    pub on_other : is_blank (get_or text k 0) ≡ false → (get_or text k 0 < 48) ⊎ (57 < get_or text k 0) → digits_on v (drop k text) ≡ none
     unfolding digits_on is_digit
-    on_low b h = rw (drop-cons text k 0 low, digits_on, b, is_digit, lt-leb 48 (get_or text k 0) h)
-
-    pub on_high : 57 < get_or text k 0 → digits_on v (drop k text) ≡ none
-    unfolding digits_on is_digit
-    on_high h =
-        rw (drop-cons text k 0 low, digits_on, digit_full (get_or text k 0) (omega arith), is_digit, le-leb 48 (get_or text k 0) (omega arith), lt-leb (get_or text k 0) 57 h)
+    on_other b (inl h) = rw (drop-cons text k 0 low, digits_on, b, is_digit, lt-leb 48 (get_or text k 0) h)
+    on_other b (inr h) =
+        rw (drop-cons text k 0 low, digits_on, b, is_digit, le-leb 48 (get_or text k 0) (omega arith), lt-leb (get_or text k 0) 57 h)
 
 -- ---- a zero
 

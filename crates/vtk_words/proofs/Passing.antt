@@ -1,5 +1,5 @@
 -- The words of a text, byte by byte.
-use Prim.Native.Nat.{ℕ, suc, ◌+◌, ◌-◌, ◌<◌, ◌≤◌}
+use Prim.Native.Nat.{ℕ, zero, suc, ◌+◌, ◌-◌, ◌<◌, ◌≤◌}
 use mathlib.Core.Path.{◌≡◌, refl, sym, ap, ◌∙◌}
 use mathlib.Core.Bool.{true, false}
 use mathlib.Core.List.{List, [], ◌∷◌, ◌++◌}
@@ -10,8 +10,8 @@ use lib.ListN.{length, get_or, take, drop, length-drop}
 use lib.Seq.{drop-cons, take-suc, get_or-drop, length-take-le}
 use Rattle.model.specs.Lists.{equal}
 use Rattle.model.specs.Vtk.{is_blank, ended, words_from, words, behind_words}
-use Rattle.theorems.proofs.Lists.Scan.{test}
-use Rattle.vtk_words.specs.Words.{WordStart, WordEnd, ends_between, WordEnds}
+use Rattle.theorems.proofs.Lists.Scan.{test, clash, if_lt, if_eq}
+use Rattle.vtk_words.specs.Words.{First, WordStart, WordEnd, ends_between, WordEnds}
 
 no_bytes : (xs : List ℕ) → length xs ≡ 0 → (w : List ℕ) → words_from w xs ≡ ended w (words xs)
 unfolding words words_from ended
@@ -51,6 +51,56 @@ module _ (text : List ℕ) (k : ℕ) where
         let at : start + (k - start) ≡ k = omega arith in
         let long : k - start < length (drop start text) = simp length-drop (omega arith) in
         rw (more, take-suc (drop start text) (k - start) 0 long, get_or-drop, at)
+
+-- ---- blanks and letters, from a place on
+
+blanks_passed : (n : ℕ) (text : List ℕ) (at : ℕ) → at + n ≤ length text
+    → ((k : ℕ) → at ≤ k → k < at + n → is_blank (get_or text k 0) ≡ true) → words (drop at text) ≡ words (drop (at + n) text)
+blanks_passed zero text at h blank = let here : at + 0 ≡ at = omega arith in rw here
+blanks_passed (suc n) text at h blank =
+    let next : at + suc n ≡ at + n + 1 = omega arith in
+    let rec = blanks_passed n text at (omega arith) (λ k l m. blank k l (omega arith)) in
+    let one = words_blank text (at + n) (omega arith) (blank (at + n) (omega arith) (omega arith)) in
+    rw next (rec ∙ one)
+
+letters_passed : (n : ℕ) (text : List ℕ) (at : ℕ) → at + n ≤ length text
+    → ((k : ℕ) → at ≤ k → k < at + n → is_blank (get_or text k 0) ≡ false)
+    → words_from [] (drop at text) ≡ words_from (take n (drop at text)) (drop (at + n) text)
+letters_passed zero text at h letter = let here : at + 0 ≡ at = omega arith in rw here
+letters_passed (suc n) text at h letter =
+    let next : at + suc n ≡ at + n + 1 = omega arith in
+    let more : at + n + 1 - at ≡ suc n = omega arith in
+    let less : at + n - at ≡ n = omega arith in
+    let rec = letters_passed n text at (omega arith) (λ k l m. letter k l (omega arith)) in
+    let one = from_letter text (at + n) (omega arith) (take n (drop at text)) (letter (at + n) (omega arith) (omega arith)) in
+    let part = rw (more, less) at (part_more text (at + n) (omega arith) at (omega arith)) in
+    rw next (rec ∙ one ∙ ap (λ (w : List ℕ). words_from w (drop (at + n + 1) text)) (sym part))
+
+-- where the first word begins
+pub start_first : (text : List ℕ) (at r : ℕ) → First false text at r → WordStart text at r
+start_first text at r f =
+    let low = f.low in
+    let high = f.high in
+    let all : at + (r - at) ≡ r = omega arith in
+    let same = blanks_passed (r - at) text at (omega arith) (λ k l m. f.passed k l (omega arith)) in
+    record { low = low; high = high; same = rw all at same; full = f.found }
+
+-- where it ends
+pub end_first : (text : List ℕ) (start r : ℕ) → First true text start r → WordEnd text start r
+unfolding words
+end_first text start r f =
+    let low = f.low in
+    let high = f.high in
+    let all : start + (r - start) ≡ r = omega arith in
+    let same = letters_passed (r - start) text start (omega arith) (λ k l m. f.passed k l (omega arith)) in
+    record {
+      low = low;
+      high = high;
+      is =
+          rw all at same
+          ∙ if_lt r (length text) (λ l. from_blank text r l _ (f.found l)) (λ l. from_end text r _ l);
+      some = λ l full. if_eq start r (λ e. absurd (clash (f.found (omega arith)) (rw e at full))) (λ e. omega arith);
+    }
 
 word_begun : (x : ℕ) (w bs : List ℕ) → 0 < length (words_from (x ∷ w) bs)
 unfolding words_from ended

@@ -1,44 +1,35 @@
--- What is known where a word was the one asked for, or a number, and where it was not.
+-- What is known where a word was a number, and where it was not.
 use Prim.Native.Nat.{ℕ, ◌≤◌, ◌<◌}
-use mathlib.Core.Path.{◌≡◌, refl, ap}
-use mathlib.Core.Logic.{◌≢◌}
+use mathlib.Core.Path.{◌≡◌, sym, ap, ◌∙◌}
 use mathlib.Core.List.{List}
-use mathlib.Core.Option.{Option, none, some}
-use lib.ListN.{length, drop}
-use Rattle.model.specs.Vtk.{words, Counted}
-use Rattle.vtk_words.specs.Words.{PlaceOf, NumberOf, number_at, large}
-use Rattle.vtk_words.specs.declared.Place.{Place}
-use Rattle.vtk_words.specs.declared.Place.TheVariants as place
-use Rattle.vtk_words.specs.declared.Number.{Number}
-use Rattle.vtk_words.specs.declared.Number.TheVariants as number
+use mathlib.Core.Option.{Option, some}
+use lib.ListN.{length}
+use Rattle.std.specs.Prelude.{Option as Option_of_std, Some, None, Result, Ok, Err}
+use Rattle.std.specs.Result.{result_ok}
+use Rattle.std.proofs.lemmas.Option.{none-some}
+use Rattle.model.specs.Vtk.{Counted}
+use Rattle.vtk_words.specs.Words.{NumberOf, number_at, large}
+use Rattle.vtk_words.specs.declared.Decimal.{Decimal}
+use Rattle.vtk_words.specs.declared.NoDecimal.{NoDecimal}
+use Rattle.vtk_words.specs.declared.NoDecimal.TheVariants.{Large, Unfit}
 use Rattle.vtk_words.proofs.Counting.{none_some}
 
-module _ (text : List ℕ) (o : Option (List (List ℕ))) where
-  pub place_at : {r : Place} {p : ℕ} → r ≡ place.At p → PlaceOf text o r → (p ≤ length text) × (o ≡ some (words (drop p text)))
-  place_at e h = rw e at h
-
-  pub place_unfit : (r : Place) → ((p : ℕ) → r ≢ place.At p) → PlaceOf text o r → o ≡ none
-  place_unfit (place.At p) h k = absurd (h p refl)
-  place_unfit place.Unfit h k = k
-
 module _ (text : List ℕ) (o : Option Counted) where
-  pub number_at_lem : {r : Number} {v p : ℕ} → r ≡ number.Value v p → NumberOf text o r
-      → (p ≤ length text) × (o ≡ some (number_at text v p)) × (v < large)
-  number_at_lem e h = rw e at h
+  -- a number that was asked for with at most 19 digits
+  pub number_told : (r : Result Decimal NoDecimal) {q : Option_of_std Decimal} {d : Decimal} → q ≡ result_ok r → q ≡ Some d → NumberOf text o r
+      → (d.end ≤ length text) × (o ≡ some (number_at text d.value d.end)) × (d.value < large)
+  number_told (Ok f) {d = d} e s h = let same : f ≡ d = cc in rw same at h
+  number_told (Err f) {d = d} e s h = absurd (none-some d (sym e ∙ s))
 
-  pub number_large : {r : Number} {p : ℕ} → r ≡ number.Large p → NumberOf text o r
-      → (p ≤ length text) × ((v : ℕ) × (o ≡ some (number_at text v p)) × (large ≤ v))
-  number_large e h = rw e at h
-
-  pub number_none : (r : Number) → r ≡ number.Unfit → NumberOf text o r → o ≡ none
-  number_none r e k = rw e at k
-
-  -- a number that is no value is none, or too large
-  pub number_unfit : (r : Number) → ((v p : ℕ) → r ≢ number.Value v p) → NumberOf text o r
-      → (c : Counted) → o ≡ some c → large ≤ c.value
-  number_unfit (number.Value v p) h k c e = absurd (h v p refl)
-  number_unfit (number.Large p) h k c e =
+  -- where there is none, the word is no number, or too large
+  pub number_refused : (f : NoDecimal) → NumberOf text o (Err f) → (c : Counted) → o ≡ some c → large ≤ c.value
+  number_refused (Large p) k c s =
       let (v, q, high) = k.1 in
       let same : v ≡ c.value = ap (λ (c : Counted). c.value) (let s : number_at text v p ≡ c = cc in s) in
       rw same at high
-  number_unfit number.Unfit h k c e = absurd (none_some k e)
+  number_refused Unfit k c s = absurd (none_some k s)
+
+  pub number_unfit : (r : Result Decimal NoDecimal) {q : Option_of_std Decimal} → q ≡ result_ok r → q ≡ None → NumberOf text o r
+      → (c : Counted) → o ≡ some c → large ≤ c.value
+  number_unfit (Ok d) e n k c s = absurd (none-some d (sym n ∙ e))
+  number_unfit (Err f) e n k c s = number_refused f k c s

@@ -1,12 +1,18 @@
 -- The words of a text from a place on: where the next one begins and ends, and what it is as a keyword and as a number.
-use Rattle.std.specs.Prelude.{ℕ, ◌+◌, ◌*◌, ◌-◌, ◌≤◌, ◌<◌, ◌≡◌, true, false, not, ◌&&◌, List, [], ◌∷◌, length, get_or, take, drop}
+use Rattle.std.specs.Prelude.{ℕ, ◌+◌, ◌*◌, ◌-◌, ◌≤◌, ◌<◌, ◌≡◌, Bool, true, false, not, ◌&&◌, List, [], ◌∷◌, length, get_or, take, drop, Option as Option_of_std, Some, None, Result, Ok, Err}
 use Rattle.std.proofs.Math.Option.{Option, none, some}
 use Rattle.model.specs.Text.{is_digit}
 use Rattle.model.specs.Vtk.{is_blank, ended, words, Counted}
-use Rattle.vtk_words.specs.declared.Place.{Place}
-use Rattle.vtk_words.specs.declared.Place.TheVariants as place
-use Rattle.vtk_words.specs.declared.Number.{Number}
-use Rattle.vtk_words.specs.declared.Number.TheVariants as number
+use Rattle.vtk_words.specs.declared.Decimal.{Decimal}
+use Rattle.vtk_words.specs.declared.NoDecimal.{NoDecimal}
+use Rattle.vtk_words.specs.declared.NoDecimal.TheVariants.{Large, Unfit}
+
+-- r is the first place from `at` on where a byte is blank, or is not, as b says; or the end
+pub record First (b : Bool) (text : List ℕ) (at r : ℕ) : Type 0 where
+  pub low : at ≤ r
+  pub high : r ≤ length text
+  pub passed : (k : ℕ) → at ≤ k → k < r → is_blank (get_or text k 0) ≡ not b
+  pub found : r < length text → is_blank (get_or text r 0) ≡ b
 
 -- r is where the first word from `at` on begins, or the end
 pub record WordStart (text : List ℕ) (at r : ℕ) : Type 0 where
@@ -37,9 +43,9 @@ pub record WordsAt (text : List ℕ) (ws : List (List ℕ)) (r : ℕ) : Type 0 w
   pub same : ws ≡ words (drop r text)
 
 -- what stands behind a keyword, as a place
-abbrev pub PlaceOf : List ℕ → Option (List (List ℕ)) → Place → Type 0
-PlaceOf text o (place.At r) = (r ≤ length text) × (o ≡ some (words (drop r text)))
-PlaceOf text o place.Unfit = o ≡ none
+abbrev pub PlaceOf : List ℕ → Option (List (List ℕ)) → Option_of_std ℕ → Type 0
+PlaceOf text o (Some r) = (r ≤ length text) × (o ≡ some (words (drop r text)))
+PlaceOf text o None = o ≡ none
 
 -- a number, and the place behind it
 abbrev pub number_at : List ℕ → ℕ → ℕ → Counted
@@ -50,10 +56,10 @@ abbrev pub large : ℕ
 large = 10000000000000000000
 
 -- what the first word is as a number
-abbrev pub NumberOf : List ℕ → Option Counted → Number → Type 0
-NumberOf text o (number.Value v r) = (r ≤ length text) × (o ≡ some (number_at text v r)) × (v < large)
-NumberOf text o (number.Large r) = (r ≤ length text) × ((v : ℕ) × (o ≡ some (number_at text v r)) × (large ≤ v))
-NumberOf text o number.Unfit = o ≡ none
+abbrev pub NumberOf : List ℕ → Option Counted → Result Decimal NoDecimal → Type 0
+NumberOf text o (Ok d) = (d.end ≤ length text) × (o ≡ some (number_at text d.value d.end)) × (d.value < large)
+NumberOf text o (Err (Large r)) = (r ≤ length text) × ((v : ℕ) × (o ≡ some (number_at text v r)) × (large ≤ v))
+NumberOf text o (Err Unfit) = o ≡ none
 
 -- the number whose digits are those of v and then those that the text begins with, up to a blank or the end, and the words behind it
 unfoldable pub digits_on : ℕ → List ℕ → Option Counted

@@ -2,9 +2,9 @@
 // and the place behind so many of them. Each is linear in the bytes that it passes, and a number may have any length.
 #![tactic(auto)]
 
-ghost use Rattle.std.specs.Prelude.{◌≡◌, [], ◌∷◌, ℕ, ◌+◌, ◌≤◌, ◌<◌, length, get_or, drop};
+ghost use Rattle.std.specs.Prelude.{◌≡◌, [], ◌∷◌, ℕ, ◌+◌, ◌≤◌, ◌<◌, length, get_or, drop, Err};
 ghost use Rattle.model.specs.Vtk.{is_blank, words, behind_words, counted};
-ghost use Rattle.vtk_words.specs.Words.{WordStart, WordEnd, ends_between, WordEnds, WordsAt, PlaceOf, NumberOf, digits_on, large};
+ghost use Rattle.vtk_words.specs.Words.{First, WordStart, WordEnd, ends_between, WordEnds, WordsAt, PlaceOf, NumberOf, digits_on, large};
 
 // "words between blanks, tabs or LF"
 fn is_blank(b: u8) -> bool
@@ -13,19 +13,27 @@ fn is_blank(b: u8) -> bool
     (b == b' ') | (b == b'\t') | (b == b'\n')
 }
 
+// The first place from `at` on where a byte is blank, or is not, as asked for; or the text's length.
+// blank stays a bool: as a const bool it would stand in the clause as a number behind a conversion.
+fn first(blank: bool, text: &[u8], at: usize) -> usize
+    requires { at ≤ length text.now }
+    ensures { First blank text.now at result }
+{
+    // not position, which counts from `at` on and gives None at the end
+    for k in at..text.len() {
+        if is_blank(text[k]) == blank {
+            return k;
+        }
+    }
+    text.len()
+}
+
 // Where the next word begins, or the text's length.
 pub fn word_start(text: &[u8], at: usize) -> usize
     requires { at ≤ length text.now }
     ensures { WordStart text.now at result }
 {
-    let mut k = at;
-    while k < text.len() {
-        if !is_blank(text[k]) {
-            return k;
-        }
-        k += 1;
-    }
-    k
+    first(false, text, at)
 }
 
 // Where the word that begins here ends.
@@ -33,14 +41,7 @@ fn word_end(text: &[u8], start: usize) -> usize
     requires { start ≤ length text.now }
     ensures { WordEnd text.now start result }
 {
-    let mut k = start;
-    while k < text.len() {
-        if is_blank(text[k]) {
-            return k;
-        }
-        k += 1;
-    }
-    k
+    first(true, text, start)
 }
 
 // ---- so many words passed
@@ -70,14 +71,12 @@ fn skip_few(text: &[u8], at: usize, n: u64) -> usize
     ensures { WordsAt text.now (drop n (words (drop at text.now))) result }
 {
     let mut p = at;
-    let mut k: u64 = 0;
-    while k < n {
+    for _ in 0..n {
         let start = word_start(text, p);
         if start == text.len() {
             return start;
         }
         p = word_end(text, start);
-        k += 1;
     }
     p
 }
@@ -100,110 +99,103 @@ pub fn skip_words(text: &[u8], at: usize, n: u64) -> usize
 }
 
 // The place behind the next word, if that is the one asked for.
-#[derive(Clone, Copy)]
-pub enum Place {
-    At(usize),
-    Unfit,
-}
-
-pub fn behind_word(text: &[u8], at: usize, key: &[u8]) -> Place
+pub fn behind_word(text: &[u8], at: usize, key: &[u8]) -> Option<usize>
     requires { at ≤ length text.now }
     ensures { PlaceOf text.now (behind_words (key.now ∷ []) (words (drop at text.now))) result }
 {
     let start = word_start(text, at);
     if start == text.len() {
-        return Place::Unfit;
+        return None;
     }
     let end = word_end(text, start);
-    if texts::same(key, &text[start..end]) {
-        return Place::At(end);
+    if key == &text[start..end] {
+        return Some(end);
     }
-    Place::Unfit
+    None
 }
 
 // ---- plain decimals
 
-// The next word as a plain decimal: its value, where it has at most 19 digits, and the place behind it.
+// A plain decimal of at most 19 digits, and the place behind it.
 #[derive(Clone, Copy)]
-pub enum Number {
-    Value(u64, usize),
+pub struct Decimal {
+    pub value: u64,
+    pub end: usize,
+}
+
+// Why a word is none: it has more digits, and ends here; or it is no plain decimal.
+#[derive(Clone, Copy)]
+pub enum NoDecimal {
     Large(usize),
     Unfit,
 }
 
 // Behind a zero, with which no longer number begins.
-fn zero_at(text: &[u8], start: usize) -> Number
+fn zero_at(text: &[u8], start: usize) -> Result<Decimal, NoDecimal>
     requires { (start < length text.now) × (get_or text.now start 0 ≡ 48) }
     ensures { NumberOf text.now (counted (words (drop start text.now))) result }
 {
     let end = start + 1;
     if end == text.len() {
-        return Number::Value(0, end);
+        return Ok(Decimal { value: 0, end });
     }
     if is_blank(text[end]) {
-        return Number::Value(0, end);
+        return Ok(Decimal { value: 0, end });
     }
-    Number::Unfit
+    Err(NoDecimal::Unfit)
 }
 
 // What is left of a number that is too large: its digits are still passed.
-fn large_at(text: &[u8], at: usize) -> Number
+fn large_at(text: &[u8], at: usize) -> NoDecimal
     requires { at ≤ length text.now }
-    ensures { (v : ℕ) → large ≤ v → NumberOf text.now (digits_on v (drop at text.now)) result }
+    ensures { (v : ℕ) → large ≤ v → NumberOf text.now (digits_on v (drop at text.now)) (Err result) }
 {
-    let mut k = at;
-    while k < text.len() {
+    for k in at..text.len() {
         let x = text[k];
         if is_blank(x) {
-            return Number::Large(k);
+            return NoDecimal::Large(k);
         }
-        if x < b'0' {
-            return Number::Unfit;
+        if !x.is_ascii_digit() {
+            return NoDecimal::Unfit;
         }
-        if x > b'9' {
-            return Number::Unfit;
-        }
-        k += 1;
     }
-    Number::Large(k)
+    NoDecimal::Large(text.len())
 }
 
 // A word that begins with no zero.
-fn digits_at(text: &[u8], start: usize) -> Number
+fn digits_at(text: &[u8], start: usize) -> Result<Decimal, NoDecimal>
     requires { start ≤ length text.now }
     ensures { NumberOf text.now (digits_on 0 (drop start text.now)) result }
 {
     let mut v: u64 = 0;
-    let mut k = start;
-    while k < text.len() {
+    for k in start..text.len() {
         let x = text[k];
-        if x < b'0' {
+        if !x.is_ascii_digit() {
             if is_blank(x) {
-                return Number::Value(v, k);
+                return Ok(Decimal { value: v, end: k });
             }
-            return Number::Unfit;
-        }
-        if x > b'9' {
-            return Number::Unfit;
+            return Err(NoDecimal::Unfit);
         }
         let nineteen_digits = v >= 1000000000000000000;
         if nineteen_digits {
-            return large_at(text, k + 1);
+            return Err(large_at(text, k + 1));
         }
         v = 10 * v + ((x - b'0') as u64);
-        k += 1;
     }
-    Number::Value(v, k)
+    Ok(Decimal {
+        value: v,
+        end: text.len(),
+    })
 }
 
 // "the counts, plain decimals": of any length, with no sign and no leading zero.
-pub fn number_at(text: &[u8], at: usize) -> Number
+pub fn number_at(text: &[u8], at: usize) -> Result<Decimal, NoDecimal>
     requires { at ≤ length text.now }
     ensures { NumberOf text.now (counted (words (drop at text.now))) result }
 {
     let start = word_start(text, at);
     if start == text.len() {
-        return Number::Unfit;
+        return Err(NoDecimal::Unfit);
     }
     if text[start] == b'0' {
         return zero_at(text, start);

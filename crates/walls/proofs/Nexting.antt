@@ -8,6 +8,7 @@ use mathlib.Core.List.{List}
 use native.Mathlib.Omega.{arith}
 use lib.ListN.{length, get_or, set}
 use lib.Seq.{get_or-set_same, get_or-set_other}
+use Rattle.model.specs.Lists.{ones}
 use Rattle.model.specs.Table.{slots, link, live}
 use Rattle.model.specs.Wall.{turns_on, turn_from, turn_end, next}
 use Rattle.model.specs.Meaning.Maps.{MapTable}
@@ -19,7 +20,7 @@ use Rattle.theorems.proofs.Maps.Tables.{map_table, live_below, rule_at}
 use Rattle.theorems.proofs.Insert.Turn.{wall_stops, free_stops, stops_at, turn_ends, free_of, met_of, next_free, next_met, next_on}
 use Rattle.theorems.proofs.Insert.Wall.{drawn_by}
 use Rattle.reach.proofs.Meeting.{linked, entry_in}
-use Rattle.walls.specs.Given.{Closed, Listed, Nexts}
+use Rattle.walls.specs.Given.{Closed, Nexts}
 use Rattle.walls.proofs.Passing.{listed_at}
 
 pub drawn_of : {n : ℕ} {t m : List ℕ} → Closed n t m → Drawn n t m
@@ -124,12 +125,12 @@ found_more {n} {t} {m} {hs} {nx} {k} F h z at room is = record {
       (λ q. absurd (e (ap (λ (l : ℕ). get_or hs l 0) q ∙ sym at))) (λ q. omega arith)));
 }
 
-pub found_all : {n : ℕ} {t m hs nx : List ℕ} {k size : ℕ} → Closed n t m → Listed m size hs → Found n t m hs nx k → size ≤ k
+pub found_all : {n : ℕ} {t m hs nx : List ℕ} {k : ℕ} → Closed n t m → hs ≡ ones m → Found n t m hs nx k → length hs ≤ k
     → slots t ≤ length nx → Nexts n t m nx
 found_all {n} {t} {m} {hs} {nx} C L F end room = record {
   closed = C;
   room = room;
-  next = λ h i. let (j, low, at) = listed_at L h i in subst (λ (x : ℕ). get_or nx x 0 ≡ next n t m x) at (F.each j (omega arith));
+  next = λ h i. let (j, low, at) = listed_at m hs L h i in subst (λ (x : ℕ). get_or nx x 0 ≡ next n t m x) at (F.each j (omega arith));
 }
 
 -- next of a dart is a slot

@@ -1,16 +1,11 @@
--- The tests of a wall in their order: what `test` gives where one fails (`refuses`), and where none does (`accepts`).
-use Prim.Native.Nat.{ℕ, ◌<◌}
+-- The tests of a wall in their order: what they find where one fails, and where none does (`accepted`).
+use Prim.Native.Nat.{ℕ}
 use mathlib.Core.Path.{◌≡◌}
 use mathlib.Core.Bool.{true, false}
 use mathlib.Core.List.{List}
-use native.Mathlib.Omega.{arith}
-use lib.ListN.{length, get_or}
-use borrow.Author.Tests.{ne_eqb}
 use Rattle.model.specs.Lists.{ones, all_of}
-use Rattle.model.specs.Wall.{next, drawn, enclosed, sewn_wall, turns_well, connected}
+use Rattle.model.specs.Wall.{drawn, enclosed, sewn_wall, turns_well, connected}
 use Rattle.model.specs.Checks.{pass, refuse, must, and_then, in_order, wall_checks, drawn_ok, enclosed_ok, sewn_wall_ok, turns_ok, connected_ok}
-use Rattle.model.specs.Meaning.Sets.{Marked}
-use Rattle.walls.specs.Tests.{verdict, Tests}
 
 module _ (n : ℕ) (t m : List ℕ) where
   pub refused_28 : drawn t m ≡ false → in_order (wall_checks n t m) ≡ refuse 28 0 0
@@ -40,15 +35,3 @@ module _ (n : ℕ) (t m : List ℕ) where
           pub accepted : connected n t m ≡ true → in_order (wall_checks n t m) ≡ pass
           unfolding wall_checks drawn_ok enclosed_ok sewn_wall_ok turns_ok connected_ok must and_then in_order
           accepted e = rw (d, c, s, w, e)
-
-module _ {n : ℕ} {t m nx : List ℕ} where
-  pub refuses : (k darts : ℕ) → 0 < k → in_order (wall_checks n t m) ≡ refuse k 0 0 → Tests n t m nx k darts
-  refuses k darts some e = record {
-    checks = rw (ne_eqb k 0 (λ q. omega arith), verdict) e;
-    size = λ q. absurd (omega arith);
-    next = λ q. absurd (omega arith);
-  }
-
-  pub accepts : (darts : ℕ) → in_order (wall_checks n t m) ≡ pass → darts ≡ length (ones m)
-      → ((h : ℕ) → Marked m h → get_or nx h 0 ≡ next n t m h) → Tests n t m nx 0 darts
-  accepts darts e size found = record { checks = e; size = λ _. size; next = λ _. found }

@@ -1,5 +1,5 @@
 -- What the functions ask of the table, of the wall's marks and of the lent buffers: `Lent` of `test`, the others of those below it.
-use Rattle.std.specs.Prelude.{ℕ, ◌≤◌, ◌<◌, ◌≡◌, true, List, length, get_or, take, replicate}
+use Rattle.std.specs.Prelude.{ℕ, ◌≤◌, ◌<◌, ◌≡◌, true, List, length, get_or, replicate}
 use Rattle.model.specs.Lists.{ones}
 use Rattle.model.specs.Table.{slots}
 use Rattle.model.specs.Wall.{next, drawn, enclosed}
@@ -26,11 +26,6 @@ pub record Closed (n : ℕ) (t m : List ℕ) : Type 0 where
   pub drawing : Drawing n t m
   pub enclosed : enclosed n t m ≡ true
 
--- the first `size` words are the wall's darts, rising
-pub record Listed (m : List ℕ) (size : ℕ) (hs : List ℕ) : Type 0 where
-  pub number : size ≡ length (ones m)
-  pub front : take size hs ≡ ones m
-
 -- nx has next(h) for each dart h of the wall
 pub record Nexts (n : ℕ) (t m nx : List ℕ) : Type 0 where
   pub closed : Closed n t m
@@ -43,11 +38,11 @@ pub record SomeNext (n : ℕ) (t nx : List ℕ) (h : ℕ) : Type 0 where
   pub nexts : Nexts n t m nx
   pub dart : Marked m h
 
--- the same for some wall, whose darts are listed
-pub record SomeNexts (n : ℕ) (t nx : List ℕ) (size : ℕ) (hs : List ℕ) : Type 0 where
+-- the same for some wall, whose darts are hs
+pub record SomeNexts (n : ℕ) (t nx hs : List ℕ) : Type 0 where
   pub m : List ℕ
   pub nexts : Nexts n t m nx
-  pub listed : Listed m size hs
+  pub listed : hs ≡ ones m
 
 -- for a flood over the wall: no slot is seen yet, and the queue begins with the wall's first dart
 pub record ToFlood (n : ℕ) (t m nx seen queue : List ℕ) : Type 0 where

@@ -1,27 +1,20 @@
 // The wall of insert: the tests 28 to 32, and next for each of its darts.
 #![tactic(auto)]
 
-ghost use Rattle.std.specs.Prelude.{◌≡◌, true, not, ◌&&◌, ◌||◌, List, ℕ, ◌+◌, ◌≤◌, ◌<◌, length, get_or, take, eqb};
+ghost use Rattle.std.specs.Prelude.{◌≡◌, true, not, ◌&&◌, ◌||◌, List, ℕ, ◌+◌, ◌≤◌, ◌<◌, length, get_or, take, eqb, IfOk, IfErr};
 ghost use Rattle.model.specs.Lists.{count, ones, all_of};
 ghost use Rattle.model.specs.Table.{slots, link, live};
 ghost use Rattle.model.specs.Reach.{in_set};
 ghost use Rattle.model.specs.Wall.{next, drawn, closed_at, enclosed, turns_well, wall_reached};
 ghost use Rattle.model.specs.Meaning.Sets.{Marked};
-ghost use Rattle.reach.specs.Search.{search_of, meet, follow_below};
-ghost use Rattle.reach.specs.Given.{Meeting};
-ghost use Rattle.walls.specs.Given.{Lent, Drawing, Closed, Listed, Nexts, SomeNext, SomeNexts, ToFlood, SomeFlood};
+ghost use Rattle.reach.specs.Search.{search_of, follow_below};
+ghost use Rattle.walls.specs.Given.{Lent, Drawing, Closed, Nexts, SomeNext, SomeNexts, ToFlood, SomeFlood};
 ghost use Rattle.walls.specs.Steps.{step, Stepping, Expanding};
-ghost use Rattle.walls.specs.Tests.{Tests};
+ghost use Rattle.walls.specs.Tests.{Passes, Refuses};
 
 use reading::{is_free, link_in, live};
+use refusals::Reason;
 use scans::{skip_blocks, skip_clear};
-
-// What the tests of a wall find: the number that refuses it, or 0 and how many darts it has.
-#[derive(Clone, Copy)]
-pub struct Tested {
-    pub number: u32,
-    pub size: u32,
-}
 
 // The k-th word.
 fn word(words: &[u16], k: u32) -> u32
@@ -81,35 +74,25 @@ fn closed_at(n: u32, table: &[u32], marks: &[u8], h: u32) -> bool
     }
 }
 
-// Whether 29 passes, for the `size` darts hs of the wall.
-fn enclosed(n: u32, table: &[u32], marks: &[u8], hs: &[u16], size: u32) -> bool
-    requires { (Drawing n table.now marks.now) × (Listed marks.now size hs.now) }
+// Whether 29 passes, for the darts hs of the wall.
+fn enclosed(n: u32, table: &[u32], marks: &[u8], hs: &[u16]) -> bool
+    requires { (Drawing n table.now marks.now) × (hs.now ≡ ones marks.now) }
     ensures { result ≡ enclosed n table.now marks.now }
 {
-    if size == 0 {
+    if hs.is_empty() {
         return false;
     }
-    for k in 0..size {
-        if !closed_at(n, table, marks, word(hs, k)) {
-            return false;
-        }
-    }
-    true
+    hs.iter().all(|&h| closed_at(n, table, marks, h as u32))
 }
 
 // ---- 30
 
-// Whether none of the `size` darts hs is n-free.
-fn sewn(n: u32, table: &[u32], hs: &[u16], size: u32) -> bool
-    requires { (n < 4) × (size ≤ length hs.now) }
-    ensures { result ≡ all_of (λ h. not (eqb (link table.now n h) h)) (take size hs.now) }
+// Whether none of the darts hs is n-free.
+fn sewn(n: u32, table: &[u32], hs: &[u16]) -> bool
+    requires { n < 4 }
+    ensures { result ≡ all_of (λ h. not (eqb (link table.now n h) h)) hs.now }
 {
-    for k in 0..size {
-        if is_free(table, n, word(hs, k)) {
-            return false;
-        }
-    }
-    true
+    hs.iter().all(|&h| !is_free(table, n, h as u32))
 }
 
 // ---- next
@@ -134,15 +117,14 @@ fn next_of(n: u32, table: &[u32], marks: &[u8], h: u32) -> u32
     }
 }
 
-// next of each of the `size` darts hs of the wall.
-fn find_next(n: u32, table: &[u32], marks: &[u8], hs: &[u16], size: u32, next: &mut [u16])
-    requires closed { (Closed n table.now marks.now) × (Listed marks.now size hs.now) }
+// next of each of the darts hs of the wall.
+fn find_next(n: u32, table: &[u32], marks: &[u8], hs: &[u16], next: &mut [u16])
+    requires closed { (Closed n table.now marks.now) × (hs.now ≡ ones marks.now) }
     requires table_in_bounds { slots table.now ≤ length next.old }
     ensures { Nexts n table.now marks.now next.new }
 {
-    for k in 0..size {
-        let h = word(hs, k);
-        next[h as usize] = next_of(n, table, marks, h) as u16;
+    for &h in hs {
+        next[h as usize] = next_of(n, table, marks, h as u32) as u16;
     }
 }
 
@@ -170,36 +152,16 @@ fn turns_well(n: u32, table: &[u32], next: &[u16], h: u32) -> bool
     }
 }
 
-// Whether 31 passes, for the `size` darts hs of the wall.
-fn turns(n: u32, table: &[u32], next: &[u16], hs: &[u16], size: u32) -> bool
-    requires { SomeNexts n table.now next.now size hs.now }
-    ensures { (m : List ℕ) → Nexts n table.now m next.now → Listed m size hs.now
+// Whether 31 passes, for the darts hs of the wall.
+fn turns(n: u32, table: &[u32], next: &[u16], hs: &[u16]) -> bool
+    requires { SomeNexts n table.now next.now hs.now }
+    ensures { (m : List ℕ) → Nexts n table.now m next.now → hs.now ≡ ones m
         → result ≡ all_of (turns_well n table.now m) (ones m) }
 {
-    for k in 0..size {
-        if !turns_well(n, table, next, word(hs, k)) {
-            return false;
-        }
-    }
-    true
+    hs.iter().all(|&h| turns_well(n, table, next, h as u32))
 }
 
 // ---- 32
-
-// The dart y, if it is not seen yet, is seen and goes behind the queue's words.
-fn meet(seen: &mut [u16], queue: &mut [u16], tail: usize, y: u32) -> usize
-    requires { Meeting seen.old queue.old tail y }
-    ensures { search_of seen.new queue.new result
-        ≡ meet y (search_of seen.old queue.old tail) }
-{
-    if seen[y as usize] == 0 {
-        seen[y as usize] = 1;
-        queue[tail] = y as u16;
-        tail + 1
-    } else {
-        tail
-    }
-}
 
 // Step i of x: link i, and next where i is n-1.
 fn step(n: u32, table: &[u32], next: &[u16], i: u32, x: u32) -> u32
@@ -230,16 +192,15 @@ fn expand(
         (search_of seen.old queue.old from) }
 {
     let mut tail = from;
-    let mut i = 0;
-    while i <= n {
+    for i in 0..n + 1 {
         let y = step(n, table, next, i, x);
-        tail = meet(seen, queue, tail, y);
-        i += 1;
+        tail = reach::meet(seen, queue, tail, y);
     }
     tail
 }
 
 // How many darts are reached from the queue's first dart. Each dart found goes into the queue and is expanded once.
+// (Beside reach's orbit: a closure for the step of both would have to be asked, in each clause, for what Stepping says here once.)
 fn reached(n: u32, table: &[u32], next: &[u16], seen: &mut [u16], queue: &mut [u16]) -> u32
     requires { SomeFlood n table.now next.now seen.old queue.old }
     ensures { (m : List ℕ) → ToFlood n table.now m next.now seen.old queue.old
@@ -259,13 +220,8 @@ fn reached(n: u32, table: &[u32], next: &[u16], seen: &mut [u16], queue: &mut [u
 
 // ---- all of them
 
-fn refused(number: u32) -> Tested
-    ensures { result.number ≡ number }
-{
-    Tested { number, size: 0 }
-}
-
-// The tests of a wall in their order, and next of each of its darts. The queue has the wall's darts, rising, until the flood takes it.
+// The tests of a wall in their order, and next of each of its darts: how many darts it has, or the reason that refuses it. The queue has
+// the wall's darts, rising, until the flood takes it.
 pub fn test(
     n: u32,
     table: &[u32],
@@ -273,28 +229,30 @@ pub fn test(
     queue: &mut [u16],
     next: &mut [u16],
     seen: &mut [u16],
-) -> Tested
+) -> Result<u32, Reason>
     requires { Lent n table.now marks.now queue.old next.old seen.old }
-    ensures { Tests n table.now marks.now next.new result.number result.size }
+    ensures passes { IfOk result (Passes n table.now marks.now next.new) }
+    ensures refuses { IfErr result (Refuses n table.now marks.now) }
 {
     if !drawn(table, marks) {
-        return refused(28);
+        return Err(Reason::NotDrawn);
     }
     let size = scans::list_ones(marks, queue);
-    if !enclosed(n, table, marks, queue, size) {
-        return refused(29);
+    let hs = &queue[..size as usize];
+    if !enclosed(n, table, marks, hs) {
+        return Err(Reason::NotEnclosed);
     }
-    if !sewn(n, table, queue, size) {
-        return refused(30);
+    if !sewn(n, table, hs) {
+        return Err(Reason::NotSewn);
     }
-    find_next(n, table, marks, queue, size, next);
-    if !turns(n, table, next, queue, size) {
-        return refused(31);
+    find_next(n, table, marks, hs, next);
+    if !turns(n, table, next, hs) {
+        return Err(Reason::WrongTurns);
     }
     let end = marks.len();
     let found = reached(n, table, next, &mut seen[..end], queue);
     if found != size {
-        return refused(32);
+        return Err(Reason::NotConnected);
     }
-    Tested { number: 0, size }
+    Ok(size)
 }

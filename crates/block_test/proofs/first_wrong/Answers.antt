@@ -7,15 +7,15 @@ use Rattle.block_test.proofs.Scan.{checked, scan_first, scan_next, scan_found, s
 use Rattle.block_test.proofs.first_wrong.Goals as goal
 use Rattle.block_test.proofs.first_wrong.Goals.{At-loop-d}
 
-pub slots-end-requires : goal.slots-end-requires
-slots-end-requires c = table_short _ c.requires.n_value.1
+pub slots-d-end-requires : goal.slots-d-end-requires
+slots-d-end-requires c = table_short _ c.requires.n_value.1
 
 pub loop-d-init : goal.loop-d-init
 loop-d-init c =
     (omega arith, refl, scan_first _ _ _ c.requires.table_in_bounds.0 c.requires.table_in_bounds.1)
 
-end_is : (c : At-loop-d) → c.slots-end.result ≡ slots c.args.table.now
-end_is c = c.slots-end.ensures
+end_is : (c : At-loop-d) → c.slots-d-end.result ≡ slots c.args.table.now
+end_is c = c.slots-d-end.ensures
 
 map : (c : At-loop-d) → MapTable c.args.n c.args.table.now
 map c = checked c.args.n c.args.table.now c.requires.n_value.0 c.requires.n_value.1 c.requires.n_value.2

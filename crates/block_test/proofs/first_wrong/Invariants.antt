@@ -6,7 +6,7 @@ use Rattle.block_test.proofs.Scan.{Scanned}
 use Rattle.block_test.proofs.first_wrong.Given as goal
 
 abbrev pub invariant-loop-d : goal.invariant-loop-d
-invariant-loop-d l = (l.d ≤ l.end) × (length l.seen ≡ length l.initial.seen) × Scanned l.n l.table l.seen l.d
+invariant-loop-d l = (l.d ≤ l.d-end) × (length l.seen ≡ length l.initial.seen) × Scanned l.n l.table l.seen l.d
 
 abbrev pub decreases-loop-d : goal.decreases-loop-d
-decreases-loop-d l = l.end - l.d
+decreases-loop-d l = l.d-end - l.d

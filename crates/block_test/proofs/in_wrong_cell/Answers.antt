@@ -1,8 +1,9 @@
 -- `block_test::in_wrong_cell` meets its contract.
-use mathlib.Core.Path.{◌≡◌, sym, ◌∙◌}
+use mathlib.Core.Path.{◌≡◌, refl, sym, ◌∙◌}
 use mathlib.Core.Bool.{true}
 use native.Mathlib.Omega.{arith}
 use Rattle.model.specs.Table.{live}
+use Rattle.model.specs.Cell.{cell_size}
 use Rattle.theorems.proofs.Maps.Rules.{live_by}
 use Rattle.block_test.proofs.Seen.{unused_right, visit_ready, visit_answers}
 use Rattle.block_test.proofs.in_wrong_cell.Goals as goal
@@ -27,20 +28,24 @@ solid c =
     let not_flat = c.if-n-eq2.false in
     omega arith
 
-pub visit_2d-requires : goal.visit_2d-requires
-visit_2d-requires c =
-    visit_ready _ _ c.if-n-eq2.true (lives (goal.at.visit_2d-requires c).Else-link_in) c.requires.0 c.requires.1
+pub visit-requires : goal.visit-requires
+unfolding cell_size
+visit-requires c =
+    let ready = visit_ready _ _ c.if-n-eq2.true (lives (goal.at.visit-requires c).Else-link_in) c.requires.0 c.requires.1 in
+    (ready.0, ready.1, refl)
 
 pub returns-then-n-eq2 : goal.returns-then-n-eq2
 returns-then-n-eq2 c =
-    let clauses = visit_answers _ _ c.if-n-eq2.true (lives (goal.at.returns-then-n-eq2 c).Else-link_in) _ (c.visit_2d.ensures.value, c.visit_2d.ensures.seen_good) in
+    let clauses = visit_answers _ _ c.if-n-eq2.true (lives (goal.at.returns-then-n-eq2 c).Else-link_in) _ (c.visit.ensures.value, c.visit.ensures.seen_good) in
     record { value = clauses.0; seen_good = clauses.1 }
 
-pub visit_3d-requires : goal.visit_3d-requires
-visit_3d-requires c =
-    visit_ready _ _ (solid (goal.at.visit_3d-requires c).Else-n-eq2) (lives (goal.at.visit_3d-requires c).Else-link_in) c.requires.0 c.requires.1
+pub visit-requires-2 : goal.visit-requires-2
+unfolding cell_size
+visit-requires-2 c =
+    let ready = visit_ready _ _ (solid (goal.at.visit-requires-2 c).Else-n-eq2) (lives (goal.at.visit-requires-2 c).Else-link_in) c.requires.0 c.requires.1 in
+    (ready.0, ready.1, refl)
 
 pub returns : goal.returns
 returns c =
-    let clauses = visit_answers _ _ (solid (goal.at.returns c).Else-n-eq2) (lives (goal.at.returns c).Else-link_in) _ (c.visit_3d.ensures.value, c.visit_3d.ensures.seen_good) in
+    let clauses = visit_answers _ _ (solid (goal.at.returns c).Else-n-eq2) (lives (goal.at.returns c).Else-link_in) _ (c.visit-2.ensures.value, c.visit-2.ensures.seen_good) in
     record { value = clauses.0; seen_good = clauses.1 }

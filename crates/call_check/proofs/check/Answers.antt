@@ -3,27 +3,28 @@ use mathlib.Core.Path.{sym, ◌∙◌}
 use mathlib.Core.List.{List}
 use Rattle.model.specs.Checks.{Check, check_checks, map_checks}
 use Rattle.answers.proofs.Ladder.{Rung, all_passed}
-use Rattle.answers.proofs.Settled.{Opening, opened, handed_on}
+use Rattle.answers.proofs.Settled.{Opening, opened, handed, handed_on}
 use Rattle.answers.proofs.Opened.{opened_table}
 use Rattle.answers.proofs.Given.{rules_given, map_given}
 use Rattle.call_check.proofs.Ends.{check_refused, check_accepted}
 use Rattle.call_check.proofs.check.Goals as goal
-use Rattle.call_check.proofs.check.Goals.{After-struct_known-1, Else-opened-ne0, Start}
+use Rattle.call_check.proofs.check.Goals.{After-opening, In_ok-opening, Start}
 
 abbrev checks : Start → List Check
 checks p = check_checks p.args.n p.args.table.now
 
-abbrev opening : After-struct_known-1 → Opening checks 6
+abbrev opening : After-opening → Opening checks 6
 unfolding check_checks map_checks
-opening c = record { entry = (goal.at.After-struct_known-1 c).Start; answer = _; settles = opened_table _ _ c.opening-opened.ensures }
+opening c = record { entry = (goal.at.After-opening c).Start; result = _; settles = opened_table _ _ c.opening.ensures }
 
-abbrev map : Else-opened-ne0 → Rung checks 6
+abbrev map : In_ok-opening → Rung checks 6
 unfolding check_checks map_checks
-map c = opened (opening (goal.at.Else-opened-ne0 c).After-struct_known-1) c.if-opened-ne0.false
+map c = opened (opening (goal.at.In_ok-opening c).After-opening) c.in_ok-opening.was
 
-pub returns-then-opened-ne0 : goal.returns-then-opened-ne0
+pub returns-in_err-opening : goal.returns-in_err-opening
 unfolding check_checks map_checks
-returns-then-opened-ne0 c = handed_on (opening (goal.at.returns-then-opened-ne0 c).After-struct_known-1) c.if-opened-ne0.true (check_refused _ _)
+returns-in_err-opening c =
+    handed_on (opening (goal.at.returns-in_err-opening c).After-opening) c.in_err-opening.was (handed c.from_residual.ensures.1) (check_refused _ _ _)
 
 pub is_block-requires : goal.is_block-requires
 unfolding check_checks map_checks
@@ -34,11 +35,11 @@ is_block-requires c =
 pub returns-then-is_block : goal.returns-then-is_block
 unfolding check_checks map_checks
 returns-then-is_block c =
-    let p = (map (goal.at.returns-then-is_block c).Else-opened-ne0).passed in
+    let p = (map (goal.at.returns-then-is_block c).In_ok-opening).passed in
     check_accepted _ _ (all_passed _ p) (sym c.if-is_block.true ∙ c.is_block.ensures)
 
-pub returns : goal.returns
+pub returns-else-is_block : goal.returns-else-is_block
 unfolding check_checks map_checks
-returns c =
-    let p = (map (goal.at.returns c).Else-opened-ne0).passed in
+returns-else-is_block c =
+    let p = (map (goal.at.returns-else-is_block c).In_ok-opening).passed in
     check_accepted _ _ (all_passed _ p) (sym c.if-is_block.false ∙ c.is_block.ensures)

@@ -5,7 +5,6 @@ use mathlib.Core.List.{List, [], ◌∷◌}
 use Rattle.model.specs.Checks.{Check, must, dim_ok, table_ok, marks_ok}
 use Rattle.answers.proofs.Ladder.{Rung, ground, up, out}
 use Rattle.answers.proofs.Verdicts.{passes, refuses}
-use Rattle.answers.proofs.Settled.{settles_refusal}
 use Rattle.call_pick.proofs.wrong_queue.Goals as goal
 use Rattle.call_pick.proofs.wrong_queue.Goals.{Else-not-dim_fits, Else-not-marks_fit, Else-not-table_fits, Start}
 
@@ -23,14 +22,14 @@ marks c = up (table (goal.at.Else-not-marks_fit c).Else-not-table_fits) (passes 
 
 pub returns-then-not-dim_fits : goal.returns-then-not-dim_fits
 returns-then-not-dim_fits c =
-    settles_refusal 0 (out (ground {checks = checks} (goal.at.returns-then-not-dim_fits c).Start) (refuses _ 1 c.dim_fits.ensures (ap not c.if-not-dim_fits.true)))
+    out (ground {checks = checks} (goal.at.returns-then-not-dim_fits c).Start) (refuses _ 1 c.dim_fits.ensures (ap not c.if-not-dim_fits.true))
 
 pub returns-then-not-table_fits : goal.returns-then-not-table_fits
-returns-then-not-table_fits c = settles_refusal 1 (out (dim (goal.at.returns-then-not-table_fits c).Else-not-dim_fits) (refuses _ 2 c.table_fits.ensures (ap not c.if-not-table_fits.true)))
+returns-then-not-table_fits c = out (dim (goal.at.returns-then-not-table_fits c).Else-not-dim_fits) (refuses _ 2 c.table_fits.ensures (ap not c.if-not-table_fits.true))
 
 pub returns-then-not-marks_fit : goal.returns-then-not-marks_fit
-returns-then-not-marks_fit c = settles_refusal 2 (out (table (goal.at.returns-then-not-marks_fit c).Else-not-table_fits) (refuses _ 3 c.marks_fit.ensures (ap not c.if-not-marks_fit.true)))
+returns-then-not-marks_fit c = out (table (goal.at.returns-then-not-marks_fit c).Else-not-table_fits) (refuses _ 3 c.marks_fit.ensures (ap not c.if-not-marks_fit.true))
 
 pub returns : goal.returns
 unfolding must
-returns c = settles_refusal 36 (out (marks c) refl)
+returns c = out (marks c) refl

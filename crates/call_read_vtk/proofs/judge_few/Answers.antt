@@ -20,4 +20,4 @@ judge_held-requires c =
 pub returns : goal.returns
 returns c rs C =
     let once = once_passes rs (c.repeated.ensures rs C.held C.number) c.if-repeated.false in
-    judged_held C once (c.judge_held.ensures rs (cells_in C once))
+    judged_held C once _ (c.judge_held.ensures rs (cells_in C once))

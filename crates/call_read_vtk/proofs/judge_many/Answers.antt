@@ -25,4 +25,4 @@ judge-requires c =
 pub returns : goal.returns
 returns c rs C =
     let once = once_passes rs (c.any_repeated.ensures rs C) c.if-any_repeated.false in
-    judged_verdict rs once (c.judge.ensures rs (judgeable C once))
+    judged_verdict rs once _ (c.judge.ensures rs (judgeable C once))

@@ -16,7 +16,7 @@ use Rattle.call_read_vtk.proofs.place_cells.Goals as goal
 use Rattle.call_read_vtk.proofs.place_cells.Goals.{After-write_cells, Else-not-record_fits}
 
 pub returns-then-table-cells : goal.returns-then-table-cells
-returns-then-table-cells c text C = read_few C.pass _ c.if-table-cells.true
+returns-then-table-cells c text C = read_few C.pass _ c.into.ensures c.if-table-cells.true
 
 pub record_fits-requires : goal.record_fits-requires
 record_fits-requires c =
@@ -30,7 +30,7 @@ pub returns-then-not-record_fits : goal.returns-then-not-record_fits
 unfolding darts
 returns-then-not-record_fits c text C =
     let room = c.if-table-cells.false in
-    commit_full _ _ _ _ _ _ _ (read_goes C.pass room _) (read_number C.pass room) c.record_fits.ensures (c.if-not-record_fits.true)
+    commit_full _ _ _ _ _ _ _ (read_goes C.pass room _) (read_number C.pass room) c.record_fits.ensures (c.if-not-record_fits.true) c.into-then-not-record_fits.ensures
 
 fits : (c : Else-not-record_fits) → (text : List ℕ) (C : let a = c.args in
     Checked a.table.now a.journal.now text a.mates.now a.cells)

@@ -1,5 +1,5 @@
 use Prim.Native.Nat.{◌+◌, ◌<◌}
-use mathlib.Core.Path.{◌≡◌, refl}
+use mathlib.Core.Path.{◌≡◌}
 use native.Mathlib.Omega.{arith}
 use lib.ListN.{length}
 use lib.Seq.{take_all}
@@ -10,32 +10,32 @@ use Rattle.call_remove.proofs.count_layer.Goals as goal
 use Rattle.call_remove.proofs.count_layer.Goals.{then-mark, else-mark, then-mark-eq3, else-mark-eq3}
 use Rattle.call_remove.proofs.count_layer.Goals.{Joined-mark}
 
-pub loop-x-init : goal.loop-x-init
-loop-x-init c = (counted_none _, omega arith, refl)
+pub loop-mark-init : goal.loop-mark-init
+loop-mark-init c = counted_none _
 
 pub overflow_add-edge : goal.overflow_add-edge
 overflow_add-edge c =
-    let few = c.loop-x.invariant.0.few in
+    let few = c.loop-mark.invariant.few in
     let short = c.requires.0 in
     omega arith
 
 pub overflow_add-darts : goal.overflow_add-darts
 overflow_add-darts c =
-    let few = c.loop-x.invariant.0.few in
+    let few = c.loop-mark.invariant.few in
     let short = c.requires.0 in
     omega arith
 
 -- the mark at x is counted
 more : (c : Joined-mark) →
-    Counted c.args.marks.now (c.loop-x.x + 1) c.if-mark.darts c.if-mark-eq3.edge
+    Counted c.args.marks.now (c.loop-mark.mark-index + 1) c.if-mark.darts c.if-mark-eq3.edge
 more c =
     let marks = c.args.marks.now in
-    let low : c.loop-x.x < length marks = let end = c.loop-x.invariant.2 in let h = c.loop-x-test.true in omega arith in
-    let C = c.loop-x.invariant.0 in
-    let most = c.requires.1 c.loop-x.x low in
+    let low : c.loop-mark.mark-index < length marks = c.loop-mark-test.true in
+    let C = c.loop-mark.invariant in
+    let most = c.requires.1 c.loop-mark.mark-index low in
     elim c.if-mark-eq3.branch [
       | then-mark-eq3 w ↦
-          let at_darts : c.if-mark.darts ≡ c.loop-x.darts = elim c.if-mark.branch [
+          let at_darts : c.if-mark.darts ≡ c.loop-mark.darts = elim c.if-mark.branch [
             | then-mark v ↦ absurd (clash v.if-mark.true (told_three _ w.if-mark-eq3.true))
             | else-mark v ↦ v.darts-is
           ] in
@@ -49,15 +49,12 @@ more c =
       ]
     ]
 
-pub loop-x-preserved : goal.loop-x-preserved
-loop-x-preserved c =
-    let end = c.loop-x.invariant.2 in
-    let low = c.loop-x-test.true in
-    (more c, omega arith, refl)
+pub loop-mark-preserved : goal.loop-mark-preserved
+loop-mark-preserved c = more c
 
 pub returns : goal.returns
 returns c =
-    let C = c.loop-x.invariant.0 in
-    let all = take_all c.loop-x.x c.args.marks.now (omega arith) in
+    let C = c.loop-mark.invariant in
+    let all = take_all c.loop-mark.mark-index c.args.marks.now (omega arith) in
     let few = C.few in
     (rw all at C.inner, rw all at C.three, omega arith)

@@ -73,7 +73,7 @@ record_fits-requires c =
 pub returns-then-not-record_fits : goal.returns-then-not-record_fits
 returns-then-not-record_fits c =
     commit_full _ _ _ _ _ _ _ (remove_goes (sheeted (goal.at.returns-then-not-record_fits c).After-sheet) _) (number (goal.at.returns-then-not-record_fits c).After-count_layer-counts) c.record_fits.ensures
-    (c.if-not-record_fits.true)
+    (c.if-not-record_fits.true) c.into.ensures
 
 pub write_layer-requires : goal.write_layer-requires
 write_layer-requires c = drafting (goal.at.write_layer-requires c).Else-not-record_fits

@@ -1,39 +1,50 @@
--- `call_sheet::sheet` meets its contract: its opening, and behind it `sheet_in` or `sheet_large`.
-use mathlib.Core.Path.{◌≡◌}
+-- `call_sheet::sheet` meets its contract: its opening, and behind it `sheet_with` of a size.
+use mathlib.Core.Path.{◌≡◌, ap, ◌∙◌}
 use mathlib.Core.List.{List}
-use borrow.Author.Rules.{rules}
+use native.Mathlib.Omega.{arith}
 use Rattle.model.specs.Checks.{Check, pass, in_order, sheet_checks, map_checks}
-use Rattle.answers.proofs.Settled.{Opening, handed_on}
+use Rattle.answers.proofs.Settled.{Opening, handed, handed_on}
 use Rattle.answers.proofs.Opened.{opened_sheet}
-use Rattle.answers.proofs.Given.{room_small}
+use Rattle.answers.proofs.Given.{room_given, room_small}
 use Rattle.call_sheet.proofs.Ends.{sheet_refused, sheet_table}
 use Rattle.call_sheet.proofs.sheet.Goals as goal
-use Rattle.call_sheet.proofs.sheet.Goals.{After-struct_known-1, Else-opened-ne0, Start}
+use Rattle.call_sheet.proofs.sheet.Goals.{After-opening_layer, In_ok-opening_layer, Start}
+use Rattle.answers.specs.Openings.{verdict}
 
 abbrev checks : Start → List Check
 checks p = sheet_checks p.args.n p.args.table.now p.args.marks.now p.args.d
 
-abbrev opening : After-struct_known-1 → Opening checks 9
+abbrev opening : After-opening_layer → Opening checks 9
 unfolding sheet_checks map_checks
 opening c = record {
-  entry = (goal.at.After-struct_known-1 c).Start;
-  answer = _;
-  settles = opened_sheet _ _ _ _ c.marks_fit.ensures _ c.opening_layer-opened.ensures;
+  entry = (goal.at.After-opening_layer c).Start;
+  result = _;
+  settles = opened_sheet _ _ _ _ c.marks_fit.ensures _ c.opening_layer.ensures;
 }
 
-passed : (c : Else-opened-ne0) → in_order (checks (goal.at.Else-opened-ne0 c).Start) ≡ pass
+passed : (c : In_ok-opening_layer) → in_order (checks (goal.at.In_ok-opening_layer c).Start) ≡ pass
 unfolding sheet_checks map_checks
-passed c = (opening (goal.at.Else-opened-ne0 c).After-struct_known-1).settles.passes c.if-opened-ne0.false
+passed c = (opening (goal.at.In_ok-opening_layer c).After-opening_layer).settles.gives ∙ ap verdict c.in_ok-opening_layer.was
 
-pub returns-then-opened-ne0 : goal.returns-then-opened-ne0
+pub returns-in_err-opening_layer : goal.returns-in_err-opening_layer
 unfolding sheet_checks map_checks
-returns-then-opened-ne0 c = handed_on (opening (goal.at.returns-then-opened-ne0 c).After-struct_known-1) c.if-opened-ne0.true (sheet_refused _ _ _ _)
+returns-in_err-opening_layer c =
+    handed_on (opening (goal.at.returns-in_err-opening_layer c).After-opening_layer) c.in_err-opening_layer.was (handed c.from_residual.ensures.1) (sheet_refused _ _ _ _ _)
 
-pub sheet_in-requires : goal.sheet_in-requires
-sheet_in-requires c =
-    let h = passed (goal.at.sheet_in-requires c).Else-opened-ne0 in
+pub sheet_with-requires : goal.sheet_with-requires
+sheet_with-requires c =
+    let h = passed (goal.at.sheet_with-requires c).In_ok-opening_layer in
     let room = room_small 2048 _ (sheet_table _ _ _ _ h) c.if-table.true in
-    record { d_value = h; table_bound = search rules }
+    record { d_value = h; room = (omega arith, omega arith) }
 
-pub sheet_large-requires : goal.sheet_large-requires
-sheet_large-requires c = passed (goal.at.sheet_large-requires c).Else-opened-ne0
+pub sheet_with-requires-then-table-2 : goal.sheet_with-requires-then-table-2
+sheet_with-requires-then-table-2 c =
+    let h = passed (goal.at.sheet_with-requires-then-table-2 c).In_ok-opening_layer in
+    let room = room_small 16384 _ (sheet_table _ _ _ _ h) c.if-table-2.true in
+    record { d_value = h; room = (omega arith, omega arith) }
+
+pub sheet_with-requires-2 : goal.sheet_with-requires-2
+sheet_with-requires-2 c =
+    let h = passed (goal.at.sheet_with-requires-2 c).In_ok-opening_layer in
+    let room = room_given _ (sheet_table _ _ _ _ h) in
+    record { d_value = h; room = (omega arith, omega arith) }

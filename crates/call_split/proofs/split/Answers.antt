@@ -1,41 +1,52 @@
--- `call_split::split` meets its contract: its opening, and behind it `split_in`, or `split_large`.
-use mathlib.Core.Path.{◌≡◌}
+-- `call_split::split` meets its contract: its opening, and behind it `split_with` of a size.
+use mathlib.Core.Path.{◌≡◌, ap, ◌∙◌}
 use mathlib.Core.List.{List}
 use native.Mathlib.Omega.{arith}
 use Rattle.model.specs.Checks.{Check, pass, in_order, layer_checks, map_checks}
-use Rattle.answers.proofs.Settled.{Opening, handed_on}
-use Rattle.answers.proofs.Given.{room_small}
+use Rattle.answers.proofs.Settled.{Opening, handed, handed_on}
+use Rattle.answers.proofs.Given.{room_given, room_small}
 use Rattle.answers.proofs.Opened.{opened_layer}
 use Rattle.answers.proofs.Layered.{layered}
 use Rattle.call_split.proofs.Ends.{split_refused}
 use Rattle.call_split.proofs.split.Goals as goal
-use Rattle.call_split.proofs.split.Goals.{After-struct_known-1, Else-opened-ne0, Start}
+use Rattle.call_split.proofs.split.Goals.{After-opening_layer, In_ok-opening_layer, Start}
+use Rattle.answers.specs.Openings.{verdict}
 
 abbrev checks : Start → List Check
 checks p = layer_checks p.args.n p.args.table.now p.args.marks.now p.args.journal.now p.args.d
 
-abbrev opening : After-struct_known-1 → Opening checks 10
+abbrev opening : After-opening_layer → Opening checks 10
 unfolding layer_checks map_checks
 opening c = record {
-  entry = (goal.at.After-struct_known-1 c).Start;
-  answer = _;
+  entry = (goal.at.After-opening_layer c).Start;
+  result = _;
   settles =
-      opened_layer _ _ _ _ c.marks_fit.ensures _ _ c.journal_fits.ensures _ c.opening_layer-opened.ensures;
+      opened_layer _ _ _ _ c.marks_fit.ensures _ _ c.journal_fits.ensures _ c.opening_layer.ensures;
 }
 
-passed : (c : Else-opened-ne0) → in_order (checks (goal.at.Else-opened-ne0 c).Start) ≡ pass
+passed : (c : In_ok-opening_layer) → in_order (checks (goal.at.In_ok-opening_layer c).Start) ≡ pass
 unfolding layer_checks map_checks
-passed c = (opening (goal.at.Else-opened-ne0 c).After-struct_known-1).settles.passes c.if-opened-ne0.false
+passed c = (opening (goal.at.In_ok-opening_layer c).After-opening_layer).settles.gives ∙ ap verdict c.in_ok-opening_layer.was
 
-pub returns-then-opened-ne0 : goal.returns-then-opened-ne0
+pub returns-in_err-opening_layer : goal.returns-in_err-opening_layer
 unfolding layer_checks map_checks
-returns-then-opened-ne0 c = handed_on (opening (goal.at.returns-then-opened-ne0 c).After-struct_known-1) c.if-opened-ne0.true (split_refused _ _ _ _ _ _)
+returns-in_err-opening_layer c =
+    handed_on (opening (goal.at.returns-in_err-opening_layer c).After-opening_layer) c.in_err-opening_layer.was (handed c.from_residual.ensures.1) (split_refused _ _ _ _ _ _ _)
 
-pub split_in-requires : goal.split_in-requires
-split_in-requires c =
-    let p = passed (goal.at.split_in-requires c).Else-opened-ne0 in
-    let room = room_small 2048 _ (layered p).table c.if-table.true in
-    record { d_value = p; table_bound = (omega arith, omega arith, room) }
+pub split_with-requires : goal.split_with-requires
+split_with-requires c =
+    let h = passed (goal.at.split_with-requires c).In_ok-opening_layer in
+    let room = room_small 2048 _ (layered h).table c.if-table.true in
+    record { d_value = h; room = (room, omega arith, omega arith, omega arith) }
 
-pub split_large-requires : goal.split_large-requires
-split_large-requires c = passed (goal.at.split_large-requires c).Else-opened-ne0
+pub split_with-requires-then-table-2 : goal.split_with-requires-then-table-2
+split_with-requires-then-table-2 c =
+    let h = passed (goal.at.split_with-requires-then-table-2 c).In_ok-opening_layer in
+    let room = room_small 16384 _ (layered h).table c.if-table-2.true in
+    record { d_value = h; room = (room, omega arith, omega arith, omega arith) }
+
+pub split_with-requires-2 : goal.split_with-requires-2
+split_with-requires-2 c =
+    let h = passed (goal.at.split_with-requires-2 c).In_ok-opening_layer in
+    let room = room_given _ (layered h).table in
+    record { d_value = h; room = (room, omega arith, omega arith, omega arith) }

@@ -34,7 +34,7 @@ crosses-requires c =
 
 pub returns-then-crosses : goal.returns-then-crosses
 returns-then-crosses c =
-    split_crosses (sheeted (goal.at.returns-then-crosses c).After-sheet-size) c.sheet-size.ensures.1 c.crosses.ensures _ c.if-crosses.true
+    split_crosses (sheeted (goal.at.returns-then-crosses c).After-sheet-size) c.sheet-size.ensures.1 c.crosses.ensures _ c.if-crosses.true c.into.ensures
 
 pub overflow_mul-new : goal.overflow_mul-new
 overflow_mul-new c =
@@ -51,7 +51,7 @@ find_slots-requires c =
 pub returns-then-not-find_slots : goal.returns-then-not-find_slots
 returns-then-not-find_slots c =
     split_few (sheeted (goal.at.returns-then-not-find_slots c).After-sheet-size) c.sheet-size.ensures.1 c.crosses.ensures c.if-crosses.false c.find_slots.ensures _
-    (c.if-not-find_slots.true)
+    (c.if-not-find_slots.true) c.into-then-not-find_slots.ensures
 
 ready : (c : Else-not-find_slots) →
     let a = c.args in
@@ -99,7 +99,7 @@ record_fits-requires c =
 pub returns-then-not-record_fits : goal.returns-then-not-record_fits
 returns-then-not-record_fits c =
     let R = ready (goal.at.returns-then-not-record_fits c).Else-not-find_slots in
-    commit_full _ _ _ _ _ _ _ (split_goes R _) (changes_number R) c.record_fits.ensures (c.if-not-record_fits.true)
+    commit_full _ _ _ _ _ _ _ (split_goes R _) (changes_number R) c.record_fits.ensures (c.if-not-record_fits.true) c.into-then-not-record_fits.ensures
 
 -- ---- the record
 pub list_darts-requires : goal.list_darts-requires

@@ -20,7 +20,7 @@ unbroken-requires c = let j = rule (goal.at.unbroken-requires c).Start in (j.lon
 
 pub returns-then-not-unbroken : goal.returns-then-not-unbroken
 returns-then-not-unbroken c =
-    step_refused _ _ _ _ _ _ _ refl (step_broken _ _ _ _ _ _ c.unbroken.ensures (c.if-not-unbroken.true) _ _)
+    step_refused _ _ _ _ _ _ _ c.into.ensures refl (step_broken _ _ _ _ _ _ c.unbroken.ensures (c.if-not-unbroken.true) _ _)
 
 pub put_record-requires : goal.put_record-requires
 put_record-requires c =
@@ -38,7 +38,7 @@ put_record-requires-then-not-is_map c =
 pub returns-then-not-is_map : goal.returns-then-not-is_map
 returns-then-not-is_map c =
     let whole = c.if-not-unbroken.false in
-    step_refused _ _ _ _ _ _ _
+    step_refused _ _ _ _ _ _ _ c.into-then-not-is_map.ensures
     (unbroken_back _ _ _ _ _ _ c.unbroken.ensures whole _ c.put_record.ensures _ c.put_record-then-not-is_map.ensures)
     (step_no_map _ _ _ _ _ _ c.unbroken.ensures whole _ c.put_record.ensures _ _
     (sym c.is_map.ensures ∙ c.if-not-is_map.true))

@@ -6,54 +6,54 @@ use Rattle.model.specs.Meaning.Numbers.{JournalRule}
 use Rattle.theorems.proofs.Calls.Pass.{journal_pass}
 use Rattle.answers.proofs.Ladder.{Rung, up, out, all_passed}
 use Rattle.answers.proofs.Verdicts.{differ_passes, differ_refuses, undo_test}
-use Rattle.answers.proofs.Settled.{Opening, opened, handed_on}
+use Rattle.answers.proofs.Settled.{Opening, opened, handed, handed_on, by_reason}
 use Rattle.answers.proofs.Opened.{opened_journal}
 use Rattle.call_undo_redo.proofs.Ends.{undo_refused, undo_accepted}
 use Rattle.call_undo_redo.proofs.undo.Goals as goal
-use Rattle.call_undo_redo.proofs.undo.Goals.{After-struct_known-1, Else-none_stands, Else-opened-ne0, Start}
+use Rattle.call_undo_redo.proofs.undo.Goals.{After-opening, Else-none_stands, In_ok-opening, Start}
 
 -- ---- the rungs
 abbrev checks : Start → List Check
 checks p = step_checks p.args.n p.args.table.now p.args.journal.now (undo_ok p.args.journal.now)
 
-abbrev opening : After-struct_known-1 → Opening checks 7
+abbrev opening : After-opening → Opening checks 7
 unfolding step_checks map_checks
 opening c = record {
-  entry = (goal.at.After-struct_known-1 c).Start;
-  answer = _;
-  settles = opened_journal _ _ _ _ c.journal_fits.ensures c.opening-opened.ensures;
+  entry = (goal.at.After-opening c).Start;
+  result = _;
+  settles = opened_journal _ _ _ _ c.journal_fits.ensures c.opening.ensures;
 }
 
-abbrev map : Else-opened-ne0 → Rung checks 7
+abbrev map : In_ok-opening → Rung checks 7
 unfolding step_checks map_checks
-map c = opened (opening (goal.at.Else-opened-ne0 c).After-struct_known-1) c.if-opened-ne0.false
+map c = opened (opening (goal.at.In_ok-opening c).After-opening) c.in_ok-opening.was
 
 abbrev there : Else-none_stands → Rung checks 8
 unfolding step_checks map_checks
-there c = up (map (goal.at.Else-none_stands c).Else-opened-ne0) (differ_passes _ _ 16 (undo_test _) c.if-none_stands.false)
+there c = up (map (goal.at.Else-none_stands c).In_ok-opening) (differ_passes _ _ 16 (undo_test _) c.if-none_stands.false)
 
 -- what check 4 says
-rule : (r : Else-opened-ne0) → JournalRule (map r).entry.args.journal.now
+rule : (r : In_ok-opening) → JournalRule (map r).entry.args.journal.now
 unfolding step_checks map_checks
 rule r = let p = (map r).passed in journal_pass _ (search)
 
-pub returns-then-opened-ne0 : goal.returns-then-opened-ne0
+pub returns-in_err-opening : goal.returns-in_err-opening
 unfolding step_checks map_checks
-returns-then-opened-ne0 c = handed_on (opening (goal.at.returns-then-opened-ne0 c).After-struct_known-1) c.if-opened-ne0.true (undo_refused _ _ _)
+returns-in_err-opening c = handed_on (opening (goal.at.returns-in_err-opening c).After-opening) c.in_err-opening.was (handed c.from_residual.ensures.1) (undo_refused _ _ _ _)
 
 pub bounds-journal-0 : goal.bounds-journal-0
 unfolding step_checks map_checks
-bounds-journal-0 c = let long = (rule (goal.at.bounds-journal-0 c).Else-opened-ne0).long in omega arith
+bounds-journal-0 c = let long = (rule (goal.at.bounds-journal-0 c).In_ok-opening).long in omega arith
 
 pub returns-then-none_stands : goal.returns-then-none_stands
 unfolding step_checks map_checks
-returns-then-none_stands c = undo_refused _ _ _ (out (map (goal.at.returns-then-none_stands c).Else-opened-ne0) (differ_refuses _ _ 16 (undo_test _) c.if-none_stands.true))
+returns-then-none_stands c = undo_refused _ _ _ _ (by_reason c.into.ensures (out (map (goal.at.returns-then-none_stands c).In_ok-opening) (differ_refuses _ _ 16 (undo_test _) c.if-none_stands.true)))
 
 -- ---- the record before the cursor
 pub undo_start-found-requires : goal.undo_start-found-requires
 unfolding step_checks map_checks
 undo_start-found-requires c =
-    let j = rule (goal.at.undo_start-found-requires c).Else-opened-ne0 in
+    let j = rule (goal.at.undo_start-found-requires c).In_ok-opening in
     let ends = j.ends in
     let within = j.within in
     (j.low, omega arith)

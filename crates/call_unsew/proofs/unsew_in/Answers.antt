@@ -59,7 +59,7 @@ pub returns-then-not-record_fits : goal.returns-then-not-record_fits
 returns-then-not-record_fits c =
     commit_full _ _ _ _ _ _ _ (unsew_goes _ _ _ _ _ _ c.requires.d_value)
     (changes_number (passed (goal.at.returns-then-not-record_fits c).Start) c.requires.by_index.0 c.requires.by_index.1.0 c.mark_side-changes.ensures)
-    c.record_fits.ensures (c.if-not-record_fits.true)
+    c.record_fits.ensures (c.if-not-record_fits.true) c.into.ensures
 
 pub write_marked-requires : goal.write_marked-requires
 write_marked-requires c =

@@ -4,4 +4,4 @@ use Rattle.fresh.proofs.fresh_journal.Goals as goal
 
 pub returns : goal.returns
 returns c =
-    journal_fresh _ _ c.fill_words.ensures c.requires
+    journal_fresh _ _ (c.fill.ensures.after (λ _ e. e)) c.requires

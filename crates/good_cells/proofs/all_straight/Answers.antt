@@ -1,31 +1,17 @@
-use mathlib.Core.Path.{refl, sym, ◌∙◌}
+-- `good_cells::all_straight` meets its contract.
+use mathlib.Core.Path.{refl, ◌∙◌}
 use native.Mathlib.Omega.{arith}
-use borrow.Author.Count.{below_none, below_more}
-use Rattle.theorems.proofs.Lists.Scan.{below_of}
-use Rattle.good_cells.specs.Good.{all_straight}
-use Rattle.good_cells.proofs.Good.{not_all}
+use Rattle.std.proofs.Common.{rules, tests, ◌*◌}
+use Rattle.std.proofs.lemmas.Iterator.{YieldsList-from_range}
+use Rattle.std.proofs.lemmas.Iterator.Search.{all_from_yields_List}
+use Rattle.good_cells.specs.Good.{side_of, is_straight, all_straight}
+use Rattle.good_cells.proofs.Ranges.{ranged}
 use Rattle.good_cells.proofs.all_straight.Goals as goal
-
-pub overflow_mul-k-end : goal.overflow_mul-k-end
-overflow_mul-k-end c = let top = c.requires.table.dim in omega arith
-
-pub loop-k-init : goal.loop-k-init
-loop-k-init c = (omega arith, refl, below_none _)
-
-pub is_straight-requires : goal.is_straight-requires
-is_straight-requires c = (c.requires, omega arith)
-
-pub returns-then-not-is_straight : goal.returns-then-not-is_straight
-unfolding all_straight
-returns-then-not-is_straight c =
-    sym (not_all _ _ c.loop-k.k (omega arith) (sym c.is_straight.ensures ∙ c.if-not-is_straight.true))
-
-pub loop-k-preserved : goal.loop-k-preserved
-loop-k-preserved c =
-    let straight = sym c.is_straight.ensures ∙ c.if-not-is_straight.false in
-    (omega arith, c.loop-k.invariant.1, below_more _ _ c.loop-k.invariant.2 straight)
 
 pub returns : goal.returns
 unfolding all_straight
 returns c =
-    sym (below_of _ _ (λ k h. c.loop-k.invariant.2 k (omega arith)))
+    let a = c.args in
+    all_from_yields_List (λ k. is_straight a.n a.table.now a.cell.now (side_of a.n k)) _ _ c.all.result c.all.ensures.ran
+    (YieldsList-from_range 0 (2 * a.n) (2 * a.n) refl (omega arith)) (λ x b q k. search (rules, tests))
+    ∙ ranged _ (2 * a.n)

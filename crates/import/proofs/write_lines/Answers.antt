@@ -19,7 +19,7 @@ pub overflow_add-a : goal.overflow_add-a
 overflow_add-a c = omega arith
 
 pub loop-a-smaller : goal.loop-a-smaller
-loop-a-smaller c = let p = c.part-k.ensures in omega (arith, p.2 (omega arith))
+loop-a-smaller c = omega arith
 
 pub loop-a-preserved : goal.loop-a-preserved
 loop-a-preserved c = (omega arith, omega arith)

@@ -1,12 +1,8 @@
 -- `sound_change` meets its contract.
 use mathlib.Core.Path.{ap, sym, ◌∙◌}
-use native.Mathlib.Omega.{arith}
 use lib.Dec.{eqb}
 use Rattle.journal.proofs.Breaks.{sound_low, sound_past, sound_alike, sound_differs}
 use Rattle.journal.proofs.sound_change.Goals as goal
-
-pub overflow_cast-e : goal.overflow_cast-e
-overflow_cast-e c = omega (arith, c.shared_slice_known-3-1.given c.args.w)
 
 pub returns-then-e-least : goal.returns-then-e-least
 returns-then-e-least c = sym (sound_low _ _ _ _ _ c.if-e-least.true)

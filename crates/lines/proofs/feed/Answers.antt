@@ -3,32 +3,21 @@ use native.Mathlib.Omega.{arith}
 use Rattle.lines.proofs.Feeding.{room_kept, feeding_start, feeding_on, fed_whole}
 use Rattle.lines.proofs.feed.Goals as goal
 
-pub loop-k-init : goal.loop-k-init
-loop-k-init c =
+pub loop-b-init : goal.loop-b-init
+loop-b-init c =
     (feeding_start _ _ _ _ _ _ _ _ c.requires.room.0 c.requires.room.1, refl, refl, refl, refl)
-
-pub bounds-piece-k : goal.bounds-piece-k
-bounds-piece-k c = c.loop-k-test.true
 
 pub feed_byte-step-requires : goal.feed_byte-step-requires
 feed_byte-step-requires c =
-    let g = c.loop-k.invariant.0 in
-    let turn = c.loop-k-test.true in
+    let g = c.loop-b.invariant.0 in
+    let turn = c.loop-b-test.true in
     record { room = (g.room, g.kept); line_bound = (omega (arith, g.line, turn, c.requires.piece_bound.0), omega (arith, g.few, g.long, turn, c.requires.piece_bound.1)) }
 
-pub overflow_add-k : goal.overflow_add-k
-overflow_add-k c =
-    omega (arith, c.loop-k-test.true, c.requires.piece_bound.0)
-
-pub loop-k-smaller : goal.loop-k-smaller
-loop-k-smaller c =
-    omega (arith, c.loop-k-test.true)
-
-pub loop-k-preserved : goal.loop-k-preserved
-loop-k-preserved c =
-    let g = c.loop-k.invariant in
+pub loop-b-preserved : goal.loop-b-preserved
+loop-b-preserved c =
+    let g = c.loop-b.invariant in
     let k = c.feed_byte-step.auto in (
-      feeding_on g.0 c.loop-k-test.true
+      feeding_on g.0 c.loop-b-test.true
           c.feed_byte-step.ensures
           (room_kept g.0.room k.text k.table k.marks k.journal)
           k.out,
@@ -39,4 +28,4 @@ loop-k-preserved c =
     )
 
 pub returns : goal.returns
-returns c = fed_whole c.loop-k.invariant.0 c.loop-k-test.false
+returns c = fed_whole c.loop-b.invariant.0 c.loop-b-test.false

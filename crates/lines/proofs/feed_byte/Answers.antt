@@ -13,4 +13,4 @@ pub returns : goal.returns
 returns c =
     held_told c.args.s c.args.b c.args.text.now _ _ _ _ _ _ _ c.if-s.false c.if-b-eq10.false
     c.requires.room.1
-    c.hold.ensures.0 c.hold.ensures.1
+    c.hold-held.ensures.0 c.hold-held.ensures.1

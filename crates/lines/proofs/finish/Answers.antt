@@ -4,11 +4,13 @@ use mathlib.Core.Path.{sym, ◌∙◌}
 use native.Mathlib.Omega.{arith}
 use lib.ListN.{length}
 use lib.Seq.{length-take-le}
+use Rattle.std.proofs.lemmas.Bool.{not-true, not-false}
 use Rattle.model.specs.Session.{bad}
 use Rattle.texts.proofs.Writing.{appended_none}
 use Rattle.lines.proofs.Fresh.{slots_part}
-use Rattle.lines.proofs.Steps.{ends_done, ends_held, ends_other, ends_op}
+use Rattle.lines.proofs.Steps.{ends_done, ends_held, ends_other, ends_op, at_op_same}
 use Rattle.lines.proofs.finish.Goals as goal
+use Rattle.lines.proofs.finish.Goals.{then-s-ne0-via-then-s-ne0, then-s-ne0-via-else-s-ne0+then-ne}
 
 pub returns-then-s : goal.returns-then-s
 returns-then-s c =
@@ -17,15 +19,13 @@ returns-then-s c =
 pub returns-then-s-ne0 : goal.returns-then-s-ne0
 unfolding bad
 returns-then-s-ne0 c =
-    λ xs m j h. rw (← ends_held c.args.s xs c.args.table.now m j c.if-s.false c.if-s-ne0.true h)
-    c.say.ensures.0
-
-pub returns-then-not-at_op : goal.returns-then-not-at_op
-unfolding bad
-returns-then-not-at_op c =
-    let elsewhere = sym c.at_op.ensures ∙ c.if-not-at_op.true in
-    λ xs m j h. rw (← ends_other c.args.s xs c.args.table.now m j c.if-s.false elsewhere)
-    c.say-then-not-at_op.ensures.0
+    λ xs m j h. elim c.then-s-ne0.branch [
+      | then-s-ne0-via-then-s-ne0 w ↦
+          rw (← ends_held c.args.s xs c.args.table.now m j c.if-s.false w.if-s-ne0.true h) c.say.ensures.0
+      | then-s-ne0-via-else-s-ne0+then-ne w ↦
+          let elsewhere = at_op_same c.args.s.key ∙ not-true _ (sym w.ne.ensures ∙ w.if-ne.true) in
+          rw (← ends_other c.args.s xs c.args.table.now m j c.if-s.false elsewhere) c.say.ensures.0
+    ]
 
 pub slice_bounds-ending-end : goal.slice_bounds-ending-end
 slice_bounds-ending-end c =
@@ -41,6 +41,6 @@ ending-requires c =
 
 pub returns : goal.returns
 returns c =
-    let op = sym c.at_op.ensures ∙ c.if-not-at_op.false in
+    let op = at_op_same c.args.s.key ∙ not-false _ (sym c.ne.ensures ∙ c.if-ne.false) in
     λ xs m j h. rw (← ends_op c.args.s xs c.args.table.now m j c.if-s.false c.if-s-ne0.false op)
     c.ending.ensures

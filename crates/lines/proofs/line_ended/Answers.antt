@@ -17,19 +17,19 @@ done-end-requires c =
     let s = c.args.s in
     let room = c.requires.room.0 in
     let f = fits_read s.key 0 0 0 0 (lent 0 [] [] []) _ _
-    (sym (ap given_by c.in-Value.is) ∙ c.given.ensures 0 0 0 0 _) in
+    (sym (ap given_by c.in-Some.is) ∙ c.given.ensures 0 0 0 0 _) in
     record { in_bounds = (room.table, room.marks, room.journal, c.requires.room.1.few); fits = (f, omega (arith, c.requires.line_bound.1)) }
 
-pub returns-in-Value : goal.returns-in-Value
-returns-in-Value c =
+pub returns-in-Some : goal.returns-in-Some
+returns-in-Some c =
     let s = c.args.s in
-    let gives = sym (ap given_by c.in-Value.is) ∙ c.given.ensures s.n s.op s.i s.d _ in
+    let gives = sym (ap given_by c.in-Some.is) ∙ c.given.ensures s.n s.op s.i s.d _ in
     rw c.noted.ensures
     (taken_told s _ _ _ _ _ _ _ _ _ _ _ _ c.requires.room.2 c.requires.room.1 gives c.done-end.ensures)
 
-pub returns-in-Unfit : goal.returns-in-Unfit
-returns-in-Unfit c =
+pub returns-in-None : goal.returns-in-None
+returns-in-None c =
     let s = c.args.s in
-    let gives = sym (ap given_by c.in-Unfit.is)
+    let gives = sym (ap given_by c.in-None.is)
     ∙ c.given.ensures s.n s.op s.i s.d _ in
     bad_told s _ _ _ _ _ _ _ _ c.requires.room.2 c.requires.room.1 gives c.say-end.ensures.0 c.say-end.ensures.1

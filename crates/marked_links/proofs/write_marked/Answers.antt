@@ -15,12 +15,6 @@ overflow_cast-end c = let few = c.requires.some_marked_record.is.freed.few in om
 pub bounds-journal-0 : goal.bounds-journal-0
 bounds-journal-0 c = let long = c.requires.some_marked_record.is.rule.long in omega arith
 
-pub overflow_cast-w : goal.overflow_cast-w
-overflow_cast-w c = omega (arith, c.slice_known-2-1.given 0)
-
-pub overflow_add-w : goal.overflow_add-w
-overflow_add-w c = omega (arith, c.slice_known-2-1.given 0)
-
 pub skip_grouped-x-requires : goal.skip_grouped-x-requires
 skip_grouped-x-requires c = (c.requires.grouped, omega arith)
 

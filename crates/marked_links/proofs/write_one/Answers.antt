@@ -29,7 +29,7 @@ write_link-requires c =
       u = _;
       j = _;
       pass = to.met.pass;
-      one = rw (c.pick.ensures, c.pick-2.ensures)
+      one = rw (c.old_and_new-old.ensures.old, c.old_and_new-old.ensures.new)
           (marked_one to.met.freed _ to.inside c.args.sews _ c.link_in-y.ensures c.if-marks-x-ne1.false);
     }
 
@@ -45,5 +45,5 @@ overflow_add-result c =
 pub returns : goal.returns
 returns c =
     let to = c.requires in
-    λ v j T. marked_more T (c.write_link.ensures _ _ _ T.pass (rw (c.pick.ensures, c.pick-2.ensures)
+    λ v j T. marked_more T (c.write_link.ensures _ _ _ T.pass (rw (c.old_and_new-old.ensures.old, c.old_and_new-old.ensures.new)
     (marked_one T.freed _ to.inside c.args.sews _ c.link_in-y.ensures c.if-marks-x-ne1.false)))

@@ -1,16 +1,16 @@
--- `new_darts::write` meets its contract. The loop's invariant: the new darts before that of the i-th dart with the role are behind
--- the pass, and p old darts.
-use Prim.Native.Nat.{◌+◌, ◌*◌, ◌-◌, ◌≤◌, ◌<◌}
-use mathlib.Core.Path.{◌≡◌}
+-- `new_darts::write` meets its contract. The loops' invariants: the new darts before those of the i-th dart, and of these the ones before
+-- the role, are behind the pass, and p old darts.
+use Prim.Native.Nat.{◌+◌, ◌*◌}
 use Rattle.new_darts.specs.News.{Made}
-use Rattle.new_darts.specs.Drafting.{Writing, Drafting}
+use Rattle.new_darts.specs.Sources.{Drafts, DraftsTo}
 use Rattle.new_darts.proofs.write.Given as goal
 
 abbrev pub invariant-loop-i : goal.invariant-loop-i
-invariant-loop-i l =
-    (l.i ≤ l.size) × (l.role < l.n) × (l.i ≡ l.size → l.role ≡ 0)
-    × ((M : Made) → Writing l.n l.insert l.table M l.nexts l.darts l.fresh l.places l.size l.initial.journal
-    → Drafting l.n l.insert l.table M l.nexts l.darts l.fresh l.places l.size l.initial.journal l.p (l.n * l.i + l.role) l.w l.journal)
+invariant-loop-i g l =
+    (M : Made) → Drafts l.sources g.O.Operation.insert M l.fn.journal
+    → DraftsTo l.sources g.O.Operation.insert M l.sources.nexts.now l.fn.journal l.p (l.sources.n * l.i) l.w l.journal
 
-abbrev pub decreases-loop-i : goal.decreases-loop-i
-decreases-loop-i l = 4 * (l.size - l.i) + (3 - l.role)
+abbrev pub invariant-loop-role : goal.invariant-loop-role
+invariant-loop-role g l =
+    (M : Made) → Drafts l.sources g.O.Operation.insert M l.fn.journal
+    → DraftsTo l.sources g.O.Operation.insert M l.sources.nexts.now l.fn.journal l.p (l.sources.n * l.i + l.role) l.w l.journal

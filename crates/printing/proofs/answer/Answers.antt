@@ -4,17 +4,9 @@ use Rattle.model.specs.Session.{answered}
 use Rattle.texts.proofs.Writing.{appended_then}
 use Rattle.printing.proofs.answer.Goals as goal
 
-pub say-count-requires : goal.say-count-requires
-say-count-requires c =
-    omega (arith, c.say-place.ensures.1, c.say-place.auto.out, c.requires)
-
-pub say-requires : goal.say-requires
-say-requires c =
-    omega (arith, c.say-count.ensures.1, c.say-count.auto.out, c.say-place.ensures.1, c.say-place.auto.out, c.requires)
-
 pub returns : goal.returns
 unfolding answered
 returns c = (
-  appended_then (appended_then c.say-place.ensures.0 c.say-count.ensures.0) c.say.ensures.0,
+  rw c.from-told.ensures at (appended_then (appended_then c.say-place.ensures.0 c.say-count.ensures.0) c.say.ensures.0),
   omega (arith, c.say.ensures.1, c.say-count.ensures.1, c.say-place.ensures.1),
 )

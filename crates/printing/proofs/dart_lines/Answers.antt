@@ -4,10 +4,6 @@ use Rattle.model.specs.Session.{dart_lines}
 use Rattle.texts.proofs.Writing.{appended_then}
 use Rattle.printing.proofs.dart_lines.Goals as goal
 
-pub to_line-requires : goal.to_line-requires
-to_line-requires c =
-    omega (arith, c.say-to.ensures.1, c.say-to.auto.out, c.requires)
-
 pub returns : goal.returns
 unfolding dart_lines
 returns c =

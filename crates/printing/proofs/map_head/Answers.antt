@@ -3,10 +3,6 @@ use native.Mathlib.Omega.{arith}
 use Rattle.texts.proofs.Writing.{appended_then}
 use Rattle.printing.proofs.map_head.Goals as goal
 
-pub say-requires : goal.say-requires
-say-requires c =
-    omega (arith, c.say-size.ensures.1, c.say-size.auto.out, c.requires)
-
 pub returns : goal.returns
 returns c =
     (appended_then c.say-size.ensures.0 c.say.ensures.0, omega (arith, c.say.ensures.1, c.say-size.ensures.1))

@@ -3,6 +3,7 @@ use mathlib.Core.Path.{sym, ap, ◌∙◌}
 use Prim.Native.Nat.{ℕ}
 use native.Mathlib.Omega.{arith}
 use borrow.Author.Tests.{eq-eqb, ne_eqb}
+use Rattle.std.proofs.lemmas.List.{map-id}
 use Rattle.model.specs.Orbit.{bit}
 use Rattle.reach.specs.Search.{Search, search_of, meet}
 use Rattle.reach.proofs.Meeting.{meet_asks, link_in, entry_in, follow_takes, follow_skips}
@@ -23,12 +24,12 @@ meet-requires c =
     let t = c.args.table.now in
     let to = link_in t s.linked c.args.x s.lives c.args.i low in
     let is = c.link_in-y.ensures in
-    meet_asks _ (first (goal.at.meet-requires c).Start) c.link_in-y.result (omega arith) s.space s.linked.few
+    rw map-id (meet_asks _ (first (goal.at.meet-requires c).Start) c.link_in-y.result (omega arith) s.space s.linked.few)
 
 pub returns-then-mask-i-eq1 : goal.returns-then-mask-i-eq1
 unfolding bit
 returns-then-mask-i-eq1 c =
-    c.meet.ensures ∙ ap (λ (y : ℕ). meet y (first (goal.at.returns-then-mask-i-eq1 c).Start)) c.link_in-y.ensures
+    (rw (map-id c.meet.new.marks, map-id c.args.marks.now) at c.meet.ensures) ∙ ap (λ (y : ℕ). meet y (first (goal.at.returns-then-mask-i-eq1 c).Start)) c.link_in-y.ensures
     ∙ sym (follow_takes _ _ _ (first (goal.at.returns-then-mask-i-eq1 c).Start) _ (eq-eqb _ _ c.if-mask-i-eq1.true))
 
 pub returns-else-mask-i-eq1 : goal.returns-else-mask-i-eq1

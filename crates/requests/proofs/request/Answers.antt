@@ -1,57 +1,57 @@
 -- `requests::request` meets its contract, op by op: what a call does not take stays.
-use native.Mathlib.Omega.{arith}
 use Rattle.model.specs.Runs.{do_call}
 use Rattle.model.specs.Session.{calls, call_of}
-use Rattle.requests.proofs.Keeping.{keeps_both, keeps_marks, keeps_journal, call_check}
+use Rattle.requests.proofs.Keeping.{keeps_both, keeps_marks, keeps_journal, other_check}
 use Rattle.requests.proofs.request.Goals as goal
 
-pub returns-in-1 : goal.returns-in-1
+pub returns-in-Orbit : goal.returns-in-Orbit
 unfolding do_call call_of calls
-returns-in-1 c =
-    rw c.in-1.is (keeps_journal _ _ _ _ c.orbit.ensures)
+returns-in-Orbit c =
+    rw c.in-Orbit.ensures (keeps_journal _ _ _ _ c.orbit.ensures)
 
-pub returns-in-2 : goal.returns-in-2
+pub returns-in-Sheet : goal.returns-in-Sheet
 unfolding do_call call_of calls
-returns-in-2 c =
-    rw c.in-2.is (keeps_journal _ _ _ _ c.sheet.ensures)
+returns-in-Sheet c =
+    rw c.in-Sheet.ensures (keeps_journal _ _ _ _ c.sheet.ensures)
 
-pub returns-in-3 : goal.returns-in-3
+pub returns-in-Add : goal.returns-in-Add
 unfolding do_call call_of calls
-returns-in-3 c =
-    rw c.in-3.is (keeps_marks _ _ _ _ c.add.ensures)
+returns-in-Add c =
+    rw c.in-Add.ensures (keeps_marks _ _ _ _ c.add.ensures)
 
-pub returns-in-4 : goal.returns-in-4
+pub returns-in-Sew : goal.returns-in-Sew
 unfolding do_call call_of calls
-returns-in-4 c =
-    rw c.in-4.is (keeps_marks _ _ _ _ c.sew.ensures)
+returns-in-Sew c =
+    rw c.in-Sew.ensures (keeps_marks _ _ _ _ c.sew.ensures)
 
-pub returns-in-5 : goal.returns-in-5
+pub returns-in-Unsew : goal.returns-in-Unsew
 unfolding do_call call_of calls
-returns-in-5 c =
-    rw c.in-5.is (keeps_marks _ _ _ _ c.unsew.ensures)
+returns-in-Unsew c =
+    rw c.in-Unsew.ensures (keeps_marks _ _ _ _ c.unsew.ensures)
 
-pub returns-in-6 : goal.returns-in-6
+pub returns-in-Remove : goal.returns-in-Remove
 unfolding do_call call_of calls
-returns-in-6 c =
-    rw c.in-6.is c.remove.ensures
+returns-in-Remove c =
+    rw c.in-Remove.ensures c.remove.ensures
 
-pub returns-in-7 : goal.returns-in-7
+pub returns-in-Split : goal.returns-in-Split
 unfolding do_call call_of calls
-returns-in-7 c =
-    rw c.in-7.is c.split.ensures
+returns-in-Split c =
+    rw c.in-Split.ensures c.split.ensures
 
-pub returns-in-8 : goal.returns-in-8
+pub returns-in-Undo : goal.returns-in-Undo
 unfolding do_call call_of calls
-returns-in-8 c =
-    rw c.in-8.is (keeps_marks _ _ _ _ c.undo.ensures)
+returns-in-Undo c =
+    rw c.in-Undo.ensures (keeps_marks _ _ _ _ c.undo.ensures)
 
-pub returns-in-9 : goal.returns-in-9
+pub returns-in-Redo : goal.returns-in-Redo
 unfolding do_call call_of calls
-returns-in-9 c =
-    rw c.in-9.is (keeps_marks _ _ _ _ c.redo.ensures)
+returns-in-Redo c =
+    rw c.in-Redo.ensures (keeps_marks _ _ _ _ c.redo.ensures)
 
 pub returns-in_default : goal.returns-in_default
 unfolding do_call
 returns-in_default c =
-    rw (call_check c.args.op c.args.tag c.args.i c.args.d c.args.e (omega arith) (omega arith) (omega arith) (omega arith) (omega arith)
-    (omega arith) (omega arith) (omega arith) (omega arith)) (keeps_both _ _ _ _ c.check.ensures)
+    let o = c.in_default in
+    rw (other_check c.args.op c.args.tag c.args.i c.args.d c.args.e _ c.from.ensures o.not-Orbit o.not-Sheet o.not-Add o.not-Sew o.not-Unsew
+    o.not-Remove o.not-Split o.not-Undo o.not-Redo) (keeps_both _ _ _ _ c.check.ensures)

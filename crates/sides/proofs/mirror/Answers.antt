@@ -19,9 +19,6 @@ offset_bounds-words-k c = let r = room c in search rules
 pub bounds-words-k : goal.bounds-words-k
 bounds-words-k c = let r = room (goal.at.bounds-words-k c).In-loop-k in omega arith
 
-pub overflow_cast-x : goal.overflow_cast-x
-overflow_cast-x c = omega (arith, c.slice_known-in-loop-k-1.given c.loop-k.k)
-
 pub link_in-requires : goal.link_in-requires
 link_in-requires c = word_entry c.requires c.loop-k.invariant c.loop-k-test.true
 
@@ -40,9 +37,6 @@ offset_bounds-words-size c = let r = room (goal.at.offset_bounds-words-size c).I
 
 pub bounds-words-size : goal.bounds-words-size
 bounds-words-size c = room (goal.at.bounds-words-size c).In-loop-k
-
-pub overflow_add-k : goal.overflow_add-k
-overflow_add-k c = let r = room (goal.at.overflow_add-k c).In-loop-k in search rules
 
 pub loop-k-smaller : goal.loop-k-smaller
 loop-k-smaller c = let l = c.loop-k-test.true in omega arith

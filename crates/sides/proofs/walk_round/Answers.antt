@@ -67,17 +67,19 @@ right_turn : (c : After-link_in-v) →
 right_turn c =
     turn_is _ _ _ _ _ _ _ _ c.loop-a.invariant.right_is c.link_in-q.ensures c.link_in-v.ensures
 
-pub returns-then-not-alike : goal.returns-then-not-alike
-returns-then-not-alike c =
-    going_differs c.requires c.loop-a.invariant (left_turn (goal.at.returns-then-not-alike c).After-link_in-v) (right_turn (goal.at.returns-then-not-alike c).After-link_in-v) _ _
+pub returns-then-not-alike-clause-differs : goal.returns-then-not-alike-clause-differs
+returns-then-not-alike-clause-differs c =
+    let o = goal.at.returns-then-not-alike-clause-differs c in
+    going_differs c.requires c.loop-a.invariant (left_turn o.After-link_in-v) (right_turn o.After-link_in-v)
     (c.alike.ensures.fails (c.if-not-alike.true))
 
-pub returns-then-u-d : goal.returns-then-u-d
-returns-then-u-d c =
+pub returns-then-u-d-clause-walked : goal.returns-then-u-d-clause-walked
+returns-then-u-d-clause-walked c =
+    let o = goal.at.returns-then-u-d-clause-walked c in
     record {
-      round = λ _. rw (add-one c.loop-a.k) (going_round c.requires c.loop-a.invariant (left_turn (goal.at.returns-then-u-d c).After-link_in-v) (right_turn (goal.at.returns-then-u-d c).After-link_in-v)
+      some = omega arith;
+      round = rw (add-one c.loop-a.k) (going_round c.requires c.loop-a.invariant (left_turn o.After-link_in-v) (right_turn o.After-link_in-v)
           (c.alike.ensures.holds (c.if-not-alike.false)) c.has_end-ended.ensures c.if-u-d.true);
-      differs = λ h. absurd (omega arith);
     }
 
 pub loop-a-smaller : goal.loop-a-smaller

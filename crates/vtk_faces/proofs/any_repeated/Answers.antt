@@ -13,15 +13,15 @@ use Rattle.vtk_faces.specs.Texts.{CellsAt}
 use Rattle.vtk_faces.proofs.Resting.{eights_at, read_left}
 use Rattle.vtk_faces.proofs.Taken.{OnceUpto, part_held, part_long, twice_here, twice_more, twice_none}
 use Rattle.vtk_faces.proofs.any_repeated.Goals as goal
-use Rattle.vtk_faces.proofs.any_repeated.Goals.{After-at_most-block, After-repeated}
+use Rattle.vtk_faces.proofs.any_repeated.Goals.{After-min-block, After-repeated}
 
 -- some of the cells that are left
-some : (t : After-at_most-block) →
+some : (t : After-min-block) →
     let cells = t.args.cells in
-    let n = t.at_most-block.result in
+    let n = t.min-block.result in
     (0 < n) × (8 * n ≤ length t.loop-left.rows) × (n ≤ t.loop-left.left) × (cells - t.loop-left.left + n ≤ cells)
 some t =
-    let e = t.at_most-block.ensures in
+    let e = t.min-block.ensures in
     let low = t.loop-left.invariant.1 in
     let same = t.loop-left.invariant.2 in
     let long = t.requires.1 in
@@ -29,27 +29,27 @@ some t =
     (omega arith, omega arith, omega arith, omega arith)
 
 -- they can be read
-eights : (t : After-at_most-block) (rs : List (List ℕ)) →
+eights : (t : After-min-block) (rs : List (List ℕ)) →
     let a = t.args in
     CellsAt a.text.now a.at a.cells rs
-    → EightsAt a.text.now t.loop-left.p t.at_most-block.result (drop (a.cells - t.loop-left.left) rs)
+    → EightsAt a.text.now t.loop-left.p t.min-block.result (drop (a.cells - t.loop-left.left) rs)
 eights t rs C =
     let few = some t in
     let number = C.number in
-    let enough : t.args.cells - t.loop-left.left + t.at_most-block.result ≤ length rs = omega arith in
+    let enough : t.args.cells - t.loop-left.left + t.min-block.result ≤ length rs = omega arith in
     eights_at rs _ _ _ _ (t.loop-left.invariant.0 rs C).1 C.eight enough
 
 -- those that were read
 part : (c : After-repeated) (rs : List (List ℕ)) →
     let a = c.args in
     CellsAt a.text.now a.at a.cells rs
-    → c.repeated.result ≡ not (all_once (take c.at_most-block.result (drop (a.cells - c.loop-left.left) rs)))
+    → c.repeated.result ≡ not (all_once (take c.min-block.result (drop (a.cells - c.loop-left.left) rs)))
 part c rs C =
-    let few = some (goal.at.After-repeated c).After-at_most-block in
+    let few = some (goal.at.After-repeated c).After-min-block in
     let number = C.number in
-    let E = c.read_rows-p.ensures _ (eights (goal.at.After-repeated c).After-at_most-block rs C) in
+    let E = c.read_rows-p.ensures _ (eights (goal.at.After-repeated c).After-min-block rs C) in
     let same = E.same in
-    let enough : c.args.cells - c.loop-left.left + c.at_most-block.result ≤ length rs = omega arith in
+    let enough : c.args.cells - c.loop-left.left + c.min-block.result ≤ length rs = omega arith in
     c.repeated.ensures _ (part_held rs _ _ enough _ _ _ _ (omega arith) E) (part_long rs _ _ enough)
 
 pub loop-left-init : goal.loop-left-init
@@ -59,38 +59,38 @@ loop-left-init c =
 
 pub read_rows-p-requires : goal.read_rows-p-requires
 read_rows-p-requires c =
-    let few = some (goal.at.read_rows-p-requires c).After-at_most-block in
+    let few = some (goal.at.read_rows-p-requires c).After-min-block in
     let C = c.requires.0 in
-    ((_, eights (goal.at.read_rows-p-requires c).After-at_most-block _ C.is), few.1)
+    ((_, eights (goal.at.read_rows-p-requires c).After-min-block _ C.is), few.1)
 
 pub repeated-requires : goal.repeated-requires
-repeated-requires c = let few = some (goal.at.repeated-requires c).After-at_most-block in search rules
+repeated-requires c = let few = some (goal.at.repeated-requires c).After-min-block in search rules
 
 pub returns-then-repeated : goal.returns-then-repeated
 returns-then-repeated c = λ rs C.
-    let few = some (goal.at.returns-then-repeated c).After-at_most-block in
+    let few = some (goal.at.returns-then-repeated c).After-min-block in
     let number = C.number in
-    let enough : c.args.cells - c.loop-left.left + c.at_most-block.result ≤ length rs = omega arith in
+    let enough : c.args.cells - c.loop-left.left + c.min-block.result ≤ length rs = omega arith in
     sym (ap not (twice_here rs _ _ enough (not-true _ (sym (part (goal.at.returns-then-repeated c).After-repeated rs C) ∙ c.if-repeated.true))))
 
 pub overflow_sub-left : goal.overflow_sub-left
-overflow_sub-left c = (some (goal.at.overflow_sub-left c).After-at_most-block).2
+overflow_sub-left c = (some (goal.at.overflow_sub-left c).After-min-block).2
 
 pub loop-left-smaller : goal.loop-left-smaller
-loop-left-smaller c = let few = some (goal.at.loop-left-smaller c).After-at_most-block in omega arith
+loop-left-smaller c = let few = some (goal.at.loop-left-smaller c).After-min-block in omega arith
 
 pub loop-left-preserved : goal.loop-left-preserved
 loop-left-preserved c =
     let (state, low, same) = c.loop-left.invariant in
-    let few = some (goal.at.loop-left-preserved c).After-at_most-block in
+    let few = some (goal.at.loop-left-preserved c).After-min-block in
     let cells = c.args.cells in
-    let more : cells - c.loop-left.left + c.at_most-block.result ≡ cells - (c.loop-left.left - c.at_most-block.result) = omega arith in (
+    let more : cells - c.loop-left.left + c.min-block.result ≡ cells - (c.loop-left.left - c.min-block.result) = omega arith in (
       λ rs C.
           let number = C.number in
-          let enough : cells - c.loop-left.left + c.at_most-block.result ≤ length rs = omega arith in (
+          let enough : cells - c.loop-left.left + c.min-block.result ≤ length rs = omega arith in (
             subst (OnceUpto rs) more (twice_more rs _ _ enough (state rs C).0 (not-false _ (sym (part (goal.at.loop-left-preserved c).After-repeated rs C) ∙ c.if-repeated.false))),
             subst (λ (n : ℕ). RowsAt c.args.text.now c.read_rows-p.result (drop n rs)) more
-                (read_left rs _ _ _ _ _ _ (c.read_rows-p.ensures _ (eights (goal.at.loop-left-preserved c).After-at_most-block rs C))),
+                (read_left rs _ _ _ _ _ _ (c.read_rows-p.ensures _ (eights (goal.at.loop-left-preserved c).After-min-block rs C))),
           ),
       omega arith,
       search rules,

@@ -7,10 +7,10 @@ unfolding hash_of lowest highest mixed
 returns c =
     rw (
       c.mixed.ensures,
-      c.lower-least.ensures,
-      c.lower-2.ensures,
-      c.lower.ensures,
-      c.higher-greatest.ensures,
-      c.higher-2.ensures,
-      c.higher.ensures,
+      c.min-least.ensures,
+      c.min-2.ensures,
+      c.min.ensures,
+      c.max-greatest.ensures,
+      c.max-2.ensures,
+      c.max.ensures,
     )

@@ -1,23 +1,25 @@
 use Prim.Native.Nat.{ℕ, ◌+◌, ◌*◌, ◌-◌, ◌≤◌, ◌<◌}
-use mathlib.Core.Path.{◌≡◌, refl}
+use mathlib.Core.Path.{◌≡◌, refl, ap}
 use mathlib.Core.List.{List}
 use native.Mathlib.Omega.{arith}
 use borrow.Author.Rules.{rules}
 use lib.ListN.{drop}
 use Rattle.vtk_rows.specs.Rows.{EightsRead}
-use Rattle.vtk_faces.specs.Judged.{Ran}
+use Rattle.vtk_faces.specs.Judged.{order_number, number_found, Ran}
 use Rattle.vtk_faces.specs.Texts.{face_from, Rest}
+use Rattle.std.proofs.lemmas.Result.{err_from_is_err_and}
+use Rattle.vtk_faces.proofs.Blocks.{no_third}
 use Rattle.vtk_faces.proofs.Resting.{resting_none, resting_eights, resting_chunk, resting_more, resting_three, resting_all}
 use Rattle.vtk_faces.proofs.judge_rest.Goals as goal
-use Rattle.vtk_faces.proofs.judge_rest.Goals.{After-at_most-some, After-later_faces-other, After-read_rows-p}
+use Rattle.vtk_faces.proofs.judge_rest.Goals.{After-min-some, After-later_faces, After-read_rows-p}
 
 -- some of the cells that are left
-some : (t : After-at_most-some) →
+some : (t : After-min-some) →
     let cells = t.args.cells in
-    let n = t.at_most-some.result in
-    (0 < n) × (n ≤ 64) × (n ≤ t.loop-left.left) × (cells - t.loop-left.left + n ≤ cells)
+    let n = t.min-some.result in
+    (0 < n) × (n ≤ 24) × (n ≤ t.loop-left.left) × (cells - t.loop-left.left + n ≤ cells)
 some t =
-    let e = t.at_most-some.ensures in
+    let e = t.min-some.ensures in
     let low = t.loop-left.invariant.1 in
     let left = t.loop-left-test.true in
     (omega arith, omega arith, omega arith, omega arith)
@@ -25,21 +27,21 @@ some t =
 -- their rows
 read : (c : After-read_rows-p) (rs : List (List ℕ)) (d k : ℕ) →
     let a = c.args in
-    Rest rs d k a.rows.now a.heads.now a.nexts.now a.mates.now a.before a.text.now a.at a.cells
-    → EightsRead a.text.now c.at_most-some.result (drop (d + k + (a.cells - c.loop-left.left)) rs) c.loop-left.chunk
+    Rest rs d k a.block.now.rows.now a.block.now.heads.now a.block.now.nexts.now a.mates.now (order_number a.before) a.text.now a.at a.cells
+    → EightsRead a.text.now c.min-some.result (drop (d + k + (a.cells - c.loop-left.left)) rs) c.loop-left.chunk
     c.read_rows-p.new.rows c.read_rows-p.result
 read c rs d k R =
-    c.read_rows-p.ensures _ (resting_eights rs d k _ _ _ _ _ _ _ _ R _ _ _ _ _ (c.loop-left.invariant.0 rs d k R) (some (goal.at.After-read_rows-p c).After-at_most-some).3)
+    c.read_rows-p.ensures _ (resting_eights rs d k _ _ _ _ _ _ _ _ R _ _ _ _ _ (c.loop-left.invariant.0 rs d k R) (some (goal.at.After-read_rows-p c).After-min-some).3)
 
 -- what was found of them
-ran : (c : After-later_faces-other) (rs : List (List ℕ)) (d k : ℕ) →
+ran : (c : After-later_faces) (rs : List (List ℕ)) (d k : ℕ) →
     let a = c.args in
-    Rest rs d k a.rows.now a.heads.now a.nexts.now a.mates.now a.before a.text.now a.at a.cells
-    → Ran (face_from rs d) (6 * k) (6 * k + 6 * (a.cells - c.loop-left.left) + 6 * c.at_most-some.result)
-    c.later_faces-other.new.mates c.later_faces-other.result
+    Rest rs d k a.block.now.rows.now a.block.now.heads.now a.block.now.nexts.now a.mates.now (order_number a.before) a.text.now a.at a.cells
+    → Ran (face_from rs d) (6 * k) (6 * k + 6 * (a.cells - c.loop-left.left) + 6 * c.min-some.result)
+    c.later_faces.new.mates (number_found c.later_faces.result)
 ran c rs d k R =
-    c.later_faces-other.ensures _ _ _
-    (resting_chunk rs d k _ _ _ _ _ _ _ _ R _ _ _ _ _ (c.loop-left.invariant.0 rs d k R) (some (goal.at.After-later_faces-other c).After-at_most-some).3 _ _ _ (read (goal.at.After-later_faces-other c).After-read_rows-p rs d k R))
+    c.later_faces.ensures _ _ _
+    (resting_chunk rs d k _ _ _ _ _ _ _ _ R _ _ _ _ _ (c.loop-left.invariant.0 rs d k R) (some (goal.at.After-later_faces c).After-min-some).3 _ _ _ (read (goal.at.After-later_faces c).After-read_rows-p rs d k R))
 
 pub loop-left-init : goal.loop-left-init
 loop-left-init c =
@@ -49,7 +51,7 @@ loop-left-init c =
 pub read_rows-p-requires : goal.read_rows-p-requires
 read_rows-p-requires c =
     let S = c.requires.1 in
-    let few = some (goal.at.read_rows-p-requires c).After-at_most-some in
+    let few = some (goal.at.read_rows-p-requires c).After-min-some in
     let long = c.loop-left.invariant.3 in
     ((_, resting_eights _ _ _ _ _ _ _ _ _ _ _ S.is _ _ _ _ _ (c.loop-left.invariant.0 _ _ _ S.is) few.3), omega arith)
 
@@ -60,12 +62,12 @@ slice_bounds-later_faces-end c =
     let same = (read (goal.at.slice_bounds-later_faces-end c).After-read_rows-p _ _ _ S.is).same in
     omega arith
 
-pub later_faces-other-requires : goal.later_faces-other-requires
-later_faces-other-requires c =
+pub later_faces-requires : goal.later_faces-requires
+later_faces-requires c =
     let S = c.requires.1 in
-    let few = some (goal.at.later_faces-other-requires c).After-at_most-some in
+    let few = some (goal.at.later_faces-requires c).After-min-some in
     let long = c.loop-left.invariant.3 in
-    let E = read (goal.at.later_faces-other-requires c).After-read_rows-p _ _ _ S.is in
+    let E = read (goal.at.later_faces-requires c).After-read_rows-p _ _ _ S.is in
     let same = E.same in (
       c.requires.0,
       omega arith,
@@ -77,27 +79,28 @@ later_faces-other-requires c =
       },
     )
 
-pub returns-then-other-eq22 : goal.returns-then-other-eq22
-returns-then-other-eq22 c = λ rs d k R.
-    resting_three rs d k _ _ _ _ _ _ _ _ R _ _ _ _ _ (c.loop-left.invariant.0 rs d k R) (some (goal.at.returns-then-other-eq22 c).After-at_most-some).3 _ _ _ (read (goal.at.returns-then-other-eq22 c).After-read_rows-p rs d k R) _ _
-    (ran (goal.at.returns-then-other-eq22 c).After-later_faces-other rs d k R) c.if-other-eq22.true
+pub returns-in_err-same : goal.returns-in_err-same
+returns-in_err-same c = λ rs d k R.
+    let p = err_from_is_err_and c.from_residual.result c.from_residual.ensures.1 in
+    rw p.1 (resting_three rs d k _ _ _ _ _ _ _ _ R _ _ _ _ _ (c.loop-left.invariant.0 rs d k R) (some (goal.at.returns-in_err-same c).After-min-some).3 _ _ _ (read (goal.at.returns-in_err-same c).After-read_rows-p rs d k R) _ _
+    (ran (goal.at.returns-in_err-same c).After-later_faces rs d k R) (ap number_found c.in_err-same.was))
 
 pub overflow_sub-left : goal.overflow_sub-left
-overflow_sub-left c = (some (goal.at.overflow_sub-left c).After-at_most-some).2
+overflow_sub-left c = (some (goal.at.overflow_sub-left c).After-min-some).2
 
 pub loop-left-smaller : goal.loop-left-smaller
-loop-left-smaller c = let few = some (goal.at.loop-left-smaller c).After-at_most-some in omega arith
+loop-left-smaller c = let few = some (goal.at.loop-left-smaller c).After-min-some in omega arith
 
 pub loop-left-preserved : goal.loop-left-preserved
 loop-left-preserved c =
     let (state, low, mates, chunk) = c.loop-left.invariant in
-    let few = some (goal.at.loop-left-preserved c).After-at_most-some in
+    let few = some (goal.at.loop-left-preserved c).After-min-some in
     let cells = c.args.cells in
     let S = c.requires.1 in
     let same = (read (goal.at.loop-left-preserved c).After-read_rows-p _ _ _ S.is).same in
-    let more : cells - c.loop-left.left + c.at_most-some.result ≡ cells - (c.loop-left.left - c.at_most-some.result) = omega arith in (
+    let more : cells - c.loop-left.left + c.min-some.result ≡ cells - (c.loop-left.left - c.min-some.result) = omega arith in (
       λ rs d k R. rw more at (resting_more rs d k _ _ _ _ _ _ _ _ R _ _ _ _ _ (state rs d k R) few.3 _ _ _ (read (goal.at.loop-left-preserved c).After-read_rows-p rs d k R)
-          _ _ (ran (goal.at.loop-left-preserved c).After-later_faces-other rs d k R) c.if-other-eq22.false),
+          _ _ (rw c.in_ok-same.was at (ran (goal.at.loop-left-preserved c).After-later_faces rs d k R)) (no_third _)),
       omega arith,
       search rules,
       omega arith,

@@ -8,18 +8,9 @@ use Rattle.vtk_faces.proofs.repeated.Goals as goal
 pub loop-c-init : goal.loop-c-init
 loop-c-init c = (λ k l. absurd (omega arith), omega arith)
 
-pub repeats-requires : goal.repeats-requires
-repeats-requires c = let long = c.requires in omega arith
-
 pub returns-then-repeats : goal.returns-then-repeats
 returns-then-repeats c = λ rs H n.
     sym (ap not (held_twice _ rs H c.loop-c.c (omega arith) (sym c.repeats.ensures ∙ c.if-repeats.true)))
-
-pub overflow_step-c : goal.overflow_step-c
-overflow_step-c c = omega arith
-
-pub loop-c-smaller : goal.loop-c-smaller
-loop-c-smaller c = omega arith
 
 pub loop-c-preserved : goal.loop-c-preserved
 loop-c-preserved c =

@@ -1,5 +1,5 @@
--- `vtk_form::eights_beside` meets its contract. The loop's invariant: i rows and types are passed (`Beside`).
-use Prim.Native.Nat.{ℕ, ◌-◌, ◌≤◌, ◌<◌}
+-- `vtk_form::eights_beside` meets its contract. The loop's invariant: `counter` rows and types are passed (`Beside`).
+use Prim.Native.Nat.{ℕ, ◌≤◌, ◌<◌}
 use mathlib.Core.Path.{◌≡◌}
 use mathlib.Core.List.{List}
 use mathlib.Core.Option.{some}
@@ -10,12 +10,9 @@ use Rattle.vtk_words.specs.Words.{large}
 use Rattle.vtk_form.proofs.Beside.{Beside}
 use Rattle.vtk_form.proofs.eights_beside.Given as goal
 
-abbrev pub invariant-loop-i : goal.invariant-loop-i
-invariant-loop-i l =
-    (l.i ≤ l.n) × (l.p ≤ length l.text) × (l.q ≤ length l.text)
+abbrev pub invariant-loop : goal.invariant-loop
+invariant-loop l =
+    (l.counter ≤ l.n) × (l.p ≤ length l.text) × (l.q ≤ length l.text)
     × ((rows : List (List ℕ)) → (size : ℕ) → size < large → rows_from l.n size (words (drop l.at l.text)) ≡ some rows
     → (ts : List ℕ) → numbers l.n (words (drop l.first l.text)) ≡ some ts
-    → Beside l.n l.i (words (drop l.p l.text)) (words (drop l.q l.text)) rows ts)
-
-abbrev pub decreases-loop-i : goal.decreases-loop-i
-decreases-loop-i l = l.n - l.i
+    → Beside l.n l.counter (words (drop l.p l.text)) (words (drop l.q l.text)) rows ts)

@@ -4,7 +4,4 @@ use Rattle.vtk_form.proofs.Beside.{eights_all}
 use Rattle.vtk_form.proofs.eights_hold.Goals as goal
 
 pub returns-then-eight : goal.returns-then-eight
-returns-then-eight c = λ rows _ _ _ ts _ eight. sym (eights_all rows ts (sym eight ∙ c.if-eight.true))
-
-pub returns : goal.returns
-returns c = λ rows size low read ts types _. c.eights_beside.ensures rows size low read ts types
+returns-then-eight c = λ rows _ _ _ ts _ eight. c.if-eight.true ∙ sym (eights_all rows ts (sym eight ∙ c.if-eight.true))

@@ -1,57 +1,50 @@
+use Prim.Native.Nat.{ℕ, ◌+◌, ◌-◌, ◌≤◌, ◌<◌}
+use mathlib.Core.List.{List}
 use mathlib.Core.Path.{◌≡◌}
 use native.Mathlib.Omega.{arith}
-use lib.ListN.{length-set}
-use Rattle.vtk_words.proofs.Told.{number_at_lem, number_unfit}
+use lib.ListN.{length, take, drop, length-take, length-drop, length-set}
+use Rattle.vtk_words.proofs.Told.{number_refused}
 use Rattle.vtk_rows.proofs.Reading.{going_start, going_next, going_more, going_read}
 use Rattle.vtk_rows.proofs.read_row.Goals as goal
+use Rattle.vtk_rows.proofs.read_row.Goals.{In-loop-word}
 
-pub loop-i-init : goal.loop-i-init
-loop-i-init c =
+buffer_long : (base : ℕ) (rows : List ℕ) → base + 8 ≤ length rows → length (take (base + 8 - base) (drop base rows)) ≡ 8
+buffer_long base rows room = simp (length-take, length-drop) (omega arith)
+
+inside : (c : In-loop-word) → c.loop-word.word-index < 8
+inside c = let low = c.loop-word-test.true in omega (arith, buffer_long c.args.base c.args.rows.now c.requires.2)
+
+pub loop-word-init : goal.loop-word-init
+loop-word-init c =
     let a = c.args in
-    (omega arith, omega arith, omega arith, λ row h. going_start a.text.now a.at row a.rows.now a.base h)
+    (omega arith, c.requires.0, buffer_long a.base a.rows.now c.requires.2, λ row h. going_start a.text.now a.at row _ 0 h)
 
-pub number_at-requires : goal.number_at-requires
-number_at-requires c = omega arith
-
-pub returns-in_default : goal.returns-in_default
-returns-in_default c =
-    let a = c.args in record {
-      high = c.loop-i.invariant.1;
-      read = λ row h.
-          let g = c.loop-i.invariant.3 row h in
-          let (d, e, few) = going_next a.text.now a.at row a.rows.now a.base c.loop-i.rows c.loop-i.p c.loop-i.i (omega arith) g h in
-          let high = number_unfit a.text.now _ c.number_at.result c.in_default.not-Value c.number_at.ensures d e in
-          absurd (omega arith);
-    }
-
-pub overflow_add-rows : goal.overflow_add-rows
-overflow_add-rows c = omega arith
-
-pub offset_bounds-rows-base : goal.offset_bounds-rows-base
-offset_bounds-rows-base c = omega arith
-
-pub bounds-rows-base : goal.bounds-rows-base
-bounds-rows-base c = omega arith
-
-pub overflow_add-i : goal.overflow_add-i
-overflow_add-i c = omega arith
-
-pub loop-i-smaller : goal.loop-i-smaller
-loop-i-smaller c = omega arith
-
-pub loop-i-preserved : goal.loop-i-preserved
-loop-i-preserved c =
+pub returns-in_default-clause-read : goal.returns-in_default-clause-read
+returns-in_default-clause-read c row h =
     let a = c.args in
-    let (high, first, _) = number_at_lem a.text.now _ c.in-Value.is c.number_at.ensures in (
+    let g = c.loop-word.invariant.3 row h in
+    let (d, e, few) = going_next a.text.now a.at row _ 0 c.loop-word.word-items c.loop-word.p c.loop-word.word-index (inside (goal.at.returns-in_default-clause-read c).In-loop-word) g h in
+    let high = number_refused a.text.now _ c.in_default.field-0 c.in_default.ensures d e in
+    absurd (omega arith)
+
+pub loop-word-preserved : goal.loop-word-preserved
+loop-word-preserved c =
+    let a = c.args in
+    let (high, first, _) = c.in-Ok.ensures in
+    let i : ℕ = c.loop-word.word-index in
+    let low : i < 8 = inside (goal.at.loop-word-preserved c).In-loop-word in
+    let long : length c.loop-word.word-items ≡ 8 = c.loop-word.invariant.2 in (
       omega arith,
       high,
-      simp length-set (omega arith),
-      λ row h. going_more a.text.now a.at row a.rows.now a.base c.loop-i.rows c.loop-i.p c.loop-i.i (omega arith)
-          (c.loop-i.invariant.3 row h) h _ _ first (omega arith),
+      simp length-set (c.loop-word.invariant.2),
+      λ row h.
+          let here : 0 + i ≡ i = omega arith in
+          rw here at (going_more a.text.now a.at row _ 0 c.loop-word.word-items c.loop-word.p i (omega arith) (c.loop-word.invariant.3 row h) h _ _ first (omega arith)),
     )
 
-pub returns : goal.returns
-returns c =
+pub returns-clause-read : goal.returns-clause-read
+returns-clause-read c row h =
     let a = c.args in
-    let all : c.loop-i.i ≡ 8 = omega arith in
-    record { high = c.loop-i.invariant.1; read = λ row h. going_read a.text.now a.at row a.rows.now a.base c.loop-i.rows c.loop-i.p (rw all at (c.loop-i.invariant.3 row h)) }
+    let high = c.loop-word.invariant.0 in
+    let end : c.loop-word.word-index ≡ 8 = omega (arith, buffer_long a.base a.rows.now c.requires.2, c.loop-word-test.false) in
+    going_read a.text.now a.at row a.rows.now a.base c.requires.2 c.loop-word.invariant.2 end (c.loop-word.invariant.3 row h)

@@ -2,7 +2,7 @@ use mathlib.Core.Path.{◌≡◌}
 use mathlib.Core.List.{[]}
 use native.Mathlib.Omega.{arith}
 use lib.ListN.{get_or}
-use Rattle.vtk_words.proofs.Told.{number_at_lem, number_unfit}
+use Rattle.vtk_words.proofs.Told.{number_refused}
 use Rattle.vtk_rows.proofs.Rows.{along_start, along_next, along_row, along_more, along_read}
 use Rattle.vtk_rows.proofs.read_rows.Goals as goal
 
@@ -15,38 +15,26 @@ loop-c-init c =
       λ rs h. along_start a.text.now a.at a.k rs h a.rows.now,
     )
 
-pub number_at-requires : goal.number_at-requires
-number_at-requires c = omega arith
-
 pub returns-in_default : goal.returns-in_default
 returns-in_default c = λ rs h.
     let a = c.args in
     let (d, e, eight) = along_next a.text.now a.at a.k rs h a.rows.now c.loop-c.rows c.loop-c.p c.loop-c.c (omega arith) (c.loop-c.invariant.3 rs h) in
-    let high = number_unfit a.text.now _ c.number_at.result c.in_default.not-Value c.number_at.ensures d e in
+    let high = number_refused a.text.now _ c.in_default.field-0 c.in_default.ensures d e in
     absurd (omega arith)
-
-pub overflow_mul-c : goal.overflow_mul-c
-overflow_mul-c c = omega arith
 
 pub read_row-p-requires : goal.read_row-p-requires
 read_row-p-requires c =
     let a = c.args in
     let (rs, h) = c.requires.0 in
-    let (high, long, _) = number_at_lem a.text.now _ c.in-Value.is c.number_at.ensures in
+    let (high, long, _) = c.in-Ok.ensures in
     let row = along_row a.text.now a.at a.k rs h a.rows.now c.loop-c.rows c.loop-c.p c.loop-c.c (omega arith)
     (c.loop-c.invariant.3 rs h) _ _ long in
     (high, (get_or rs c.loop-c.c [], row), omega arith)
 
-pub overflow_add-c : goal.overflow_add-c
-overflow_add-c c = omega arith
-
-pub loop-c-smaller : goal.loop-c-smaller
-loop-c-smaller c = omega arith
-
 pub loop-c-preserved : goal.loop-c-preserved
 loop-c-preserved c =
     let a = c.args in
-    let (high, long, _) = number_at_lem a.text.now _ c.in-Value.is c.number_at.ensures in
+    let (high, long, _) = c.in-Ok.ensures in
     let kept = c.read_row-p.auto.rows in (
       omega arith,
       c.read_row-p.ensures.high,

@@ -48,20 +48,11 @@ overflow_add-w c =
     let long = c.slice_known-1.given in
     search rules
 
-pub bounds-words-y : goal.bounds-words-y
-bounds-words-y c = omega arith
-
 pub overflow_mul-cell : goal.overflow_mul-cell
 overflow_mul-cell c = let few = cell_few (goal.at.overflow_mul-cell c).At-loop-i in omega arith
 
 pub overflow_add-words : goal.overflow_add-words
 overflow_add-words c = let few = cell_few (goal.at.overflow_add-words c).At-loop-i in omega (arith, entry_is (goal.at.overflow_add-words c).At-loop-i (omega arith))
-
-pub bounds-words-y-in-loop-i : goal.bounds-words-y-in-loop-i
-bounds-words-y-in-loop-i c = omega arith
-
-pub bounds-words-y-in-loop-i-2 : goal.bounds-words-y-in-loop-i-2
-bounds-words-y-in-loop-i-2 c = omega arith
 
 pub overflow_add-words-in-loop-i : goal.overflow_add-words-in-loop-i
 overflow_add-words-in-loop-i c =

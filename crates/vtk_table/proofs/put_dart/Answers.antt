@@ -9,12 +9,6 @@ use Rattle.vtk_table.proofs.Placing.{placed_at, placed_more}
 use Rattle.vtk_table.proofs.put_dart.Goals as goal
 use Rattle.vtk_table.proofs.put_dart.Goals.{At-loop-i}
 
-pub overflow_add-x : goal.overflow_add-x
-overflow_add-x c = omega arith
-
-pub overflow_mul-x : goal.overflow_mul-x
-overflow_mul-x c = omega arith
-
 new_is : (l : At-loop-i) (low : l.loop-i.i < 4) → get_or l.args.own.now (4 * l.args.k + l.loop-i.i) 0 + get_or (shifts l.args.cell l.args.third) l.loop-i.i 0
     ≡ get_or (dart_links l.args.cell l.args.third l.args.k) l.loop-i.i 0
 new_is l low =
@@ -26,17 +20,11 @@ new_is l low =
 pub loop-i-init : goal.loop-i-init
 loop-i-init c = (omega arith, refl, λ t u P after. placed_at (omega arith) P)
 
-pub bounds-own-k : goal.bounds-own-k
-bounds-own-k c = omega arith
-
 pub overflow_add-table-in-loop-i : goal.overflow_add-table-in-loop-i
 overflow_add-table-in-loop-i c =
     let small = links_few c.args.k c.requires.1 c.args.cell c.args.third (omega arith) (omega arith)
     c.loop-i.i (omega arith) in
     omega (arith, new_is (goal.at.overflow_add-table-in-loop-i c).At-loop-i (omega arith))
-
-pub bounds-table-x : goal.bounds-table-x
-bounds-table-x c = let same = c.loop-i.invariant.1 in omega arith
 
 pub loop-i-preserved : goal.loop-i-preserved
 unfolding link

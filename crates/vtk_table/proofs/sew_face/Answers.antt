@@ -10,12 +10,6 @@ use Rattle.vtk_table.proofs.Partners.{sews_none, sews_more}
 use Rattle.vtk_table.proofs.sew_face.Goals as goal
 use Rattle.vtk_table.proofs.sew_face.Goals.{In-loop-i}
 
-pub overflow_mul-cell : goal.overflow_mul-cell
-overflow_mul-cell c = omega arith
-
-pub overflow_mul-there : goal.overflow_mul-there
-overflow_mul-there c = omega arith
-
 pub loop-i-init : goal.loop-i-init
 loop-i-init c = (omega arith, c.requires.0, λ g h. sews_none g _ _)
 
@@ -34,12 +28,6 @@ to_is c = c.requires.1 _ (omega arith) ∙ step_place_lem (c.args.r % 48) c.loop
 to_low : (c : In-loop-i) → face_walk c.loop-i.i (walk_at (c.args.r % 48)) < 48
 to_low c = walk_low c.loop-i.i _ (place_low (c.args.r % 48) (omega arith))
 
-pub overflow_add-d : goal.overflow_add-d
-overflow_add-d c = omega arith
-
-pub bounds-steps-there : goal.bounds-steps-there
-bounds-steps-there c = omega arith
-
 pub overflow_cast-d : goal.overflow_cast-d
 overflow_cast-d c = omega (arith, to_is (goal.at.overflow_cast-d c).In-loop-i, to_low (goal.at.overflow_cast-d c).In-loop-i)
 
@@ -48,9 +36,6 @@ overflow_add-thirds c = omega (arith, to_is (goal.at.overflow_add-thirds c).In-l
 
 pub overflow_cast-thirds : goal.overflow_cast-thirds
 overflow_cast-thirds c = omega (arith, to_is (goal.at.overflow_cast-thirds c).In-loop-i, to_low (goal.at.overflow_cast-thirds c).In-loop-i)
-
-pub bounds-steps-f : goal.bounds-steps-f
-bounds-steps-f c = omega arith
 
 pub overflow_cast-thirds-in-loop-i : goal.overflow_cast-thirds-in-loop-i
 overflow_cast-thirds-in-loop-i c = omega (arith, here_is (goal.at.overflow_cast-thirds-in-loop-i c).In-loop-i, here_low (goal.at.overflow_cast-thirds-in-loop-i c).In-loop-i)

@@ -10,9 +10,6 @@ use Rattle.vtk_table.proofs.Places.{step_low, step_first, step_along, step_next}
 use Rattle.vtk_table.proofs.step_at.Goals as goal
 use Rattle.vtk_table.proofs.step_at.Goals.{After-cell_link, After-cell_link-arg-1, After-face_dart}
 
-pub face_dart-requires : goal.face_dart-requires
-face_dart-requires c = omega arith
-
 -- the result is right, so it is low
 first_is : (c : After-face_dart) → c.face_dart.result ≡ step_at c.args.y
 first_is c = c.face_dart.ensures ∙ step_first _ c.if-y-eq0.true
@@ -26,21 +23,9 @@ overflow_cast-result c =
 pub returns-then-y-eq0 : goal.returns-then-y-eq0
 returns-then-y-eq0 c = first_is c
 
-pub bounds-steps-y : goal.bounds-steps-y
-bounds-steps-y c = omega arith
-
 pub returns-then-y-eq0-2 : goal.returns-then-y-eq0-2
 returns-then-y-eq0-2 c =
     c.requires.1 _ (let other = c.if-y-eq0.false in omega arith) ∙ step_along c.args.y c.if-y-eq0-2.true
-
-pub overflow_sub-y : goal.overflow_sub-y
-overflow_sub-y c = let some = c.if-y-eq0-2.false in omega arith
-
-pub overflow_sub-y-2 : goal.overflow_sub-y-2
-overflow_sub-y-2 c = let some = c.if-y-eq0-2.false in omega arith
-
-pub bounds-steps-y-2 : goal.bounds-steps-y-2
-bounds-steps-y-2 c = omega arith
 
 -- the dart before
 before_is : (c : After-cell_link-arg-1) → get_or c.args.steps.now (c.args.y - 1) 0 ≡ step_at (c.args.y - 1)

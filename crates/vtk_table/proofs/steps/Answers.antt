@@ -11,9 +11,6 @@ loop-y-init c = (λ z low. absurd (omega arith), omega arith, refl)
 pub step_at-requires : goal.step_at-requires
 step_at-requires c = (omega arith, c.loop-y.invariant.0)
 
-pub bounds-steps-y : goal.bounds-steps-y
-bounds-steps-y c = omega arith
-
 pub loop-y-preserved : goal.loop-y-preserved
 loop-y-preserved c =
     let long = c.loop-y.invariant.2 in (

@@ -26,9 +26,6 @@ here : (l : At-loop-k) → let a = l.args in
     × Pass (pre l).t (pre l).u (pre l).j (48 * a.c + k) (a.w + 12 * k) l.loop-k.journal
 here l = l.loop-k.invariant.1 _ _ _ (pre l).placed (pre l).pass (pre l).new
 
-pub bounds-thirds-k : goal.bounds-thirds-k
-bounds-thirds-k c = omega arith
-
 pub overflow_add-w : goal.overflow_add-w
 overflow_add-w c =
     let p = pre (goal.at.overflow_add-w c).At-loop-k in

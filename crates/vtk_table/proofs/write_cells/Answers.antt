@@ -13,9 +13,6 @@ use Rattle.vtk_table.proofs.Drafting.{cells_none, cells_new, cells_word, cells_a
 use Rattle.vtk_table.proofs.write_cells.Goals as goal
 use Rattle.vtk_table.proofs.write_cells.Goals.{After-sew_cell}
 
-pub bounds-journal-0 : goal.bounds-journal-0
-bounds-journal-0 c = let rule = c.requires.are.rule.long in omega arith
-
 pub overflow_cast-w : goal.overflow_cast-w
 overflow_cast-w c = omega (arith, c.slice_known-3-1.given 0)
 

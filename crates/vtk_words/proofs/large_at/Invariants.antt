@@ -1,14 +1,10 @@
 -- `vtk_words::large_at` meets its contract. The loop's invariant: what was too large is so with the digits passed.
-use Prim.Native.Nat.{ℕ, ◌≤◌, ◌-◌}
+use Prim.Native.Nat.{ℕ, ◌≤◌}
 use mathlib.Core.Path.{◌≡◌}
-use lib.ListN.{length, drop}
+use lib.ListN.{drop}
 use Rattle.vtk_words.specs.Words.{digits_on, large}
 use Rattle.vtk_words.proofs.large_at.Given as goal
 
 abbrev pub invariant-loop-k : goal.invariant-loop-k
 invariant-loop-k l =
-    (l.k ≤ length l.text)
-    × ((v : ℕ) → large ≤ v → (u : ℕ) × (large ≤ u) × (digits_on v (drop l.at l.text) ≡ digits_on u (drop l.k l.text)))
-
-abbrev pub decreases-loop-k : goal.decreases-loop-k
-decreases-loop-k l = length l.text - l.k
+    (v : ℕ) → large ≤ v → (u : ℕ) × (large ≤ u) × (digits_on v (drop l.at l.text) ≡ digits_on u (drop l.k l.text))

@@ -7,8 +7,8 @@ use Rattle.model.specs.Vtk.{words}
 use Rattle.vtk_words.proofs.Passing.{end_none, first_of}
 use Rattle.vtk_words.proofs.skip_few.Goals as goal
 
-pub loop-k-init : goal.loop-k-init
-loop-k-init c =
+pub loop-init : goal.loop-init
+loop-init c =
     let a = c.args in
     let all : a.n ≡ a.n - 0 = omega arith in
     (omega arith, omega arith, ap (λ (k : ℕ). drop k (words (drop a.at a.text.now))) all)
@@ -21,32 +21,26 @@ returns-then-start-text c =
     let none = end_none text c.word_start-start.result (omega arith) in
     record {
       high = begins.high;
-      same = c.loop-k.invariant.2 ∙ ap (drop (a.n - c.loop-k.k)) (begins.same ∙ none) ∙ drop-nil (a.n - c.loop-k.k) ∙ sym none;
+      same = c.loop.invariant.2 ∙ ap (drop (a.n - c.loop.counter)) (begins.same ∙ none) ∙ drop-nil (a.n - c.loop.counter) ∙ sym none;
     }
 
-pub overflow_add-k : goal.overflow_add-k
-overflow_add-k c = omega arith
-
-pub loop-k-smaller : goal.loop-k-smaller
-loop-k-smaller c = omega arith
-
-pub loop-k-preserved : goal.loop-k-preserved
-loop-k-preserved c =
+pub loop-preserved : goal.loop-preserved
+loop-preserved c =
     let a = c.args in
     let text = a.text.now in
     let begins = c.word_start-start.ensures in
     let ends = c.word_end-p.ensures in
     let start = c.word_start-start.result in
     let low : start < length text = let h = begins.high in let q = c.if-start-text.false in omega arith in
-    let first = first_of text c.loop-k.p start c.word_end-p.result begins ends low in
-    let more : a.n - c.loop-k.k ≡ suc (a.n - (c.loop-k.k + 1)) = omega arith in
-    (omega arith, ends.high, c.loop-k.invariant.2 ∙ rw (first, more))
+    let first = first_of text c.loop.p start c.word_end-p.result begins ends low in
+    let more : a.n - c.loop.counter ≡ suc (a.n - (c.loop.counter + 1)) = omega arith in
+    (omega arith, ends.high, c.loop.invariant.2 ∙ rw (first, more))
 
 pub returns : goal.returns
 returns c =
     let a = c.args in
-    let done : a.n - c.loop-k.k ≡ 0 = omega arith in
+    let done : a.n - c.loop.counter ≡ 0 = omega arith in
     record {
-      high = c.loop-k.invariant.1;
-      same = c.loop-k.invariant.2 ∙ ap (λ (m : ℕ). drop m (words (drop c.loop-k.p a.text.now))) done;
+      high = c.loop.invariant.1;
+      same = c.loop.invariant.2 ∙ ap (λ (m : ℕ). drop m (words (drop c.loop.p a.text.now))) done;
     }

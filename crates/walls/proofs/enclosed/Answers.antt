@@ -1,56 +1,40 @@
-use mathlib.Core.Path.{◌≡◌, sym, ap, ◌∙◌}
+-- `walls::enclosed` meets its contract.
+use Rattle.std.proofs.Common.{rules}
+use mathlib.Core.Path.{◌≡◌, ◌∙◌, sym, ap, subst}
+use mathlib.Core.List.{Memᴰ as In}
+use Rattle.model.specs.Meaning.Sets.{Marked}
+use Rattle.theorems.proofs.Lists.Ones.{get_or_in}
+use mathlib.Core.Bool.{true, false}
 use native.Mathlib.Omega.{arith}
-use lib.ListN.{get_or}
+use borrow.Author.Tests.{tests}
+use Rattle.std.proofs.lemmas.Iterator.{cases_from_all, YieldsList-from_slice}
+use Rattle.std.proofs.lemmas.Iterator.Adapters.{serves_from_places}
+use lib.ListN.{length}
+use Prim.Native.Nat.{◌<◌}
+use Rattle.model.specs.Lists.{ones, all_of}
 use Rattle.model.specs.Wall.{closed_at}
-use Rattle.walls.proofs.Passing.{passed_none, passed_more, listed_room, listed_marked, listed_all, listed_not}
 use Rattle.walls.proofs.Drawings.{enclosed_none, enclosed_some}
+use Rattle.walls.proofs.Passing.{tested, listed_marked}
 use Rattle.walls.proofs.enclosed.Goals as goal
-use Rattle.walls.proofs.enclosed.Goals.{After-closed_at}
 
-pub returns-then-size-eq0 : goal.returns-then-size-eq0
-returns-then-size-eq0 c =
-    let number = c.requires.1.number in
-    sym (enclosed_none c.args.n c.args.table.now c.args.marks.now (omega arith))
+pub returns-then-is_empty : goal.returns-then-is_empty
+returns-then-is_empty c =
+    let empty : length c.args.hs.now ≡ 0 = search (rules, tests, c.is_empty.ensures, c.if-is_empty.true) in
+    sym (enclosed_none c.args.n c.args.table.now c.args.marks.now (sym (ap length c.requires.1) ∙ empty))
 
-pub loop-k-init : goal.loop-k-init
-loop-k-init c = (passed_none _ _, omega arith)
-
-pub word-requires : goal.word-requires
-word-requires c = let room = listed_room c.requires.1 in omega arith
-
-pub closed_at-requires : goal.closed_at-requires
-closed_at-requires c =
-    (c.requires.0, rw c.word.ensures (listed_marked c.requires.1 c.loop-k.k c.loop-k-test.true))
-
--- the test of the k-th dart
-asked : (c : After-closed_at) →
+pub all-requires-clause-callable : goal.all-requires-clause-callable
+all-requires-clause-callable c =
     let a = c.args in
-    c.closed_at.result ≡ closed_at a.n a.table.now a.marks.now (get_or a.hs.now c.loop-k.k 0)
-asked c =
-    let a = c.args in
-    c.closed_at.ensures ∙ ap (closed_at a.n a.table.now a.marks.now) c.word.ensures
-
-pub returns-then-not-closed_at : goal.returns-then-not-closed_at
-returns-then-not-closed_at c =
-    let number = c.requires.1.number in
-    let some = c.if-size-eq0.false in
-    sym (enclosed_some c.args.n c.args.table.now c.args.marks.now (omega arith)
-    ∙ listed_not c.requires.1 (closed_at c.args.n c.args.table.now c.args.marks.now) c.loop-k.k
-    c.loop-k-test.true (sym (asked (goal.at.returns-then-not-closed_at c).After-closed_at) ∙ c.if-not-closed_at.true))
-
-pub overflow_step-k : goal.overflow_step-k
-overflow_step-k c = omega arith
-
-pub loop-k-smaller : goal.loop-k-smaller
-loop-k-smaller c = omega arith
-
-pub loop-k-preserved : goal.loop-k-preserved
-loop-k-preserved c =
-    (passed_more c.loop-k.invariant.0 (sym (asked (goal.at.loop-k-preserved c).After-closed_at) ∙ c.if-not-closed_at.false), omega arith)
+    serves_from_places (YieldsList-from_slice a.hs.now cc) (λ x q k. search rules) (λ x k low e.
+    let marked : Marked a.marks.now x.now = listed_marked a.marks.now a.hs.now c.requires.1 x.now (subst (λ y. In y a.hs.now) (sym e) (get_or_in a.hs.now k x.now low)) in
+    search (rules, marked, c.requires.0))
 
 pub returns : goal.returns
 returns c =
-    let number = c.requires.1.number in
-    let some = c.if-size-eq0.false in
-    sym (enclosed_some c.args.n c.args.table.now c.args.marks.now (omega arith)
-    ∙ listed_all c.requires.1 c.loop-k.invariant.0 c.loop-k-test.false)
+    let a = c.args in
+    let a_list = c.requires.1 in
+    let long = ap length a_list in
+    let some : 0 < length (ones a.marks.now) = grind (arith, tests, a_list, long, c.if-is_empty.ensures) in
+    tested (closed_at a.n a.table.now a.marks.now) a.hs.now _ (cases_from_all _ _ _ (λ h. closed_at a.n a.table.now a.marks.now h ≡ true) (λ h. closed_at a.n a.table.now a.marks.now h ≡ false) c.all.ensures.ran
+    (YieldsList-from_slice a.hs.now cc) (λ x q k. search (rules, tests)) (λ x q k. search (rules, tests)))
+    ∙ ap (all_of (closed_at a.n a.table.now a.marks.now)) a_list ∙ sym (enclosed_some a.n a.table.now a.marks.now some)

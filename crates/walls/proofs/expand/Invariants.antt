@@ -1,5 +1,5 @@
 -- `walls::expand` meets its contract. The loop's invariant is `Going`: the steps below i have been followed.
-use Prim.Native.Nat.{◌+◌, ◌-◌}
+use Prim.Native.Nat.{◌+◌}
 use mathlib.Core.Bool.{true}
 use Rattle.model.specs.Table.{slots}
 use Rattle.reach.specs.Search.{search_of}
@@ -9,6 +9,3 @@ use Rattle.walls.proofs.expand.Given as goal
 
 abbrev pub invariant-loop-i : goal.invariant-loop-i
 invariant-loop-i l = Going (slots l.table) (λ _. true) (step l.n l.table l.next) (l.n + 1) l.x (search_of l.initial.seen l.initial.queue l.from) (search_of l.seen l.queue l.tail) l.i
-
-abbrev pub decreases-loop-i : goal.decreases-loop-i
-decreases-loop-i l = l.n + 1 - l.i

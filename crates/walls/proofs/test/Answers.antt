@@ -12,21 +12,18 @@ use Rattle.model.specs.Table.{link}
 use Rattle.model.specs.Wall.{drawn, enclosed, sewn_wall, turns_well, connected, wall_reached}
 use Rattle.theorems.proofs.Lists.Scan.{test}
 use Rattle.theorems.proofs.Insert.Wall.{some_dart}
-use Rattle.walls.specs.Given.{Drawing, Closed, Listed, ToFlood}
-use Rattle.walls.proofs.Passing.{listed_room, listed_first, zeros_front}
+use Rattle.walls.specs.Given.{Drawing, Closed, ToFlood}
+use Rattle.walls.proofs.Passing.{listed_first, zeros_front}
 use Rattle.walls.proofs.Flooded.{connected_by}
-use Rattle.walls.proofs.Verdicts.{refused_28, refused_29, refused_30, refused_31, refused_32, accepted, refuses, accepts}
+use Rattle.walls.proofs.Verdicts.{refused_28, refused_29, refused_30, refused_31, refused_32, accepted}
 use Rattle.walls.proofs.test.Goals as goal
-use Rattle.walls.proofs.test.Goals.{After-list_ones-size, After-reached-found, After-sewn, After-turns, Else-not-drawn, Else-not-enclosed, Else-not-turns}
+use Rattle.walls.proofs.test.Goals.{After-reached-found, After-sewn, After-turns, Else-not-drawn, Else-not-enclosed, Else-not-turns}
 
 -- ---- what is known there
 drawing : (c : Else-not-drawn) → let a = c.args in Drawing a.n a.table.now a.marks.now
 drawing c =
     let p = c.requires in
     record { table = p.table; long = p.long; drawn = sym c.drawn.ensures ∙ c.if-not-drawn.false }
-
-listed : (c : After-list_ones-size) → Listed c.args.marks.now c.list_ones-size.result c.list_ones-size.new.words
-listed c = let L = c.list_ones-size.ensures in record { number = L.size; front = L.front }
 
 closed : (c : Else-not-enclosed) →
     let a = c.args in
@@ -42,12 +39,12 @@ sewn_is : (c : After-sewn) →
 unfolding sewn_wall
 sewn_is c =
     let a = c.args in
-    c.sewn.ensures ∙ ap (all_of (λ h. not (eqb (link a.table.now a.n h) h))) (listed (goal.at.After-sewn c).After-list_ones-size).front
+    c.sewn.ensures ∙ ap (all_of (λ h. not (eqb (link a.table.now a.n h) h))) c.list_ones-size.ensures.front
 
 turns_is : (c : After-turns) →
     let a = c.args in
     c.turns.result ≡ all_of (turns_well a.n a.table.now a.marks.now) (ones a.marks.now)
-turns_is c = c.turns.ensures _ c.find_next.ensures (listed (goal.at.After-turns c).After-list_ones-size)
+turns_is c = c.turns.ensures _ c.find_next.ensures c.list_ones-size.ensures.front
 
 to_flood : (c : Else-not-turns) →
     let a = c.args in
@@ -60,7 +57,7 @@ to_flood c =
       nexts = c.find_next.ensures;
       clear = rw c.requires.long (zeros_front _ _ c.requires.seen_room c.requires.clear);
       room = let long = c.list_ones-size.ensures.long in let room = c.requires.queue_room in omega arith;
-      first = listed_first (listed (goal.at.Else-not-turns c).After-list_ones-size) (some_dart _ D.table D.long D.drawn C.enclosed);
+      first = let L = c.list_ones-size.ensures in listed_first _ _ _ L.front L.size (some_dart _ D.table D.long D.drawn C.enclosed);
     }
 
 -- 28 to 31 have passed
@@ -87,50 +84,46 @@ found_is : (c : After-reached-found) →
     c.reached-found.result ≡ count 1 (wall_reached a.n a.table.now a.marks.now)
 found_is c = c.reached-found.ensures _ (to_flood (goal.at.After-reached-found c).Else-not-turns)
 
-pub returns-then-not-drawn : goal.returns-then-not-drawn
-returns-then-not-drawn c =
+pub returns-then-not-drawn-clause-refuses : goal.returns-then-not-drawn-clause-refuses
+returns-then-not-drawn-clause-refuses c =
     let a = c.args in
-    rw c.refused.ensures (refuses 28 _ (omega arith)
-    (refused_28 a.n a.table.now a.marks.now (sym c.drawn.ensures ∙ c.if-not-drawn.true)))
+    refused_28 a.n a.table.now a.marks.now (sym c.drawn.ensures ∙ c.if-not-drawn.true)
 
 pub enclosed-requires : goal.enclosed-requires
-enclosed-requires c = (drawing (goal.at.enclosed-requires c).Else-not-drawn, listed (goal.at.enclosed-requires c).After-list_ones-size)
+enclosed-requires c = (drawing (goal.at.enclosed-requires c).Else-not-drawn, c.list_ones-size.ensures.front)
 
-pub returns-then-not-enclosed : goal.returns-then-not-enclosed
-returns-then-not-enclosed c =
+pub returns-then-not-enclosed-clause-refuses : goal.returns-then-not-enclosed-clause-refuses
+returns-then-not-enclosed-clause-refuses c =
     let a = c.args in
-    rw c.refused-then-not-enclosed.ensures (refuses 29 _ (omega arith)
-    (refused_29 a.n a.table.now a.marks.now (drawing (goal.at.returns-then-not-enclosed c).Else-not-drawn).drawn
-    (sym c.enclosed.ensures ∙ c.if-not-enclosed.true)))
+    refused_29 a.n a.table.now a.marks.now (drawing (goal.at.returns-then-not-enclosed-clause-refuses c).Else-not-drawn).drawn
+    (sym c.enclosed.ensures ∙ c.if-not-enclosed.true)
 
 pub sewn-requires : goal.sewn-requires
 sewn-requires c =
     let dim = c.requires.table.dim in
-    (omega arith, listed_room (listed (goal.at.sewn-requires c).After-list_ones-size))
+    omega arith
 
-pub returns-then-not-sewn : goal.returns-then-not-sewn
-returns-then-not-sewn c =
+pub returns-then-not-sewn-clause-refuses : goal.returns-then-not-sewn-clause-refuses
+returns-then-not-sewn-clause-refuses c =
     let a = c.args in
-    let C = closed (goal.at.returns-then-not-sewn c).Else-not-enclosed in
-    rw c.refused-then-not-sewn.ensures (refuses 30 _ (omega arith)
-    (refused_30 a.n a.table.now a.marks.now C.drawing.drawn C.enclosed
-    (sym (sewn_is (goal.at.returns-then-not-sewn c).After-sewn) ∙ c.if-not-sewn.true)))
+    let C = closed (goal.at.returns-then-not-sewn-clause-refuses c).Else-not-enclosed in
+    refused_30 a.n a.table.now a.marks.now C.drawing.drawn C.enclosed
+    (sym (sewn_is (goal.at.returns-then-not-sewn-clause-refuses c).After-sewn) ∙ c.if-not-sewn.true)
 
 pub find_next-requires : goal.find_next-requires
 find_next-requires c =
-    record { closed = (closed (goal.at.find_next-requires c).Else-not-enclosed, listed (goal.at.find_next-requires c).After-list_ones-size); table_in_bounds = c.requires.next_room }
+    record { closed = (closed (goal.at.find_next-requires c).Else-not-enclosed, c.list_ones-size.ensures.front); table_in_bounds = c.requires.next_room }
 
 pub turns-requires : goal.turns-requires
 turns-requires c =
-    record { m = c.args.marks.now; nexts = c.find_next.ensures; listed = listed (goal.at.turns-requires c).After-list_ones-size }
+    record { m = c.args.marks.now; nexts = c.find_next.ensures; listed = c.list_ones-size.ensures.front }
 
-pub returns-then-not-turns : goal.returns-then-not-turns
-returns-then-not-turns c =
+pub returns-then-not-turns-clause-refuses : goal.returns-then-not-turns-clause-refuses
+returns-then-not-turns-clause-refuses c =
     let a = c.args in
-    let C = closed (goal.at.returns-then-not-turns c).Else-not-enclosed in
-    rw c.refused-then-not-turns.ensures (refuses 31 _ (omega arith)
-    (refused_31 a.n a.table.now a.marks.now C.drawing.drawn C.enclosed
-    (sym (sewn_is (goal.at.returns-then-not-turns c).After-sewn) ∙ c.if-not-sewn.false) (sym (turns_is (goal.at.returns-then-not-turns c).After-turns) ∙ c.if-not-turns.true)))
+    let C = closed (goal.at.returns-then-not-turns-clause-refuses c).Else-not-enclosed in
+    refused_31 a.n a.table.now a.marks.now C.drawing.drawn C.enclosed
+    (sym (sewn_is (goal.at.returns-then-not-turns-clause-refuses c).After-sewn) ∙ c.if-not-sewn.false) (sym (turns_is (goal.at.returns-then-not-turns-clause-refuses c).After-turns) ∙ c.if-not-turns.true)
 
 pub slice_bounds-reached-end : goal.slice_bounds-reached-end
 slice_bounds-reached-end c =
@@ -148,20 +141,23 @@ slice_bounds-reached-end-2 c =
 pub reached-found-requires : goal.reached-found-requires
 reached-found-requires c = record { m = _; is = to_flood (goal.at.reached-found-requires c).Else-not-turns }
 
-pub returns-then-found-size : goal.returns-then-found-size
-returns-then-found-size c =
+pub returns-then-found-size-clause-refuses : goal.returns-then-found-size-clause-refuses
+returns-then-found-size-clause-refuses c =
     let a = c.args in
-    let P = passed (goal.at.returns-then-found-size c).Else-not-turns in
-    let number = (listed (goal.at.returns-then-found-size c).After-list_ones-size).number in
+    let P = passed (goal.at.returns-then-found-size-clause-refuses c).Else-not-turns in
+    let number = c.list_ones-size.ensures.size in
     let off = test (connected a.n a.table.now a.marks.now)
-    (λ q. absurd (c.if-found-size.true (found_is (goal.at.returns-then-found-size c).After-reached-found ∙ (connected_by c.find_next.ensures).1 q ∙ sym number))) (λ q. q) in
-    rw c.refused-then-found-size.ensures (refuses 32 _ (omega arith)
-    (refused_32 a.n a.table.now a.marks.now P.drawn P.enclosed P.sewn P.turns off))
+    (λ q. absurd (c.if-found-size.true (found_is (goal.at.returns-then-found-size-clause-refuses c).After-reached-found ∙ (connected_by c.find_next.ensures).1 q ∙ sym number))) (λ q. q) in
+    refused_32 a.n a.table.now a.marks.now P.drawn P.enclosed P.sewn P.turns off
 
-pub returns : goal.returns
-returns c =
+pub returns-clause-passes : goal.returns-clause-passes
+returns-clause-passes c =
     let a = c.args in
-    let P = passed (goal.at.returns c).Else-not-turns in
-    let number = (listed (goal.at.returns c).After-list_ones-size).number in
-    accepts _ (accepted a.n a.table.now a.marks.now P.drawn P.enclosed P.sewn P.turns
-    ((connected_by c.find_next.ensures).0 (sym (found_is (goal.at.returns c).After-reached-found) ∙ c.if-found-size.false ∙ number))) number c.find_next.ensures.next
+    let P = passed (goal.at.returns-clause-passes c).Else-not-turns in
+    let number = c.list_ones-size.ensures.size in
+    record {
+      checks = accepted a.n a.table.now a.marks.now P.drawn P.enclosed P.sewn P.turns
+          ((connected_by c.find_next.ensures).0 (sym (found_is (goal.at.returns-clause-passes c).After-reached-found) ∙ c.if-found-size.false ∙ number));
+      size = number;
+      next = c.find_next.ensures.next;
+    }

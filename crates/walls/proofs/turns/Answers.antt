@@ -1,53 +1,31 @@
-use Prim.Native.Nat.{ℕ}
-use mathlib.Core.Path.{◌≡◌, sym, ap, ◌∙◌}
-use mathlib.Core.List.{List}
-use native.Mathlib.Omega.{arith}
-use lib.ListN.{get_or}
+-- `walls::turns` meets its contract.
+use Rattle.std.proofs.Common.{rules}
+use mathlib.Core.Path.{◌≡◌, ◌∙◌, sym, ap, subst}
+use mathlib.Core.Bool.{true, false}
+use mathlib.Core.List.{Memᴰ as In}
+use borrow.Author.Tests.{tests}
+use Rattle.std.proofs.lemmas.Iterator.{cases_from_all, YieldsList-from_slice}
+use Rattle.std.proofs.lemmas.Iterator.Adapters.{serves_from_places}
+use Rattle.model.specs.Lists.{all_of}
 use Rattle.model.specs.Wall.{turns_well}
-use Rattle.walls.specs.Given.{Listed, Nexts}
-use Rattle.walls.proofs.Passing.{passed_none, passed_more, listed_room, listed_marked, listed_all, listed_not}
+use Rattle.model.specs.Meaning.Sets.{Marked}
+use Rattle.theorems.proofs.Lists.Ones.{get_or_in}
+use Rattle.walls.specs.Given.{SomeNext}
+use Rattle.walls.proofs.Passing.{tested_on, listed_marked}
 use Rattle.walls.proofs.turns.Goals as goal
-use Rattle.walls.proofs.turns.Goals.{After-turns_well}
 
-pub loop-k-init : goal.loop-k-init
-loop-k-init c = (λ m N L. passed_none _ _, omega arith)
-
-pub word-requires : goal.word-requires
-word-requires c = let room = listed_room c.requires.listed in omega arith
-
-pub turns_well-requires : goal.turns_well-requires
-turns_well-requires c =
+pub all-requires-clause-callable : goal.all-requires-clause-callable
+all-requires-clause-callable c =
+    let a = c.args in
     let p = c.requires in
-    record {
-      m = p.m;
-      nexts = p.nexts;
-      dart = rw c.word.ensures (listed_marked p.listed c.loop-k.k c.loop-k-test.true);
-    }
-
--- the test of the k-th dart
-asked : (c : After-turns_well) →
-    let a = c.args in
-    (m : List ℕ) → Nexts a.n a.table.now m a.next.now → Listed m a.size a.hs.now
-    → c.turns_well.result ≡ turns_well a.n a.table.now m (get_or a.hs.now c.loop-k.k 0)
-asked c m N L =
-    let a = c.args in
-    c.turns_well.ensures m N (rw c.word.ensures (listed_marked L c.loop-k.k c.loop-k-test.true)) ∙ ap (turns_well a.n a.table.now m) c.word.ensures
-
-pub returns-then-not-turns_well : goal.returns-then-not-turns_well
-returns-then-not-turns_well c m N L =
-    let a = c.args in
-    sym (listed_not L (turns_well a.n a.table.now m) c.loop-k.k c.loop-k-test.true
-    (sym (asked (goal.at.returns-then-not-turns_well c).After-turns_well m N L) ∙ c.if-not-turns_well.true))
-
-pub overflow_step-k : goal.overflow_step-k
-overflow_step-k c = omega arith
-
-pub loop-k-smaller : goal.loop-k-smaller
-loop-k-smaller c = omega arith
-
-pub loop-k-preserved : goal.loop-k-preserved
-loop-k-preserved c =
-    (λ m N L. passed_more (c.loop-k.invariant.0 m N L) (sym (asked (goal.at.loop-k-preserved c).After-turns_well m N L) ∙ c.if-not-turns_well.false), omega arith)
+    serves_from_places (YieldsList-from_slice a.hs.now cc) (λ x q k. search rules) (λ x k low e.
+    let marked : Marked p.m x.now = listed_marked p.m a.hs.now p.listed x.now (subst (λ y. In y a.hs.now) (sym e) (get_or_in a.hs.now k x.now low)) in
+    let asked : SomeNext a.n a.table.now a.next.now x.now = record { m = p.m; nexts = p.nexts; dart = marked } in
+    search (rules, asked))
 
 pub returns : goal.returns
-returns c m N L = sym (listed_all L (c.loop-k.invariant.0 m N L) c.loop-k-test.false)
+returns c m N L =
+    let a = c.args in
+    tested_on (turns_well a.n a.table.now m) a.hs.now (listed_marked m a.hs.now L) _ (cases_from_all _ _ _ (λ h. Marked m h → turns_well a.n a.table.now m h ≡ true) (λ h. Marked m h → turns_well a.n a.table.now m h ≡ false) c.all.ensures.ran
+    (YieldsList-from_slice a.hs.now cc) (λ x q k. search (rules, tests, N)) (λ x q k. search (rules, tests, N)))
+    ∙ ap (all_of (turns_well a.n a.table.now m)) L

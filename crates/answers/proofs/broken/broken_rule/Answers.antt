@@ -6,57 +6,50 @@ use Rattle.theorems.proofs.Calls.Pass.{dim_pass}
 use Rattle.theorems.proofs.Calls.Rules.{last_refused}
 use Rattle.answers.proofs.Ladder.{Rung, ground, up, out}
 use Rattle.answers.proofs.Verdicts.{rule_passes, rule_refuses}
-use Rattle.answers.proofs.Settled.{settles_refusal}
 use Rattle.answers.proofs.broken.broken_rule.Goals as goal
-use Rattle.answers.proofs.broken.broken_rule.Goals.{After-shared_slice_known-1, Else-dead-lt4, Else-lost-lt4, Else-lower-lt4, Start}
+use Rattle.answers.proofs.broken.broken_rule.Goals.{In_default, In_default-breaking_link, In_default-breaking_link-2, Start}
 
 abbrev checks : Start → List Check
 checks p = map_checks p.args.n p.args.table.now
 
-abbrev start : After-shared_slice_known-1 → Rung checks 0
-start c = ground (goal.at.After-shared_slice_known-1 c).Start
-
-abbrev lives : Else-dead-lt4 → Rung checks 1
+abbrev lives : In_default → Rung checks 1
 unfolding map_checks
 lives c =
-    let s = start (goal.at.Else-dead-lt4 c).After-shared_slice_known-1 in
-    up s (rule_passes _ _ links_live _ s.entry.requires.2 c.breaking_link-dead.ensures c.if-dead-lt4.false)
+    let s = ground (goal.at.In_default c).Start in
+    up s (rule_passes _ _ links_live _ s.entry.requires.2 c.in_default.ensures)
 
-abbrev returned : Else-lost-lt4 → Rung checks 2
+abbrev returned : In_default-breaking_link → Rung checks 2
 unfolding map_checks
 returned c =
-    let s = lives (goal.at.Else-lost-lt4 c).Else-dead-lt4 in
-    up s (rule_passes _ _ links_return _ s.entry.requires.2 c.breaking_link-lost.ensures c.if-lost-lt4.false)
+    let s = lives (goal.at.In_default-breaking_link c).In_default in
+    up s (rule_passes _ _ links_return _ s.entry.requires.2 c.in_default-breaking_link.ensures)
 
-abbrev commuting : Else-lower-lt4 → Rung checks 3
+abbrev commuting : In_default-breaking_link-2 → Rung checks 3
 unfolding map_checks
 commuting c =
-    let s = returned (goal.at.Else-lower-lt4 c).Else-lost-lt4 in
-    up s (rule_passes _ _ pairs_commute _ s.entry.requires.2 c.breaking_link-lower.ensures c.if-lower-lt4.false)
+    let s = returned (goal.at.In_default-breaking_link-2 c).In_default-breaking_link in
+    up s (rule_passes _ _ pairs_commute _ s.entry.requires.2 c.in_default-breaking_link-2.ensures)
 
-pub returns-then-dead-lt4 : goal.returns-then-dead-lt4
+pub returns-in-Some : goal.returns-in-Some
 unfolding map_checks rule_number
-returns-then-dead-lt4 c =
-    let s = start (goal.at.returns-then-dead-lt4 c).After-shared_slice_known-1 in
+returns-in-Some c =
+    let s = ground {checks = checks} (goal.at.returns-in-Some c).Start in
     let q = s.entry.requires in
-    settles_refusal 4
-    (out s (rule_refuses _ _ links_live _ q.2 c.breaking_link-dead.ensures q.1 c.if-dead-lt4.true))
+    out s (rule_refuses _ _ links_live _ q.2 _ q.1 c.in-Some.ensures)
 
-pub returns-then-lost-lt4 : goal.returns-then-lost-lt4
+pub returns-in-Some-breaking_link : goal.returns-in-Some-breaking_link
 unfolding map_checks rule_number
-returns-then-lost-lt4 c =
-    let s = lives (goal.at.returns-then-lost-lt4 c).Else-dead-lt4 in
+returns-in-Some-breaking_link c =
+    let s = lives (goal.at.returns-in-Some-breaking_link c).In_default in
     let q = s.entry.requires in
-    settles_refusal 23
-    (out s (rule_refuses _ _ links_return _ q.2 c.breaking_link-lost.ensures q.1 c.if-lost-lt4.true))
+    out s (rule_refuses _ _ links_return _ q.2 _ q.1 c.in-Some-breaking_link.ensures)
 
-pub returns-then-lower-lt4 : goal.returns-then-lower-lt4
+pub returns-in-Some-breaking_link-2 : goal.returns-in-Some-breaking_link-2
 unfolding map_checks rule_number
-returns-then-lower-lt4 c =
-    let s = returned (goal.at.returns-then-lower-lt4 c).Else-lost-lt4 in
+returns-in-Some-breaking_link-2 c =
+    let s = returned (goal.at.returns-in-Some-breaking_link-2 c).In_default-breaking_link in
     let q = s.entry.requires in
-    settles_refusal 24
-    (out s (rule_refuses _ _ pairs_commute _ q.2 c.breaking_link-lower.ensures q.1 c.if-lower-lt4.true))
+    out s (rule_refuses _ _ pairs_commute _ q.2 _ q.1 c.in-Some-breaking_link-2.ensures)
 
 pub returns : goal.returns
 unfolding map_checks
@@ -64,4 +57,4 @@ returns c =
     let s = commuting c in
     let q = s.entry.requires in
     let p = s.passed in
-    settles_refusal 25 (rw q.2 (last_refused _ _ (dim_pass _ q.0).1 q.1 p.0 p.1.0 p.1.1.0))
+    rw q.2 (last_refused _ _ (dim_pass _ q.0).1 q.1 p.0 p.1.0 p.1.1.0)

@@ -6,31 +6,31 @@ use Rattle.model.specs.Checks.{Check, map_checks}
 use Rattle.answers.specs.Openings.{opening_checks, layer_checks}
 use Rattle.answers.proofs.Ladder.{Rung, rise, up, out}
 use Rattle.answers.proofs.Verdicts.{passes, refuses, dart_test}
-use Rattle.answers.proofs.Settled.{settles_refusal, settles_front, settles_last}
+use Rattle.answers.proofs.Settled.{settles_refusal, settles_front, settles_last, handed}
 use Rattle.answers.proofs.Given.{rules_given, map_given}
 use Rattle.answers.proofs.layer.opening_layer.Goals as goal
-use Rattle.answers.proofs.layer.opening_layer.Goals.{Else-not-live, Else-opened-ne0, Start}
+use Rattle.answers.proofs.layer.opening_layer.Goals.{Else-not-live, In_ok-opening, Start}
 
 abbrev checks : Start → List Check
 checks p = layer_checks p.args.marks p.args.journal p.args.n p.args.table.now p.args.d
 
-abbrev opened : Else-opened-ne0 → Rung checks 8
+abbrev opened : In_ok-opening → Rung checks 8
 unfolding layer_checks opening_checks map_checks
-opened c = rise 8 (goal.at.Else-opened-ne0 c).Start (c.opening-opened.ensures.passes c.if-opened-ne0.false)
+opened c = rise 8 (goal.at.In_ok-opening c).Start c.in_ok-opening.ensures.gives
 
 abbrev dart : Else-not-live → Rung checks 9
 unfolding layer_checks opening_checks map_checks
-dart c = up (opened (goal.at.Else-not-live c).Else-opened-ne0) (passes _ 7 (dart_test _ _ c.live.ensures) (ap not c.if-not-live.false))
+dart c = up (opened (goal.at.Else-not-live c).In_ok-opening) (passes _ 7 (dart_test _ _ c.live.ensures) (ap not c.if-not-live.false))
 
-pub returns-then-opened-ne0 : goal.returns-then-opened-ne0
+pub returns-in_err-opening : goal.returns-in_err-opening
 unfolding layer_checks opening_checks map_checks
-returns-then-opened-ne0 c = settles_front _ 8 c.opening-opened.ensures c.if-opened-ne0.true
+returns-in_err-opening c = rw (handed c.from_residual.ensures.1) (settles_front _ 8 c.in_err-opening.ensures)
 
 pub returns-then-not-live : goal.returns-then-not-live
 unfolding layer_checks opening_checks map_checks
 returns-then-not-live c =
-    settles_refusal 6
-    (out (opened (goal.at.returns-then-not-live c).Else-opened-ne0) (refuses _ 7 (dart_test _ _ c.live.ensures) (ap not c.if-not-live.true)))
+    settles_refusal c.into.ensures
+    (out (opened (goal.at.returns-then-not-live c).In_ok-opening) (refuses _ 7 (dart_test _ _ c.live.ensures) (ap not c.if-not-live.true)))
 
 pub blocks-requires : goal.blocks-requires
 unfolding layer_checks opening_checks map_checks

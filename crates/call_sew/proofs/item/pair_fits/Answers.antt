@@ -9,7 +9,7 @@ use Rattle.model.specs.Meaning.Pairings.{OnSide}
 use Rattle.theorems.proofs.Calls.Pass.{index_pass, dart_pass}
 use Rattle.answers.proofs.Ladder.{Rung, ground, up, out, all_passed}
 use Rattle.answers.proofs.Verdicts.{passes, refuses, clear_passes, clear_refuses, index_passes, index_refuses, dart_test}
-use Rattle.answers.proofs.Settled.{settles_refusal, settles_pass}
+use Rattle.answers.proofs.Settled.{settles_refusal}
 use Rattle.call_sew.specs.Items.{pair_checks}
 use Rattle.call_sew.proofs.Ends.{apart_test, free_test, map_table_lem}
 use Rattle.call_sew.proofs.item.pair_fits.Goals as goal
@@ -61,17 +61,17 @@ index_low c =
 -- ---- the needs
 pub returns-then-i-n : goal.returns-then-i-n
 unfolding pair_checks
-returns-then-i-n c = settles_refusal 5 (out (start (goal.at.returns-then-i-n c).After-shared_slice_known-1) (index_refuses _ _ c.if-i-n.true))
+returns-then-i-n c = settles_refusal c.into.ensures (out (start (goal.at.returns-then-i-n c).After-shared_slice_known-1) (index_refuses _ _ c.if-i-n.true))
 
 pub returns-then-not-live : goal.returns-then-not-live
 unfolding pair_checks
 returns-then-not-live c =
-    settles_refusal 6 (out (index (goal.at.returns-then-not-live c).Else-i-n) (refuses _ 7 (dart_test _ _ c.live.ensures) (ap not c.if-not-live.true)))
+    settles_refusal c.into-then-not-live.ensures (out (index (goal.at.returns-then-not-live c).Else-i-n) (refuses _ 7 (dart_test _ _ c.live.ensures) (ap not c.if-not-live.true)))
 
 pub returns-then-not-live-2 : goal.returns-then-not-live-2
 unfolding pair_checks
 returns-then-not-live-2 c =
-    settles_refusal 6 (out (dart (goal.at.returns-then-not-live-2 c).Else-not-live) (refuses _ 7 (dart_test _ _ c.live-2.ensures) (ap not c.if-not-live-2.true)))
+    settles_refusal c.into-then-not-live-2.ensures (out (dart (goal.at.returns-then-not-live-2 c).Else-not-live) (refuses _ 7 (dart_test _ _ c.live-2.ensures) (ap not c.if-not-live-2.true)))
 
 pub meets-requires : goal.meets-requires
 meets-requires c = on_side c
@@ -79,7 +79,7 @@ meets-requires c = on_side c
 pub returns-then-meets : goal.returns-then-meets
 unfolding pair_checks
 returns-then-meets c =
-    settles_refusal 8
+    settles_refusal c.into-then-meets.ensures
     (out (second (goal.at.returns-then-meets c).Else-not-live-2) (clear_refuses _ 9 (apart_test _ _ _ _ _ c.meets.ensures) c.if-meets.true))
 
 pub is_free-requires : goal.is_free-requires
@@ -91,9 +91,9 @@ is_free-requires-2 c = index_low (goal.at.is_free-requires-2 c).Else-meets
 pub returns-then-not-is_free : goal.returns-then-not-is_free
 unfolding pair_checks
 returns-then-not-is_free c =
-    settles_refusal 9 (out (apart (goal.at.returns-then-not-is_free c).Else-meets)
+    settles_refusal c.into-then-not-is_free.ensures (out (apart (goal.at.returns-then-not-is_free c).Else-meets)
     (refuses _ 10 (free_test _ _ _ _ c.is_free.ensures c.is_free-2.ensures) (ap not c.if-not-is_free.true)))
 
 pub returns : goal.returns
 unfolding pair_checks
-returns c = settles_pass (all_passed _ (free c).passed)
+returns c = record { gives = all_passed _ (free c).passed }

@@ -1,10 +1,6 @@
 -- `call_sew::item::unmark` meets its contract: all marks are cleared, or taken back. The loop's invariant: only the first k pairs have marks.
-use Prim.Native.Nat.{◌≤◌}
 use Rattle.call_sew.proofs.Parts.{Left}
 use Rattle.call_sew.proofs.item.unmark.Given as goal
 
 abbrev pub invariant-loop-k : goal.invariant-loop-k
-invariant-loop-k l = (l.k ≤ l.size) × Left l.initial.marks l.initial.groups l.xs l.ys l.k l.marks l.groups
-
-abbrev pub decreases-loop-k : goal.decreases-loop-k
-decreases-loop-k l = l.k
+invariant-loop-k l = Left l.initial.marks l.initial.groups l.xs l.ys l.k l.marks l.groups

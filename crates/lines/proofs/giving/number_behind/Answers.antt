@@ -1,24 +1,16 @@
 -- `lines::giving::number_behind` meets its contract.
+use mathlib.Core.Path.{ap, ◌∙◌}
+use Prim.Native.Nat.{ℕ}
+use mathlib.Core.List.{List}
 use Rattle.model.specs.Text.{number, up_to}
-use mathlib.Core.Path.{sym, ◌∙◌}
-use Rattle.lines.proofs.Behind.{behind_other, behind_key, key_length}
-use borrow.Author.Rules.{rules}
+use Rattle.lines.proofs.Behind.{behind_other, behind_key}
 use Rattle.lines.proofs.giving.number_behind.Goals as goal
 
-pub returns-then-not-begins : goal.returns-then-not-begins
-returns-then-not-begins c = behind_other _ _ _ (sym c.begins.ensures ∙ c.if-not-begins.true)
-
-pub slice_bounds-number-count : goal.slice_bounds-number-count
-slice_bounds-number-count c =
-    key_length c.args.key.now c.args.line.now (sym c.begins.ensures ∙ c.if-not-begins.false)
-
-pub slice_bounds-number-start : goal.slice_bounds-number-start
-slice_bounds-number-start c =
-    let long = key_length c.args.key.now c.args.line.now (sym c.begins.ensures ∙ c.if-not-begins.false) in
-    search rules
+pub returns-in_err-strip_prefix : goal.returns-in_err-strip_prefix
+returns-in_err-strip_prefix c = rw c.from_residual.ensures (behind_other c.args.key.now _ _ c.in_err-strip_prefix.ensures.cases)
 
 pub returns : goal.returns
 returns c =
-    c.number.ensures
-    ∙ behind_key c.args.key.now (λ v. up_to c.args.top (number v)) c.args.line.now
-    (sym c.begins.ensures ∙ c.if-not-begins.false)
+    let value = λ (v : List ℕ). up_to c.args.top (number v) in
+    let (starts, rest, _) = c.in_ok-strip_prefix.ensures.cases in
+    c.number.ensures ∙ ap value rest ∙ behind_key c.args.key.now value c.args.line.now starts

@@ -1,24 +1,14 @@
 -- `lines::giving::op_behind` meets its contract.
+use mathlib.Core.Path.{ap, ◌∙◌}
 use Rattle.model.specs.Session.{names, place_from}
-use mathlib.Core.Path.{sym, ◌∙◌}
-use Rattle.lines.proofs.Behind.{behind_other, behind_key, key_length}
-use borrow.Author.Rules.{rules}
+use Rattle.lines.proofs.Behind.{behind_other, behind_key}
 use Rattle.lines.proofs.giving.op_behind.Goals as goal
 
-pub returns-then-not-begins : goal.returns-then-not-begins
-returns-then-not-begins c = behind_other _ _ _ (sym c.begins.ensures ∙ c.if-not-begins.true)
-
-pub slice_bounds-op_named-count : goal.slice_bounds-op_named-count
-slice_bounds-op_named-count c =
-    key_length c.args.key.now c.args.line.now (sym c.begins.ensures ∙ c.if-not-begins.false)
-
-pub slice_bounds-op_named-start : goal.slice_bounds-op_named-start
-slice_bounds-op_named-start c =
-    let long = key_length c.args.key.now c.args.line.now (sym c.begins.ensures ∙ c.if-not-begins.false) in
-    search rules
+pub returns-in_err-strip_prefix : goal.returns-in_err-strip_prefix
+returns-in_err-strip_prefix c = rw c.from_residual.ensures (behind_other c.args.key.now _ _ c.in_err-strip_prefix.ensures.cases)
 
 pub returns : goal.returns
 returns c =
-    c.op_named.ensures
-    ∙ behind_key c.args.key.now (place_from 0 names) c.args.line.now
-    (sym c.begins.ensures ∙ c.if-not-begins.false)
+    let value = (place_from 0 names) in
+    let (starts, rest, _) = c.in_ok-strip_prefix.ensures.cases in
+    c.op_named.ensures ∙ ap value rest ∙ behind_key c.args.key.now value c.args.line.now starts

@@ -1,4 +1,5 @@
 -- `lines::taking::done` meets its contract, key by key.
+use mathlib.Core.Logic.{inl, inr}
 use Rattle.lines.specs.declared.Key.TheVariants.{Dim, Op, I, D}
 use Rattle.lines.specs.Held.{Fits}
 use Rattle.lines.proofs.Steps.{Quiet, noted_quiet, noted_slots, noted_request}
@@ -22,16 +23,10 @@ returns-in-E c =
 
 pub returns-in-Dim : goal.returns-in-Dim
 unfolding Quiet
-returns-in-Dim c = noted_quiet _ _ _ _ _ Dim tt c.in-Dim.is _ _
-
-pub returns-in-Op : goal.returns-in-Op
-unfolding Quiet
-returns-in-Op c = noted_quiet _ _ _ _ _ Op tt c.in-Op.is _ _
-
-pub returns-in-I : goal.returns-in-I
-unfolding Quiet
-returns-in-I c = noted_quiet _ _ _ _ _ I tt c.in-I.is _ _
-
-pub returns-in-D : goal.returns-in-D
-unfolding Quiet
-returns-in-D c = noted_quiet _ _ _ _ _ D tt c.in-D.is _ _
+returns-in-Dim c = elim c.in-Dim.is [
+  | inl e ↦ noted_quiet _ _ _ _ _ Dim tt e _ _
+  | inr f ↦ elim f [
+    | inl e ↦ noted_quiet _ _ _ _ _ Op tt e _ _
+    | inr g ↦ elim g [ inl e ↦ noted_quiet _ _ _ _ _ I tt e _ _ | inr e ↦ noted_quiet _ _ _ _ _ D tt e _ _ ]
+  ]
+]

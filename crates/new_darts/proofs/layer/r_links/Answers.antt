@@ -30,13 +30,8 @@ new_dart-requires-3 c =
     let low = R.low in
     wall_asked R c.link_in-2.ensures (along R 1 low) _ low
 
-pub bounds-nexts-h : goal.bounds-nexts-h
-bounds-nexts-h c = next_asked c.requires.is
-
-pub overflow_cast-nexts : goal.overflow_cast-nexts
-overflow_cast-nexts c =
-    let a = c.args in
-    omega (arith, c.shared_slice_known-5-1.given a.h)
+pub bounds-sources-h : goal.bounds-sources-h
+bounds-sources-h c = next_asked c.requires.is
 
 pub new_dart-requires-4 : goal.new_dart-requires-4
 new_dart-requires-4 c =

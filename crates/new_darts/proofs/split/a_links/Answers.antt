@@ -11,7 +11,7 @@ use Rattle.new_darts.proofs.split.a_links.Goals as goal
 use Rattle.new_darts.proofs.split.a_links.Goals.{Start}
 
 -- g has a(g) and b(g)
-two : (s : Start) → 2 ≤ s.args.n
+two : (s : Start) → 2 ≤ s.args.sources.now.n
 two s = s.requires.is.splits.dart.table.dim.0
 
 pub new_dart-requires : goal.new_dart-requires

@@ -10,27 +10,27 @@ use Rattle.new_darts.proofs.split.b_across.Goals as goal
 pub new_dart-requires : goal.new_dart-requires
 unfolding walk keeps_sheet
 new_dart-requires c =
-    let three = c.if-n-eq3.true in
+    let three = c.if-sources-eq3.true in
     dart_asked c.requires.is [] refl refl _ (omega arith)
 
 pub link_in-requires : goal.link_in-requires
 link_in-requires c = link_asked c.requires.is 0 (omega arith)
 
-pub new_dart-requires-else-n-eq3 : goal.new_dart-requires-else-n-eq3
+pub new_dart-requires-else-sources-eq3 : goal.new_dart-requires-else-sources-eq3
 unfolding walk keeps_sheet
-new_dart-requires-else-n-eq3 c =
+new_dart-requires-else-sources-eq3 c =
     let R = c.requires.is in
     dart_asked R (0 ∷ []) refl c.link_in.ensures _ R.low
 
-pub returns-then-n-eq3 : goal.returns-then-n-eq3
+pub returns-then-sources-eq3 : goal.returns-then-sources-eq3
 unfolding walk keeps_sheet
-returns-then-n-eq3 c = λ d R.
-    let three = c.if-n-eq3.true in
+returns-then-sources-eq3 c = λ d R.
+    let three = c.if-sources-eq3.true in
     dart_found R [] refl refl _ (omega arith) c.new_dart.ensures ∙ sym ((links R).b_2 three)
 
-pub returns-else-n-eq3 : goal.returns-else-n-eq3
+pub returns-else-sources-eq3 : goal.returns-else-sources-eq3
 unfolding walk keeps_sheet
-returns-else-n-eq3 c = λ d R.
-    let other = c.if-n-eq3.false in
+returns-else-sources-eq3 c = λ d R.
+    let other = c.if-sources-eq3.false in
     let dim = R.splits.dart.table.dim in
-    dart_found R (0 ∷ []) refl c.link_in.ensures _ R.low c.new_dart-else-n-eq3.ensures ∙ sym ((links R).plane_b_2 (omega arith))
+    dart_found R (0 ∷ []) refl c.link_in.ensures _ R.low c.new_dart-else-sources-eq3.ensures ∙ sym ((links R).plane_b_2 (omega arith))

@@ -9,13 +9,10 @@ use Rattle.theorems.proofs.Maps.Rules.{crossed_near}
 use Rattle.theorems.proofs.Calls.Pass.{dim_pass}
 use Rattle.reading.proofs.broken.pairs_commute.Goals as goal
 
-pub overflow_add-j : goal.overflow_add-j
-overflow_add-j c = omega arith
-
 pub loop-j-init : goal.loop-j-init
 loop-j-init c =
     let a = c.args in
-    (omega arith, omega arith, λ k l. crossed_near a.n a.table.now a.d a.i k l)
+    λ k l. crossed_near a.n a.table.now a.d a.i k l
 
 pub crossed-requires : goal.crossed-requires
 crossed-requires c =
@@ -29,21 +26,12 @@ returns-then-not-crossed c =
     sym (test (all_below (suc a.n) (crossed a.table.now a.d a.i))
     (λ e. absurd (clash (below_at _ _ e c.loop-j.j (omega arith)) fails)) (λ e. e))
 
-pub overflow_add-j-in-loop-j : goal.overflow_add-j-in-loop-j
-overflow_add-j-in-loop-j c = omega arith
-
-pub loop-j-smaller : goal.loop-j-smaller
-loop-j-smaller c =
-    let dim = dim_pass _ c.requires.0 in
-    omega arith
-
 pub loop-j-preserved : goal.loop-j-preserved
 loop-j-preserved c =
-    let dim = dim_pass _ c.requires.0 in
     let commutes = sym c.crossed.ensures ∙ c.if-not-crossed.false in
-    (omega arith, omega arith, below_more _ _ c.loop-j.invariant.2 commutes)
+    below_more _ _ c.loop-j.invariant commutes
 
 pub returns : goal.returns
 returns c =
     let a = c.args in
-    sym (below_of (crossed a.table.now a.d a.i) (suc a.n) (λ k h. c.loop-j.invariant.2 k (omega arith)))
+    sym (below_of (crossed a.table.now a.d a.i) (suc a.n) (λ k h. c.loop-j.invariant k (omega arith)))

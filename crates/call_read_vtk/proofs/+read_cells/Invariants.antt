@@ -1,5 +1,0 @@
--- `call_read_vtk::read_cells` meets its contract, by `read_form` and `read_in`. It does not call itself: the table fits.
-use Rattle.call_read_vtk.proofs.+read_cells.Given as goal
-
-abbrev pub decreases-read_cells : goal.decreases-read_cells
-decreases-read_cells l = 0
