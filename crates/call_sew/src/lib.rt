@@ -53,8 +53,8 @@ fn sew_items(
     Ok(Done { place: 0, count })
 }
 
-// The same with so many marks and groups, and lists of a half. Each size has a stack frame of its own, which smaller tables and refusals do not
-// pay for.
+// The same with so many marks and groups, and lists of a half. Each size has a stack frame of its own, which smaller tables and
+// refusals do not pay for.
 #[inline(never)]
 fn sew_with<const SLOTS: usize, const HALF: usize, const GROUPS: usize>(
     n: u32,

@@ -75,8 +75,8 @@ fn split_in(
     })
 }
 
-// The same with so many places, a half of them for new slots and a quarter for darts. Each size has a stack frame of its own, which smaller tables and refusals do not
-// pay for.
+// The same with so many places, and words for new slots for half and for darts for a quarter of them. Each size has a stack frame of
+// its own, which smaller tables and refusals do not pay for.
 #[inline(never)]
 fn split_with<const SLOTS: usize, const HALF: usize, const QUARTER: usize>(
     n: u32,

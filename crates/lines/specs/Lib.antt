@@ -1,3 +1,2 @@
 pub mod Machine
 pub mod Held
-pub mod Names

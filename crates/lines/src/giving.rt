@@ -9,6 +9,7 @@ ghost use Rattle.lines.specs.Held.{due_at};
 use crate::Key;
 
 // The k-th of the calls' names.
+#[tactic(auto, unfolding(model::specs::Session::names))]
 fn name(k: u32) -> &'static [u8]
     requires { k < 10 }
     ensures { result.now ≡ get_or names k [] }

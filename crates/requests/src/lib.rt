@@ -54,6 +54,7 @@ impl From<u32> for Op {
 }
 
 // The call of the session whose op has this place among the names: "i holds the index or mask". An operation's record has the tag.
+// op stays a number, here and in `any_request`, since both take any: what names no call is check.
 pub fn request(
     n: u32,
     table: &mut [u32],

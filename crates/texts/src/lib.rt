@@ -67,7 +67,7 @@ pub fn put(out: &mut [u8], at: usize, text: &[u8]) -> usize
     end
 }
 
-// A number's digits; by hand, as write! gives a Result where nothing can fail, and moves the slice in place of a place.
+// A number's digits; by hand, since `write!` gives a Result, and here nothing can fail.
 pub fn put_decimal(out: &mut [u8], at: usize, v: u64) -> usize
     requires { at + length (decimal v) ≤ length out.old }
     ensures { Appended out.old at (decimal v) out.new result }
