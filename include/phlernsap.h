@@ -33,7 +33,7 @@
  *     phl_remove             3200   68784
  *     phl_split              8208  230416
  *     phl_insert            14808  395736
- *     phl_read_vtk         158584  158584
+ *     phl_read_vtk         158792  158792
  *     phl_undo                256     256
  *     phl_redo                256     256
  *

@@ -39,7 +39,7 @@ pub seen_next : (s darts : List ℕ) (k : ℕ) (seen : List ℕ) → k < length 
 seen_next s darts k seen l e =
     rw (e, add-one k, take-suc darts k 0 l) (sym (seen_snoc s (take k darts) (get_or darts k 0)))
 
-seen_length : (s xs : List ℕ) → length (seen_with s xs) ≡ length s
+pub seen_length : (s xs : List ℕ) → length (seen_with s xs) ≡ length s
 unfolding seen_with
 seen_length s [] = refl
 seen_length s (x ∷ xs) = seen_length (set s x 1) xs ∙ length-set s x 1

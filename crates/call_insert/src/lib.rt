@@ -70,7 +70,10 @@ fn insert_in(
     ensures { outcome result table.new marks.now journal.new
         ≡ insert_call n table.old marks.now journal.old tag }
 {
-    let size = walls::test(n, table, marks, queue, nexts, places)?;
+    let size = match walls::test(n, table, marks, queue, nexts, places) {
+        Ok(size) => size,
+        Err(reason) => return Err(reason.into()),
+    };
     let new = n * size;
     if !new_darts::find_slots(table, queue, new, size) {
         return Err(Reason::TooFewSlots.into());

@@ -49,7 +49,8 @@ pub fn pick(
     if queue.len() != table.len() / 4 {
         return Err(wrong_queue(n, table, marks).into());
     }
-    answers::opening_layer(n, table, reading::marks_fit(table, marks), true, d)?;
+    let opened = answers::opening_layer(n, table, reading::marks_fit(table, marks), true, d);
+    opened?;
     let found = picks::pick(n, table, marks, queue, d);
     Ok(Picked {
         count: found.entered,

@@ -31,10 +31,10 @@ pub record Entries (t : List ℕ) (e common : ℕ) : Type 0 where
   all : common ≡ unused → (k : ℕ) → k < e → get_or t k 0 ≡ unused
   some : common ≢ unused → (k : ℕ) × (k < e) × (get_or t k 0 ≢ unused)
 
-entries_none : (t : List ℕ) → Entries t 0 unused
+pub entries_none : (t : List ℕ) → Entries t 0 unused
 entries_none t = record { low = omega arith; all = λ h k l. absurd (omega arith); some = λ h. absurd (h refl) }
 
-entries_more : {t : List ℕ} {e common : ℕ} → get_or t e 0 ≤ unused → Entries t e common → Entries t (e + 1) (bit_and common (get_or t e 0))
+pub entries_more : {t : List ℕ} {e common : ℕ} → get_or t e 0 ≤ unused → Entries t e common → Entries t (e + 1) (bit_and common (get_or t e 0))
 entries_more {t} {e} {common} fits E =
     let next = get_or t e 0 in
     let left = and_le_l common next in

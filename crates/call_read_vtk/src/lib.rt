@@ -14,6 +14,7 @@ ghost use Rattle.call_read_vtk.specs.Formed.{empty_checks, Formed, Lent, CellsHe
 
 use answers::{Answer, Done, Reason, Refused};
 use reading::UNUSED;
+use vtk_form::NoForm;
 
 // Whether no slot is live: the bits that all entries have in common are those of an unused one.
 fn is_empty(table: &[u32]) -> bool
@@ -170,18 +171,27 @@ fn read_formed(
     place_cells(table, journal, tag, mates, cells)
 }
 
-// The read where the checks up to 18 have passed. It has a stack frame of its own, so that the checks before do not pay for its buffers.
-#[inline(never)]
+// The read where the checks up to 18 have passed. As it calls itself it has a stack frame of its own, so that the checks before do not pay
+// for its buffers; the table fits, so it never does. (By #[inline(never)] import, which has one size of table, would have to clear its
+// journal, 3 MiB, before a read that overwrites what it uses.)
 fn read_cells(table: &mut [u32], journal: &mut [u32], tag: u32, text: &[u8]) -> Answer
     requires { in_order (empty_checks 3 table.old journal.old) ≡ pass }
     ensures { outcome result table.new [] journal.new
         ≡ vtk_call 3 table.old journal.old tag text.now }
 {
+    if !reading::table_fits(table) {
+        let _ = read_cells(table, journal, tag, text);
+        return Err(Reason::WrongTableLength.into());
+    }
     let mut rows = [0u64; 10920];
     let mut heads = [0u16; 16384];
     let mut nexts = [0u16; 8191];
     let mut mates = [0u16; 8191];
-    let form = vtk_form::read_form(text, &mut rows)?;
+    let form = match vtk_form::read_form(text, &mut rows) {
+        Ok(form) => form,
+        Err(NoForm::WrongForm) => return Err(Reason::WrongForm.into()),
+        Err(NoForm::OtherType(_)) => return Err(Reason::OtherType.into()),
+    };
     read_formed(
         table,
         journal,

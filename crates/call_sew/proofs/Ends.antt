@@ -10,6 +10,7 @@ use mathlib.Core.List.{List, [], ◌∷◌}
 use native.Mathlib.Omega.{arith}
 use lib.ListN.{length}
 use lib.Dec.{eqb}
+use borrow.Author.Tests.{eqb-true}
 use Rattle.model.specs.Table.{slots, link}
 use Rattle.model.specs.Map.{links_live, links_return, pairs_commute, stays_flat, is_map}
 use Rattle.model.specs.Reach.{in_set}
@@ -25,7 +26,7 @@ use Rattle.model.specs.Meaning.SewLists.{Ready}
 use Rattle.model.specs.Meaning.Pairings.{Sewable}
 use Rattle.theorems.proofs.Operations.Relink.{relinked_long, relinked_table}
 use Rattle.theorems.proofs.Calls.Checks.{map_keeps, passed_append, append_passed, append_refused, passed_at}
-use Rattle.theorems.proofs.Calls.Pass.{rules_pass, table_of, journal_pass, SidesPassed, left_side, right_side, sides_sewable}
+use Rattle.theorems.proofs.Calls.Pass.{must_pass, rules_pass, table_of, journal_pass, SidesPassed, left_side, right_side, sides_sewable}
 use Rattle.theorems.proofs.Sewing.Side.{side_free}
 use Rattle.theorems.proofs.Sewing.Sew.{sew_relinked, sew_rest, sew_other}
 use Rattle.theorems.proofs.Sewing.Counts.{own_moved, other_moved, sew_changes}
@@ -90,6 +91,10 @@ module _ (n : ℕ) (t j l : List ℕ) where
     pub list_ready : Ready n t j
     unfolding list_checks map_checks
     list_ready = ready_of (passed_append (dim_ok n ∷ table_ok t ∷ journal_ok j ∷ map_checks n t) (list_ok l ∷ []) h).0
+
+    pub list_whole : length l % 3 ≡ 0
+    unfolding list_checks map_checks list_ok
+    list_whole = eqb-true _ _ (must_pass _ 38 (passed_at (list_checks n t j l) h 7))
 
   pub list_passed : Ready n t j → length l % 3 ≡ 0 → in_order (list_checks n t j l) ≡ pass
   unfolding list_checks map_checks list_ok in_order and_then must

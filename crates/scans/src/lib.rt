@@ -121,15 +121,18 @@ pub fn list_unused(table: &[u32], words: &mut [u16], want: u32) -> u32
     requires table_in_bounds { min want (slots table.now) ≤ length words.old }
     ensures { Lists (take want (unused_slots table.now)) result words.old words.new }
 {
+    if want == 0 {
+        return 0;
+    }
     let end = slots(table);
     let mut r: u32 = 0;
     for x in 0..end {
         if link_in(table, 0, x) == UNUSED {
+            words[r as usize] = x as u16;
+            r += 1;
             if r == want {
                 break;
             }
-            words[r as usize] = x as u16;
-            r += 1;
         }
     }
     r

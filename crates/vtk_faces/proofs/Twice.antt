@@ -46,15 +46,15 @@ module _ (b : List ℕ) (c : ℕ) (long : 8 * c + 8 ≤ length b) where
   behind_is i part e =
       rw e (ap (list_any (λ y. eqb y (get_or row i 0))) (between_to_end row (i + 1) (length row) (omega arith)) ∙ any_among (get_or row i 0) (drop (i + 1) row))
 
-  repeats_here : (i : ℕ) → i < 8 → among (drop (i + 1) row) (get_or row i 0) ≡ true → repeats (drop i row) ≡ true
+  pub repeats_here : (i : ℕ) → i < 8 → among (drop (i + 1) row) (get_or row i 0) ≡ true → repeats (drop i row) ≡ true
   unfolding repeats
   repeats_here i l e = ap repeats (row_next i l) ∙ rw (e, repeats)
 
-  repeats_next : (i : ℕ) → i < 8 → among (drop (i + 1) row) (get_or row i 0) ≡ false → repeats (drop i row) ≡ repeats (drop (i + 1) row)
+  pub repeats_next : (i : ℕ) → i < 8 → among (drop (i + 1) row) (get_or row i 0) ≡ false → repeats (drop i row) ≡ repeats (drop (i + 1) row)
   unfolding repeats
   repeats_next i l e = ap repeats (row_next i l) ∙ rw (e, repeats)
 
-  repeats_end : (i : ℕ) → 8 ≤ i → repeats (drop i row) ≡ false
+  pub repeats_end : (i : ℕ) → 8 ≤ i → repeats (drop i row) ≡ false
   unfolding repeats
   repeats_end i l = rw (row_end i l)
 

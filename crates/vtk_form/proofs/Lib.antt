@@ -8,3 +8,4 @@ pub mod Typing
 pub mod Beside
 pub mod Sections
 pub mod Assembly
+pub mod Told

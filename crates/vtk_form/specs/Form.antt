@@ -1,14 +1,14 @@
 -- Whether a text is of the form of 02, R-1, where its rows stand, and which of them a buffer has.
-use Rattle.std.specs.Prelude.{ℕ, ◌≡◌, ◌⊎◌, Bool, true, false, List, length, eqb, Option, Some, None, Result, Ok, Err}
+use Rattle.std.specs.Prelude.{ℕ, ◌≡◌, Bool, true, false, List, length, eqb, Option, Some, None, Result, Ok, Err}
 use Rattle.std.proofs.Math.Option.{none, some}
 use Rattle.model.specs.Lists.{all_of}
 use Rattle.model.specs.Vtk.{Grid, grid_of}
 use Rattle.model.specs.Meaning.Vtk.{RowsAt}
-use Rattle.refusals.specs.declared.Reason.{Reason}
-use Rattle.refusals.specs.declared.Reason.TheVariants.{WrongForm, OtherType}
 use Rattle.vtk_form.specs.Parts.{Keeps}
 use Rattle.vtk_form.specs.declared.Form.{Form}
 use Rattle.vtk_form.specs.declared.Grid.{Grid as Read}
+use Rattle.vtk_form.specs.declared.NoForm.{NoForm}
+use Rattle.vtk_form.specs.declared.NoForm.TheVariants.{WrongForm, OtherType}
 
 -- the grid that a text of the form gives: how many cells, whether all are of type 12, and where their rows stand; and the buffer has these
 -- where they have eight numbers, as far as it goes
@@ -24,10 +24,8 @@ abbrev pub GridOf : List ℕ → List ℕ → Option Read → Type 0
 GridOf text buffer (Some g) = Gives text buffer g.form g.twelve
 GridOf text buffer None = grid_of text ≡ none
 
--- why a text gives no cells: it is not of the form, or it is, and not all cells are of type 12
-abbrev pub Refuses : List ℕ → List ℕ → Reason → Type 0
-Refuses text buffer r = ((r ≡ WrongForm) × (grid_of text ≡ none)) ⊎ ((r ≡ OtherType) × ((f : Form) × Gives text buffer f false))
-
-abbrev pub FormOf : List ℕ → List ℕ → Result Form Reason → Type 0
+-- and of a text that has no such form, why: where a cell is of another type, its form too
+abbrev pub FormOf : List ℕ → List ℕ → Result Form NoForm → Type 0
 FormOf text buffer (Ok f) = Gives text buffer f true
-FormOf text buffer (Err r) = Refuses text buffer r
+FormOf text buffer (Err WrongForm) = grid_of text ≡ none
+FormOf text buffer (Err (OtherType f)) = Gives text buffer f false

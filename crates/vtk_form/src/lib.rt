@@ -12,7 +12,6 @@ ghost use Rattle.vtk_words.specs.Words.{PlaceOf, large};
 ghost use Rattle.vtk_form.specs.Parts.{LineOf, PointsOf, RoomOf, RowOf, RowsOf, CellsOf, CountOf, TypeOf, TypesOf, types_left, is_eight};
 ghost use Rattle.vtk_form.specs.Form.{GridOf, FormOf};
 
-use refusals::Reason;
 use vtk_words::{Decimal, NoDecimal};
 
 // ---- the lines
@@ -342,14 +341,21 @@ fn read_grid(text: &[u8], rows: &mut [u64]) -> Option<Grid>
     })
 }
 
+// Why a text gives no form that is read: it has none; or not all its cells are of type 12, and this is its form.
+#[derive(Clone, Copy)]
+pub enum NoForm {
+    WrongForm,
+    OtherType(Form),
+}
+
 // The form of a text whose cells are all of type 12, or why there is none. The buffer keeps the rows of eight numbers, eight words to a
 // row, as far as it goes.
-pub fn read_form(text: &[u8], rows: &mut [u64]) -> Result<Form, Reason>
+pub fn read_form(text: &[u8], rows: &mut [u64]) -> Result<Form, NoForm>
     ensures { FormOf text.now rows.new result }
 {
-    let grid = read_grid(text, rows).ok_or(Reason::WrongForm)?;
+    let grid = read_grid(text, rows).ok_or(NoForm::WrongForm)?;
     if !grid.twelve {
-        return Err(Reason::OtherType);
+        return Err(NoForm::OtherType(grid.form));
     }
     Ok(grid.form)
 }

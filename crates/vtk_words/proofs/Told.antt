@@ -1,20 +1,32 @@
--- What is known where a word was a number, and where it was not.
+-- What is known where a word was the one asked for, or a number, and where it was not. (`place_unfit`, `number_at_lem` and `number_none` are
+-- lemmas that docs/PORT.md names.)
 use Prim.Native.Nat.{ℕ, ◌≤◌, ◌<◌}
 use mathlib.Core.Path.{◌≡◌, sym, ap, ◌∙◌}
 use mathlib.Core.List.{List}
-use mathlib.Core.Option.{Option, some}
+use mathlib.Core.Option.{Option, none, some}
 use lib.ListN.{length}
 use Rattle.std.specs.Prelude.{Option as Option_of_std, Some, None, Result, Ok, Err}
 use Rattle.std.specs.Result.{result_ok}
 use Rattle.std.proofs.lemmas.Option.{none-some}
 use Rattle.model.specs.Vtk.{Counted}
-use Rattle.vtk_words.specs.Words.{NumberOf, number_at, large}
+use Rattle.vtk_words.specs.Words.{PlaceOf, NumberOf, number_at, large}
 use Rattle.vtk_words.specs.declared.Decimal.{Decimal}
 use Rattle.vtk_words.specs.declared.NoDecimal.{NoDecimal}
 use Rattle.vtk_words.specs.declared.NoDecimal.TheVariants.{Large, Unfit}
 use Rattle.vtk_words.proofs.Counting.{none_some}
 
+module _ (text : List ℕ) (o : Option (List (List ℕ))) where
+  pub place_unfit : (r : Option_of_std ℕ) → r ≡ None → PlaceOf text o r → o ≡ none
+  place_unfit r e k = rw e at k
+
 module _ (text : List ℕ) (o : Option Counted) where
+  pub number_at_lem : {r : Result Decimal NoDecimal} {d : Decimal} → r ≡ Ok d → NumberOf text o r
+      → (d.end ≤ length text) × (o ≡ some (number_at text d.value d.end)) × (d.value < large)
+  number_at_lem e h = rw e at h
+
+  pub number_none : (r : Result Decimal NoDecimal) → r ≡ Err Unfit → NumberOf text o r → o ≡ none
+  number_none r e k = rw e at k
+
   -- a number that was asked for with at most 19 digits
   pub number_told : (r : Result Decimal NoDecimal) {q : Option_of_std Decimal} {d : Decimal} → q ≡ result_ok r → q ≡ Some d → NumberOf text o r
       → (d.end ≤ length text) × (o ≡ some (number_at text d.value d.end)) × (d.value < large)

@@ -1,11 +1,11 @@
-use Prim.Native.Nat.{◌≤◌, ◌<◌}
-use mathlib.Core.Path.{sym, ◌∙◌}
+use Prim.Native.Nat.{◌+◌, ◌≤◌, ◌<◌}
+use mathlib.Core.Path.{◌≡◌, sym, ◌∙◌}
 use mathlib.Core.Logic.{inl, inr}
 use native.Mathlib.Omega.{arith}
-use lib.ListN.{length}
-use Rattle.model.specs.Table.{slots, unused_slots}
+use lib.ListN.{set}
+use Rattle.model.specs.Table.{unused, slots, link, unused_slots}
 use Rattle.reading.proofs.Passed.{table_passed, table_short}
-use Rattle.scans.proofs.Lowest.{listing_none, listing_more, listing_past, listing_first, unused_marks, unused_long, unused_mark}
+use Rattle.scans.proofs.Lowest.{Listing, listing_none, listing_more, listing_past, listing_first, unused_marks, unused_long, unused_mark}
 use Rattle.scans.proofs.list_unused.Goals as goal
 use Rattle.scans.proofs.list_unused.Goals.{In-loop-x, then-link_in+else-r-want, else-link_in}
 
@@ -31,31 +31,51 @@ link_in-requires c =
 pub overflow_cast-words : goal.overflow_cast-words
 overflow_cast-words c = let t = inside (goal.at.overflow_cast-words c).In-loop-x in omega arith
 
-pub loop-x-preserved : goal.loop-x-preserved
-loop-x-preserved c =
-    let t = inside (goal.at.loop-x-preserved c).In-loop-x in
-    let (g, most) = c.loop-x.invariant in
+-- an unused slot is listed
+listed : (c : In-loop-x) → link c.args.table.now 0 c.loop-x.x ≡ unused
+    → Listing (unused_marks c.args.table.now) (c.loop-x.x + 1) (c.loop-x.r + 1) c.args.words.now (set c.loop-x.words c.loop-x.r c.loop-x.x)
+listed c free =
+    let t = inside c in
     let u = c.args.table.now in
     let long = unused_long u in
-    let low : c.loop-x.x < length (unused_marks u) = omega arith in
-    let is = unused_mark u c.requires.table_value.1 c.loop-x.x t.0 in
+    let g = c.loop-x.invariant.0 in
     let few = g.few in
     let words = g.lists.long in
+    let wanted = c.loop-x.invariant.1 in
     let held = c.requires.table_in_bounds in
+    listing_more g (omega arith) ((unused_mark u c.requires.table_value.1 c.loop-x.x t.0).0 free) (omega arith)
+
+pub loop-x-preserved : goal.loop-x-preserved
+loop-x-preserved c =
+    let p = (goal.at.loop-x-preserved c).In-loop-x in
+    let t = inside p in
+    let (g, more) = c.loop-x.invariant in
+    let u = c.args.table.now in
+    let long = unused_long u in
     elim c.if-link_in.branch [
       | then-link_in+else-r-want w ↦
           let wanted = w.if-r-want.false in
-          rw (w.words-is, w.r-is) (listing_more g low (is.0 (sym c.link_in.ensures ∙ w.if-link_in.true)) (omega arith), omega arith)
-      | else-link_in w ↦ rw (w.words-is, w.r-is) (listing_past g low (λ q. w.if-link_in.false (c.link_in.ensures ∙ is.1 q)), most)
+          rw (w.words-is, w.r-is) (listed p (sym c.link_in.ensures ∙ w.if-link_in.true), omega arith)
+      | else-link_in w ↦
+          let is = unused_mark u c.requires.table_value.1 c.loop-x.x t.0 in
+          rw (w.words-is, w.r-is) (listing_past g (omega arith) (λ q. w.if-link_in.false (c.link_in.ensures ∙ is.1 q)), more)
     ]
+
+pub returns-then-want-eq0 : goal.returns-then-want-eq0
+unfolding unused_slots
+returns-then-want-eq0 c = listing_first (listing_none (unused_marks c.args.table.now) c.args.words.now) c.args.want (omega arith) (inr (omega (arith, c.if-want-eq0.true)))
 
 pub returns-after-loop-x : goal.returns-after-loop-x
 unfolding unused_slots
 returns-after-loop-x c =
     let end = c.slots-end.ensures ∙ sym (unused_long c.args.table.now) in
     let stop = c.loop-x-test.false in
-    listing_first c.loop-x.invariant.0 c.args.want c.loop-x.invariant.1 (inl (omega arith))
+    let more = c.loop-x.invariant.1 in
+    listing_first c.loop-x.invariant.0 c.args.want (omega arith) (inl (omega arith))
 
 pub returns-then-r-want : goal.returns-then-r-want
 unfolding unused_slots
-returns-then-r-want c = listing_first c.loop-x.invariant.0 c.args.want c.loop-x.invariant.1 (inr (omega (arith, c.if-r-want.true)))
+returns-then-r-want c =
+    let p = (goal.at.returns-then-r-want c).In-loop-x in
+    let full = c.if-r-want.true in
+    listing_first (listed p (sym c.link_in.ensures ∙ c.if-link_in.true)) c.args.want (omega arith) (inr (omega arith))
