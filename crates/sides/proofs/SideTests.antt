@@ -41,13 +41,13 @@ module _ (n i : ℕ) (dim : Dim n) where
 -- ---- tests
 
 module _ (p x q y : ℕ) where
-  same_taken : p ≡ x → Tests (Same p x q y) (eqb q y)
+  pub same_taken : p ≡ x → Tests (Same p x q y) (eqb q y)
   same_taken e = record {
     holds = λ r. (λ _. eqb-true q y r, λ _. e);
     fails = λ r s. eqb-false q y r (s.0 e);
   }
 
-  same_left : p ≢ x → Tests (Same p x q y) (not (eqb q y))
+  pub same_left : p ≢ x → Tests (Same p x q y) (not (eqb q y))
   same_left e = record {
     holds = λ r. (λ h. absurd (e h), λ h. absurd (eqb-false q y (not-true (eqb q y) r) h));
     fails = λ r s. e (s.1 (eqb-true q y (not-false (eqb q y) r)));

@@ -120,7 +120,7 @@ module _ (rows sites heads nexts mates : List ℕ) (i : ℕ) (G : Going rows sit
             ap F (sym entry) ∙ turned_back rows (e - 1) i t (leads on fine) (omega arith) ∙ ap (held_round rows) place)
             (λ r. before p x low (sym (word_old p low ∙ mid_other on fine p r) ∙ word)))
 
-    own_gone : Gone rows mates (set heads h (i + 1)) (set nexts (i + 1) (get_or heads h 0)) after i number
+    pub own_gone : Gone rows mates (set heads h (i + 1)) (set nexts (i + 1) (get_or heads h 0)) after i number
     own_gone =
         let long = length-set mid (i + 1) (8 * e + t) in
         let inside = room in

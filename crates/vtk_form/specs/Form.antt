@@ -24,7 +24,7 @@ abbrev pub GridOf : List ℕ → List ℕ → Option Read → Type 0
 GridOf text buffer (Some g) = Gives text buffer g.form g.twelve
 GridOf text buffer None = grid_of text ≡ none
 
--- and of a text that has no such form, why: where a cell is of another type, its form too
+-- the form of a text whose cells are all of type 12, or why it has none: where a cell is of another type, with its form
 abbrev pub FormOf : List ℕ → List ℕ → Result Form NoForm → Type 0
 FormOf text buffer (Ok f) = Gives text buffer f true
 FormOf text buffer (Err WrongForm) = grid_of text ≡ none

@@ -341,7 +341,7 @@ fn read_grid(text: &[u8], rows: &mut [u64]) -> Option<Grid>
     })
 }
 
-// Why a text gives no form that is read: it has none; or not all its cells are of type 12, and this is its form.
+// Why `read_form` refuses: the text is not of the form; or it is, but not all its cells are of type 12, and this is its form.
 #[derive(Clone, Copy)]
 pub enum NoForm {
     WrongForm,

@@ -1,5 +1,5 @@
--- What is known where a word was the one asked for, or a number, and where it was not. (`place_unfit`, `number_at_lem` and `number_none` are
--- lemmas that docs/PORT.md names.)
+-- What is known where a word was the one asked for, or a number, and where it was not. (docs/PORT.md names `place_unfit`, `number_none`,
+-- `number_unfit` and `number_at_lem`.)
 use Prim.Native.Nat.{ℕ, ◌≤◌, ◌<◌}
 use mathlib.Core.Path.{◌≡◌, sym, ap, ◌∙◌}
 use mathlib.Core.List.{List}
