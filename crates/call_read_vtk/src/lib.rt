@@ -172,8 +172,8 @@ fn read_formed(
 }
 
 // The read where the checks up to 18 have passed. As it calls itself it has a stack frame of its own, so that the checks before do not pay
-// for its buffers; the table fits, so it never does. (By #[inline(never)] import, which has one size of table, would have to clear its
-// journal, 3 MiB, before a read that overwrites what it uses.)
+// for its buffers; the table fits, so it never does. (With #[inline(never)] import, whose table has one size, would clear its journal of
+// 3 MiB first, for nothing.)
 fn read_cells(table: &mut [u32], journal: &mut [u32], tag: u32, text: &[u8]) -> Answer
     requires { in_order (empty_checks 3 table.old journal.old) ≡ pass }
     ensures { outcome result table.new [] journal.new

@@ -1,12 +1,11 @@
 -- `call_read_vtk::read_cells` meets its contract: 19 and 20 by `read_form`, all else by `read_formed`.
 use Prim.Native.Nat.{ℕ}
-use mathlib.Core.Path.{◌≡◌, refl, sym, ap, ◌∙◌}
-use mathlib.Core.Bool.{Bool, true, false}
+use mathlib.Core.Path.{refl, ◌∙◌}
 use mathlib.Core.List.{List}
-use native.Mathlib.Omega.{arith}
 use borrow.Author.Rules.{rules}
 use Rattle.model.specs.Vtk.{grid_of}
 use Rattle.model.specs.Checks.{Check, map_checks, grid_checks, vtk_checks}
+use Rattle.theorems.proofs.Lists.Scan.{clash}
 use Rattle.theorems.proofs.Calls.Pass.{must_pass}
 use Rattle.answers.proofs.Ladder.{Rung, rise, up, out, all_passed}
 use Rattle.answers.proofs.Settled.{by_reason}
@@ -21,9 +20,8 @@ use Rattle.call_read_vtk.proofs.+read_cells.Goals.{In-Ok, Start, Then-not-table_
 never : (t : ℕ) → (c : Then-not-table_fits t) {A : Type 0} → A
 never t c =
     let taken = c.if-not-table_fits.true in
-    let p = c.requires in
-    let fits = must_pass _ 2 (c.table_fits.ensures ∙ (empty_opened _ _ _ p).1) in
-    absurd (let z : ◌≡◌ {A = ℕ} 0 1 = ap (λ (b : Bool). elim b [ true ↦ 1 | false ↦ 0 ]) (sym taken ∙ fits) in omega arith)
+    let fits = must_pass _ 2 (c.table_fits.ensures ∙ (empty_opened _ _ _ c.requires).1) in
+    absurd (clash fits taken)
 
 pub read_cells-requires : goal.read_cells-requires
 read_cells-requires t c = never t (goal.at.read_cells-requires t c).Then-not-table_fits
